@@ -1,0 +1,5 @@
+pub mod Ids
+pub mod Padded
+pub mod Ranges
+pub mod Codes
+pub mod Answers

@@ -1,0 +1,87 @@
+//! The path of a database.
+ghost use Rattle.std.specs.Prelude.{◌≡◌, ◌<◌, ◌≤◌, length, true, Ok, Some, None, if◌then◌else◌, bytes_eq};
+ghost use Rattle.std.specs.List.{list_all};
+ghost use Rattle.slate_ids.specs.Ids.{is_db_path, is_path_char};
+
+use crate::out_of_memory::OutOfMemory;
+use std::cmp::Ordering;
+use std::fmt;
+use std::marker::Model;
+use std::str;
+
+/// The path of a database: 1 to 64 of the characters a to z, 0 to 9, `_` and `-`. Takes no memory.
+#[derive(Clone, Copy, Debug)]
+pub struct DbPath {
+    block: [u8; 64],
+    used: u8,
+}
+
+impl Model for DbPath {
+    ghost use Rattle.std.specs.Prelude.{List, ℕ};
+
+    ghost Value = { List ℕ };
+
+    ghost use Rattle.slate_ids.specs.Padded.{IsPadded, letters_of, inside_of, inside_of-ok};
+
+    ghost view = { letters_of };
+
+    ghost invariant = { IsPadded };
+
+    ghost inverse = { inside_of };
+
+    ghost inverse_ok = { inside_of-ok };
+}
+
+fn is_char(c: u8) -> bool
+    ensures { result ≡ is_path_char c }
+{
+    (c >= 97 && c <= 122) || (c >= 48 && c <= 57) || c == 95 || c == 45
+}
+
+fn all_chars(letters: &[u8]) -> bool
+    ensures { result ≡ list_all is_path_char letters.now }
+{
+    letters.iter().all(|c| is_char(*c))
+}
+
+// Whether the letters may name a database.
+fn is_path(letters: &[u8]) -> bool
+    ensures { result ≡ is_db_path letters.now }
+{
+    !letters.is_empty() && letters.len() <= 64 && all_chars(letters)
+}
+
+// The path of letters that name one.
+fn path_of(letters: &[u8]) -> DbPath
+    requires { is_db_path letters.now ≡ true }
+    ensures { result ≡ letters.now }
+{
+    let mut block = [0; 64];
+    block[..letters.len()].copy_from_slice(letters);
+    DbPath {
+        block,
+        used: letters.len() as u8,
+    }
+}
+
+impl DbPath {
+    /// The path of this text, where it is one. Takes no memory.
+    pub fn from_text(text: &str) -> Result<Option<DbPath>, OutOfMemory>
+        ensures { result ≡ Ok (if is_db_path text.now then Some text.now else None) }
+    {
+        let letters = text.as_bytes();
+        if is_path(letters) {
+            Ok(Some(path_of(letters)))
+        } else {
+            Ok(None)
+        }
+    }
+
+    /// The letters.
+    pub fn letters(&self) -> &[u8]
+        ensures letters { result.now ≡ self.now }
+        ensures name { is_db_path self.now ≡ true }
+    {
+        &self.block[..self.used as usize]
+    }
+}

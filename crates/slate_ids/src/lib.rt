@@ -1,0 +1,28 @@
+//! Ids, paths, refusals, and the trait of codecs.
+#![tactic(auto)]
+
+mod byte_list;
+mod checkpoint_id;
+mod codec;
+mod db_path;
+mod error;
+mod listed;
+mod number_range;
+mod object_path;
+mod out_of_memory;
+mod path_rest;
+mod text;
+mod ulid;
+
+pub use byte_list::ByteList;
+pub use checkpoint_id::CheckpointId;
+pub use codec::{Epochs, ObjectCodec};
+pub use db_path::DbPath;
+pub use error::{FieldName, FormatName, SlateDBError, StateCause, UpdateRule};
+pub use listed::Listed;
+pub use number_range::NumberRange;
+pub use object_path::ObjectPath;
+pub use out_of_memory::OutOfMemory;
+pub use path_rest::PathRest;
+pub use text::Text;
+pub use ulid::Ulid;
