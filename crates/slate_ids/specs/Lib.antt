@@ -3,3 +3,4 @@ pub mod Padded
 pub mod Ranges
 pub mod Codes
 pub mod Answers
+pub mod PathText

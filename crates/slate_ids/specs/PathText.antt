@@ -1,0 +1,26 @@
+-- interim
+use Rattle.std.specs.Prelude.{ℕ, ◌-◌, ◌*◌, ◌+◌, ◌^◌, List, [], ◌∷◌, ◌++◌, length, replicate, codes, decimal}
+use Rattle.std.specs.declared.cmp.Ordering.{Ordering}
+use Rattle.std.specs.Ordering.{nat_cmp}
+use Rattle.std.specs.Cmp.Lexicographic.{slice_cmp}
+use Rattle.slate_ids.specs.declared.object_path.ObjectPath.{ObjectPath}
+use Rattle.slate_ids.specs.declared.object_path.ObjectPath.TheVariants.{Manifest, Record, ManifestBoundary, RecordBoundary, Table, Wal, Marker, Other}
+
+abbrev pub twenty : ℕ → List ℕ
+twenty n = replicate (20 - length (decimal n)) 48 ++ decimal n
+
+abbrev pub ulid_text : ℕ × ℕ → List ℕ
+ulid_text u = decimal u.0
+
+abbrev pub path_text : ObjectPath → List ℕ
+path_text (Manifest db n) = db ++ codes "/manifest/" ++ twenty n ++ codes ".manifest"
+path_text (Record db n) = db ++ codes "/compactions/" ++ twenty n ++ codes ".compactions"
+path_text (ManifestBoundary db) = db ++ codes "/gc/manifest.boundary"
+path_text (RecordBoundary db) = db ++ codes "/gc/compactions.boundary"
+path_text (Table db id) = db ++ codes "/compacted/" ++ ulid_text id ++ codes ".sst"
+path_text (Wal db n) = db ++ codes "/wal/" ++ twenty n ++ codes ".sst"
+path_text (Marker db) = db ++ codes "/.deleting"
+path_text (Other db rest) = db ++ codes "/" ++ rest
+
+abbrev pub path_cmp : ObjectPath → ObjectPath → Ordering
+path_cmp p q = slice_cmp nat_cmp (path_text p) (path_text q)

@@ -1,0 +1,4 @@
+//! Moments.
+
+/// Milliseconds since the Unix epoch.
+pub type Millis = i64;

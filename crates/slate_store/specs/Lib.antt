@@ -1,0 +1,5 @@
+pub mod Folders
+pub mod Store
+pub mod Calls
+pub mod Machines
+pub mod Runs

@@ -1,0 +1,53 @@
+//! Folders that can be listed.
+ghost use Rattle.std.specs.Prelude.{◌≡◌, bytes_eq};
+ghost use Rattle.slate_store.specs.Folders.{is_in};
+
+use slate_ids::{DbPath, ObjectPath};
+
+/// The objects of one kind of a database, or all of them.
+#[derive(Clone, Copy, Debug)]
+pub enum ListDir {
+    Manifests(DbPath),
+    Records(DbPath),
+    Tables(DbPath),
+    Wals(DbPath),
+    All(DbPath),
+}
+
+fn is_same(a: &DbPath, b: &DbPath) -> bool
+    ensures { result ≡ bytes_eq a.now b.now }
+{
+    a.letters() == b.letters()
+}
+
+// The database of a path.
+fn db_of(path: &ObjectPath) -> &DbPath
+    ensures { result.now ≡ Rattle.slate_store.specs.Folders.db_of path.now }
+{
+    match path {
+        ObjectPath::Manifest(db, _) => db,
+        ObjectPath::Record(db, _) => db,
+        ObjectPath::ManifestBoundary(db) => db,
+        ObjectPath::RecordBoundary(db) => db,
+        ObjectPath::Table(db, _) => db,
+        ObjectPath::Wal(db, _) => db,
+        ObjectPath::Marker(db) => db,
+        ObjectPath::Other(db, _) => db,
+    }
+}
+
+impl ListDir {
+    /// Whether the folder lists this path.
+    pub fn lists(&self, path: &ObjectPath) -> bool
+        ensures { result ≡ is_in self.now path.now }
+    {
+        match (self, path) {
+            (ListDir::Manifests(db), ObjectPath::Manifest(of, _)) => is_same(db, of),
+            (ListDir::Records(db), ObjectPath::Record(of, _)) => is_same(db, of),
+            (ListDir::Tables(db), ObjectPath::Table(of, _)) => is_same(db, of),
+            (ListDir::Wals(db), ObjectPath::Wal(of, _)) => is_same(db, of),
+            (ListDir::All(db), any) => is_same(db, db_of(any)),
+            _ => false,
+        }
+    }
+}
