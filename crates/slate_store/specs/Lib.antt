@@ -4,3 +4,4 @@ pub mod Counts
 pub mod Calls
 pub mod Machines
 pub mod Runs
+pub mod InMemory

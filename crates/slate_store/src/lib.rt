@@ -3,6 +3,8 @@
 
 mod list_dir;
 mod mark;
+mod marks;
+mod memory_store;
 mod object;
 mod performing;
 mod reading;
@@ -17,6 +19,7 @@ mod writing;
 
 pub use list_dir::ListDir;
 pub use mark::Mark;
+pub use memory_store::MemoryStore;
 pub use object::{ObjectMetadata, StoredObject, copy_listing};
 pub use performing::perform;
 pub use reading::{ReadError, read_all};
