@@ -1,6 +1,7 @@
 -- What a store tells of itself, and what one call does to that.
-use Rattle.std.specs.Prelude.{◌≡◌, ◌+◌, ◌-◌, ◌^◌, ◌≤◌, ℕ, ℤ, pos, min, Option, Some, None, Result, Ok, Err, List, [], ◌∷◌, ◌++◌, drop}
+use Rattle.std.specs.Prelude.{◌≡◌, ◌≤◌, ℕ, ℤ, pos, Option, Some, None, Result, Ok, Err, List, [], ◌∷◌, ◌++◌, drop}
 use Rattle.std.proofs.Common.{subst}
+pub use Rattle.slate_store.specs.Counts.{Rose}
 use Rattle.slate_store.specs.Store.{Store, effect}
 use Rattle.slate_store.specs.declared.mark.Mark.{Mark}
 use Rattle.slate_store.specs.declared.mark.Mark.TheVariants.{Good}
@@ -22,10 +23,6 @@ pub record Told : Type 0 where
   pub contents : Option Store
   pub marks : Option (List Mark)
   pub calls : Option (List Made)
-
--- a count in 64 bits rose, or stands at its end
-abbrev pub Rose : ℕ → ℕ → Type 0
-Rose before now = min (before + 1) (2 ^ 64 - 1) ≤ now
 
 abbrev pub IfFault : StoreAnswer → Type 0 → Type 0
 IfFault Fault P = P
