@@ -1,5 +1,5 @@
 -- Names of databases in their block.
-use Rattle.std.proofs.Common.{◌≡◌, ℕ, ◌<◌, ◌≤◌, List, nat_lt, nat_le, ◌&&◌, arith, ◌++◌, length, drop, replicate, true, Bool, sym, ◌∙◌, ap, subst}
+use Rattle.std.proofs.Common.{◌≡◌, ℕ, ◌≤◌, List, nat_lt, nat_le, ◌&&◌, arith, ◌++◌, length, drop, replicate, true, Bool, sym, ◌∙◌, ap, subst}
 use Rattle.std.proofs.lemmas.List.{drop-replicate}
 use Rattle.std.proofs.Math.Seq.{take-append_seam}
 use Rattle.std.proofs.lemmas.Bool.Decides.{nat_tests}

@@ -3,4 +3,7 @@ pub mod Padded
 pub mod Ranges
 pub mod Codes
 pub mod Answers
+pub mod Numerals
+pub mod UlidText
 pub mod PathText
+pub mod Pieces

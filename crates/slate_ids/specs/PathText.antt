@@ -1,17 +1,17 @@
--- interim
-use Rattle.std.specs.Prelude.{ℕ, ◌-◌, ◌*◌, ◌+◌, ◌^◌, List, [], ◌∷◌, ◌++◌, length, replicate, codes, decimal}
+-- The texts of paths, and their order.
+use Rattle.std.specs.Prelude.{ℕ, ◌-◌, List, ◌++◌, length, replicate, codes, decimal}
 use Rattle.std.specs.declared.cmp.Ordering.{Ordering}
-use Rattle.std.specs.Ordering.{nat_cmp}
+use Rattle.std.specs.Ordering.{nat_cmp, on}
 use Rattle.std.specs.Cmp.Lexicographic.{slice_cmp}
+use Rattle.slate_ids.specs.UlidText.{ulid_text}
 use Rattle.slate_ids.specs.declared.object_path.ObjectPath.{ObjectPath}
 use Rattle.slate_ids.specs.declared.object_path.ObjectPath.TheVariants.{Manifest, Record, ManifestBoundary, RecordBoundary, Table, Wal, Marker, Other}
 
-abbrev pub twenty : ℕ → List ℕ
+-- twenty digits, with leading zeros
+unfoldable pub twenty : ℕ → List ℕ
 twenty n = replicate (20 - length (decimal n)) 48 ++ decimal n
 
-abbrev pub ulid_text : ℕ × ℕ → List ℕ
-ulid_text u = decimal u.0
-
+-- the text of a path
 abbrev pub path_text : ObjectPath → List ℕ
 path_text (Manifest db n) = db ++ codes "/manifest/" ++ twenty n ++ codes ".manifest"
 path_text (Record db n) = db ++ codes "/compactions/" ++ twenty n ++ codes ".compactions"
@@ -22,5 +22,6 @@ path_text (Wal db n) = db ++ codes "/wal/" ++ twenty n ++ codes ".sst"
 path_text (Marker db) = db ++ codes "/.deleting"
 path_text (Other db rest) = db ++ codes "/" ++ rest
 
+-- paths are ordered as their texts, byte by byte
 abbrev pub path_cmp : ObjectPath → ObjectPath → Ordering
-path_cmp p q = slice_cmp nat_cmp (path_text p) (path_text q)
+path_cmp = on path_text (slice_cmp nat_cmp)

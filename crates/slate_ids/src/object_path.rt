@@ -1,11 +1,19 @@
 //! Paths of objects.
-ghost use Rattle.std.specs.Prelude.{◌≡◌, IfOk};
+ghost use Rattle.std.specs.Prelude.{◌≡◌, IfOk, refl};
+ghost use Rattle.std.specs.Ordering.{eq_by_cmp, as_partial_cmp};
+ghost use Rattle.std.specs.Cmp.{partial_equiv_from_equiv, partial_order_from_total};
+ghost use Rattle.std.specs.Cmp.Lexicographic.{on_texts};
+ghost use Rattle.std.proofs.lemmas.Cmp.{eq_by_cmp_equiv};
+ghost use Rattle.slate_ids.specs.PathText.{path_cmp, path_text};
 
 use crate::db_path::DbPath;
 use crate::out_of_memory::OutOfMemory;
+use crate::path_pieces::{Name, Pieces};
 use crate::path_rest::PathRest;
 use crate::ulid::Ulid;
 use std::alloc::Global;
+use std::cmp::Ordering;
+use std::fmt;
 
 /// Where an object lies: its kind, its database, and what tells it from others of its kind.
 #[derive(Debug, Drop)]
@@ -43,5 +51,94 @@ impl ObjectPath {
             ObjectPath::Marker(db) => ObjectPath::Marker(*db),
             ObjectPath::Other(db, rest) => ObjectPath::Other(*db, rest.copy(alloc)?),
         })
+    }
+}
+
+impl PartialEq for ObjectPath {
+    ghost eq = { eq_by_cmp path_cmp };
+
+    ghost laws = { partial_equiv_from_equiv (eq_by_cmp_equiv (on_texts path_text)) };
+
+    fn eq(&self, other: &ObjectPath) -> bool {
+        self.cmp(other).is_eq()
+    }
+}
+
+impl Eq for ObjectPath {
+    ghost laws = { eq_by_cmp_equiv (on_texts path_text) };
+}
+
+impl PartialOrd for ObjectPath {
+    ghost partial_cmp = { as_partial_cmp path_cmp };
+
+    ghost laws = { partial_order_from_total (on_texts path_text) };
+
+    fn partial_cmp(&self, other: &ObjectPath) -> Option<Ordering> {
+        Some(self.cmp(other))
+    }
+}
+
+/// Paths order as their texts, byte by byte.
+impl Ord for ObjectPath {
+    ghost cmp = { path_cmp };
+
+    ghost total = { on_texts path_text };
+
+    ghost matches_partial_cmp = { λ _ _. refl };
+
+    ghost matches_eq = { λ _ _. refl };
+
+    fn cmp(&self, other: &ObjectPath) -> Ordering {
+        let own = Name::of(self);
+        let others = Name::of(other);
+        Pieces::of(self, &own).compare(&Pieces::of(other, &others))
+    }
+}
+
+impl fmt::Display for ObjectPath {
+    ghost use Rattle.std.specs.Prelude.{Some};
+
+    ghost output = { λ p. Some (path_text p) };
+
+    fn fmt<W: fmt::Write>(&self, f: &mut fmt::Formatter<W>) -> fmt::Result {
+        match self {
+            ObjectPath::Manifest(db, n) => {
+                let n = Twenty(*n);
+                write!(f, "{db}/manifest/{n}.manifest")
+            }
+            ObjectPath::Record(db, n) => {
+                let n = Twenty(*n);
+                write!(f, "{db}/compactions/{n}.compactions")
+            }
+            ObjectPath::ManifestBoundary(db) => write!(f, "{db}/gc/manifest.boundary"),
+            ObjectPath::RecordBoundary(db) => write!(f, "{db}/gc/compactions.boundary"),
+            ObjectPath::Table(db, id) => write!(f, "{db}/compacted/{id}.sst"),
+            ObjectPath::Wal(db, n) => {
+                let n = Twenty(*n);
+                write!(f, "{db}/wal/{n}.sst")
+            }
+            ObjectPath::Marker(db) => write!(f, "{db}/.deleting"),
+            ObjectPath::Other(db, rest) => {
+                let rest = rest.as_str();
+                write!(f, "{db}/{rest}")
+            }
+        }
+    }
+}
+
+/// A number as twenty digits.
+#[derive(Drop)]
+struct Twenty(u64);
+
+impl fmt::Display for Twenty {
+    ghost use Rattle.std.specs.Prelude.{Some};
+    ghost use Rattle.slate_ids.specs.PathText.{twenty};
+
+    ghost output = { λ t. Some (twenty t.0) };
+
+    #[tactic(auto, using(crate::proofs::Padding::twenty_digits))]
+    fn fmt<W: fmt::Write>(&self, f: &mut fmt::Formatter<W>) -> fmt::Result {
+        let n = self.0;
+        write!(f, "{n:020}")
     }
 }

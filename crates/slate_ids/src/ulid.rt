@@ -1,7 +1,11 @@
 //! Ids that sort by time.
 ghost use Rattle.std.specs.Prelude.{◌≡◌, ◌<◌, ◌^◌};
+ghost use Rattle.slate_ids.specs.UlidText.{ulid_text};
 
+use crate::numeral::write_numeral;
+use std::fmt;
 use std::marker::Model;
+use std::str;
 
 /// An id: milliseconds since the Unix epoch, below 2^48, and a tail below 2^80. Ids order by milliseconds, then by tail.
 #[derive(Clone, Copy, Debug, PartialEq, Eq, PartialOrd, Ord)]
@@ -46,5 +50,29 @@ impl Ulid {
         ensures fits { result < 2 ^ 80 }
     {
         self.tail
+    }
+}
+
+/// The letters of an id.
+pub(crate) fn id_digits(id: &Ulid) -> [u8; 26]
+    ensures { result ≡ ulid_text id.now }
+{
+    let letters = b"0123456789ABCDEFGHJKMNPQRSTVWXYZ";
+    let mut block = [0; 26];
+    write_numeral(&mut block[10..], letters, id.tail());
+    write_numeral(&mut block[..10], letters, id.timestamp_ms() as u128);
+    block
+}
+
+impl fmt::Display for Ulid {
+    ghost use Rattle.std.specs.Prelude.{Some};
+    ghost output = { λ id. Some (ulid_text id) };
+
+    fn fmt<W: fmt::Write>(&self, f: &mut fmt::Formatter<W>) -> fmt::Result {
+        let block = id_digits(self);
+        match str::from_utf8(&block) {
+            Ok(text) => f.write_str(text),
+            Err(_) => unreachable!(),
+        }
     }
 }
