@@ -1,0 +1,10 @@
+pub mod LogPaths
+pub mod Boundary
+pub mod Due
+pub mod Steps
+pub mod Faults
+pub mod Read
+pub mod ReadFaults
+pub mod Reading
+pub mod Commit
+pub mod Raise

@@ -1,0 +1,33 @@
+//! Raising the epoch of a value read.
+ghost use Rattle.std.specs.Prelude.{◌≡◌, IfOk, true};
+ghost use Rattle.slate_ids.specs.Answers.{Gives};
+ghost use Rattle.slate_txn.specs.Commit.{is_putting};
+ghost use Rattle.slate_txn.specs.Raise.{raised};
+
+use crate::commit::{CommitPhase, prepare};
+use crate::right::Right;
+use crate::rules::Rules;
+use slate_ids::{Epochs, ObjectCodec, SlateDBError};
+use std::alloc::Global;
+
+/// The put of the value of this number with its epoch plus one. Refused are, in this order: the last epoch
+/// (`Exhausted`), the last number (`Exhausted`), a value that the rules refuse, and a value that has no bytes.
+pub fn prepare_raise<T: Drop, C: ObjectCodec<T>, R: Rules<T>, E: Epochs<T>>(
+    alloc: Global,
+    codec: &C,
+    rules: &R,
+    epochs: &E,
+    id: u64,
+    value: &T,
+) -> Result<CommitPhase<T>, SlateDBError>
+    ensures commit { Gives result (raised (R.refusal rules.now) (C.encoded codec.now) (E.epoch epochs.now) (E.with_epoch epochs.now) id value.now) }
+    ensures putting { IfOk result (λ commit. is_putting commit ≡ true) }
+{
+    let epoch = epochs.get(value);
+    if epoch == u64::MAX {
+        return Err(SlateDBError::Exhausted(epoch));
+    }
+    let mut new = codec.copy(alloc, value)?;
+    epochs.set(&mut new, epoch + 1);
+    prepare(alloc, codec, rules, id, value, new, &Right::Plain)
+}
