@@ -6,6 +6,7 @@ mod checkpoint_id;
 mod codec;
 mod db_path;
 mod error;
+mod letters;
 mod listed;
 mod millis;
 mod number_range;
