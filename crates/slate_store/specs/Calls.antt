@@ -3,6 +3,7 @@ use Rattle.std.specs.Prelude.{◌≡◌, ◌≤◌, ℕ, ℤ, pos, Option, Some,
 use Rattle.std.proofs.Common.{subst}
 pub use Rattle.slate_store.specs.Counts.{Rose}
 use Rattle.slate_store.specs.Store.{Store, effect}
+use Rattle.slate_store.specs.declared.made.Made.{Made}
 use Rattle.slate_store.specs.declared.mark.Mark.{Mark}
 use Rattle.slate_store.specs.declared.mark.Mark.TheVariants.{Good}
 use Rattle.slate_store.specs.declared.store.StoreError.{StoreError}
@@ -11,11 +12,6 @@ use Rattle.slate_store.specs.declared.store_call.StoreCall.{StoreCall}
 use Rattle.slate_store.specs.declared.store_call.StoreCall.TheVariants.{List as ListCall, Get, PutNew, Replace, Put, Delete}
 use Rattle.slate_store.specs.declared.store_answer.StoreAnswer.{StoreAnswer}
 use Rattle.slate_store.specs.declared.store_answer.StoreAnswer.TheVariants.{Found, Got, Created, Replaced, Written, Deleted, Fault}
-
--- a call that was made, with its answer
-pub record Made : Type 0 where
-  pub call : StoreCall
-  pub answer : StoreAnswer
 
 -- the count of faults, and, each where told, the contents, the marks of the calls to come, and the calls made so far
 pub record Told : Type 0 where

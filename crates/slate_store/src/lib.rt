@@ -2,6 +2,7 @@
 #![tactic(auto)]
 
 mod list_dir;
+mod made;
 mod mark;
 mod marks;
 mod memory_store;
@@ -18,6 +19,7 @@ mod store_call;
 mod writing;
 
 pub use list_dir::ListDir;
+pub use made::Made;
 pub use mark::Mark;
 pub use memory_store::MemoryStore;
 pub use object::{ObjectMetadata, StoredObject, copy_listing};

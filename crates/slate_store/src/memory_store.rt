@@ -1,12 +1,12 @@
 //! A store in memory.
-ghost use Rattle.std.specs.Prelude.{◌≡◌, ◌≢◌, ◌≤◌, ◌+◌, [], ◌∷◌, drop, map, filter, pos, option_copied, Ok, Err, IfOk, OnOk, OnErr};
+ghost use Rattle.std.specs.Prelude.{◌≡◌, ◌≢◌, ◌≤◌, ◌+◌, [], ◌∷◌, drop, map, filter, length, pos, option_copied, Ok, Err, IfOk, OnOk, OnErr};
 ghost use Rattle.std.specs.Map.{remove_entry, lookup};
 ghost use Rattle.std.specs.BTreeMap.{is_at, insert_entry};
 ghost use Rattle.slate_ids.specs.PathText.{path_cmp};
 ghost use Rattle.slate_store.specs.Calls.{Calls, next_mark};
 ghost use Rattle.slate_store.specs.InMemory.{told_of, paths_of, answer_under, answered, faulted, left_under, write_mark, tag_under, Writes};
 ghost use Rattle.slate_store.specs.Folders.{is_in};
-ghost use Rattle.slate_store.specs.Store.{object_at, has_tag as HasTag, metadata, stored};
+ghost use Rattle.slate_store.specs.Store.{object_at, has_tag as HasTag, listed, metadata, stored};
 ghost use Rattle.slate_store.specs.declared.mark.Mark.TheVariants.{Good};
 ghost use Rattle.slate_store.specs.declared.store.StoreError.TheVariants.{Fault, OutOfMemory as NoMemory};
 ghost use Rattle.slate_store.specs.declared.store_call.StoreCall.TheVariants as calls;
@@ -180,6 +180,31 @@ impl MemoryStore {
         ensures { option_copied result ≡ object_at path.now self.now.store }
     {
         object_of(&self.objects, path)
+    }
+
+    /// What a list of a folder would find now. It is no store call: it takes no mark.
+    pub fn listed(
+        &self,
+        alloc: Global,
+        dir: &ListDir,
+    ) -> Result<Vec<ObjectMetadata>, OutOfMemory>
+        ensures { IfOk result (λ found. found.items ≡ listed dir.now self.now.store) }
+    {
+        listing(alloc, &self.objects, dir)
+    }
+
+    /// The last tag that was given, 0 before the first. Each write that has its effect gets the next one.
+    pub fn last_tag(&self) -> u64
+        ensures { result ≡ self.now.store.last_tag }
+    {
+        self.last_tag
+    }
+
+    /// How many objects there are.
+    pub fn len(&self) -> usize
+        ensures { result ≡ length self.now.store.objects }
+    {
+        self.objects.len()
     }
 
     // Takes the next call's mark, and gives the answer under it.
