@@ -73,11 +73,17 @@ impl DbPath {
     pub fn from_text(text: &str) -> Result<Option<DbPath>, OutOfMemory>
         ensures { result ≡ Ok (if is_db_path text.now then Some text.now else None) }
     {
-        let letters = text.as_bytes();
+        Ok(DbPath::from_letters(text.as_bytes()))
+    }
+
+    /// The path of these letters, where they are one.
+    pub(crate) fn from_letters(letters: &[u8]) -> Option<DbPath>
+        ensures { result ≡ (if is_db_path letters.now then Some letters.now else None) }
+    {
         if is_path(letters) {
-            Ok(Some(path_of(letters)))
+            Some(path_of(letters))
         } else {
-            Ok(None)
+            None
         }
     }
 

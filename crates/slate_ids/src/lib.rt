@@ -13,8 +13,10 @@ mod number_range;
 mod numeral;
 mod object_path;
 mod out_of_memory;
+mod path_kind;
 mod path_pieces;
 mod path_rest;
+mod path_text;
 mod text;
 mod ulid;
 

@@ -2,7 +2,8 @@
 ghost use Rattle.std.specs.Prelude.{◌≡◌};
 ghost use Rattle.std.specs.Ordering.{nat_cmp};
 ghost use Rattle.std.specs.Cmp.Lexicographic.{slice_cmp};
-ghost use Rattle.slate_ids.specs.PathText.{path_text, twenty};
+ghost use Rattle.slate_ids.specs.PathText.{path_text};
+ghost use Rattle.slate_ids.specs.Twenty.{twenty};
 ghost use Rattle.slate_ids.specs.Pieces.{joined, name_letters, name_of};
 
 use crate::db_path::DbPath;
