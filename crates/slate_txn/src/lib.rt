@@ -5,10 +5,13 @@ mod boundary;
 mod commit;
 mod log_kind;
 mod raise;
+mod ran_out;
 mod read;
+mod read_latest;
 mod right;
 mod rules;
 mod sequenced;
+mod try_read;
 
 pub use commit::{CommitPhase, prepare};
 pub use log_kind::LogKind;
@@ -17,3 +20,4 @@ pub use read::ReadPhase;
 pub use right::Right;
 pub use rules::Rules;
 pub use sequenced::Sequenced;
+pub use try_read::TryReadPhase;
