@@ -8,5 +8,6 @@ pub mod ReadFaults
 pub mod Reading
 pub mod Once
 pub mod TryRead
+pub mod Versions
 pub mod Commit
 pub mod Raise

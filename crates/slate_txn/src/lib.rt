@@ -12,6 +12,7 @@ mod right;
 mod rules;
 mod sequenced;
 mod try_read;
+mod versions;
 
 pub use commit::{CommitPhase, prepare};
 pub use log_kind::LogKind;
@@ -21,3 +22,4 @@ pub use right::Right;
 pub use rules::Rules;
 pub use sequenced::Sequenced;
 pub use try_read::TryReadPhase;
+pub use versions::ListPhase;

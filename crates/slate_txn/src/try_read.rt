@@ -26,11 +26,7 @@ pub enum TryReadPhase {
 
 impl<T: Drop, C: ObjectCodec<T>> Sequenced<T, C> {
     // The value that was got.
-    fn try_reply(
-        &self,
-        alloc: Global,
-        answer: &StoreAnswer,
-    ) -> Result<Option<T>, SlateDBError>
+    fn try_reply(&self, alloc: Global, answer: &StoreAnswer) -> Result<Option<T>, SlateDBError>
         ensures { Gives result (try_reply (C.decoded self.now.codec) answer.now) }
     {
         match answer {
@@ -42,7 +38,22 @@ impl<T: Drop, C: ObjectCodec<T>> Sequenced<T, C> {
         }
     }
 
-    /// The version of this number, or none where it isn't there. Looks at no boundary.
+    fn try_once<S: ObjectStore>(
+        &self,
+        alloc: Global,
+        store: &mut S,
+        number: u64,
+        moment: Millis,
+    ) -> Result<Option<T>, SlateDBError>
+        ensures read { Once (S.told store.old) (S.told store.new) (calls.Get (version_path self.now.log self.now.db number)) moment (try_reply (C.decoded self.now.codec)) result }
+        ensures fault { NoFault (C.decoded self.now.codec) → FaultOf (S.told store.old) (S.told store.new) result }
+    {
+        let call = StoreCall::Get(self.log.version_path(self.db, number));
+        let answer = perform(alloc, store, &call, moment)?;
+        self.try_reply(alloc, &answer)
+    }
+
+    /// The version of this number, or none where it isn't there. Reads no boundary.
     pub fn try_read<S: ObjectStore>(
         &self,
         alloc: Global,
@@ -52,9 +63,7 @@ impl<T: Drop, C: ObjectCodec<T>> Sequenced<T, C> {
         ensures read { Once (S.told store.old) (S.told store.new) (calls.Get (version_path self.now.log self.now.db number)) (pos 0) (try_reply (C.decoded self.now.codec)) result }
         ensures fault { NoFault (C.decoded self.now.codec) → FaultOf (S.told store.old) (S.told store.new) result }
     {
-        let call = StoreCall::Get(self.log.version_path(self.db, number));
-        let answer = perform(alloc, store, &call, 0)?;
-        self.try_reply(alloc, &answer)
+        self.try_once(alloc, store, number, 0)
     }
 
     /// The machine that reads the version of this number.
@@ -90,10 +99,9 @@ impl TryReadPhase {
         ensures due { StillDue result (try_due self.new) }
         ensures fault { NoFault (C.decoded sequenced.now.codec) → FaultRose (S.told store.old) (S.told store.new) result }
     {
-        let _ = moment;
         match *self {
             TryReadPhase::Getting(n) => {
-                let reply = sequenced.try_read(alloc, store, n);
+                let reply = sequenced.try_once(alloc, store, n, moment);
                 if !ran_out(&reply) {
                     *self = TryReadPhase::Over;
                 }
