@@ -11,3 +11,4 @@ pub mod TryRead
 pub mod Versions
 pub mod Commit
 pub mod Raise
+pub mod Holder

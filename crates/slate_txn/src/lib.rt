@@ -11,6 +11,7 @@ mod read_latest;
 mod right;
 mod rules;
 mod sequenced;
+mod stored;
 mod try_read;
 mod versions;
 
@@ -21,5 +22,6 @@ pub use read::ReadPhase;
 pub use right::Right;
 pub use rules::Rules;
 pub use sequenced::Sequenced;
+pub use stored::{DirtyObject, Stored};
 pub use try_read::TryReadPhase;
 pub use versions::ListPhase;
