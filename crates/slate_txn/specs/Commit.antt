@@ -1,5 +1,5 @@
 -- Commit: put the next number, get the boundary.
-use Rattle.std.specs.Prelude.{ℕ, ◌+◌, ◌-◌, ◌^◌, ◌==◌, Bool, true, false, List, Option, Some, None, Result, Ok, Err, nat_le, if◌then◌else◌}
+use Rattle.std.specs.Prelude.{◌≡◌, ℕ, ◌+◌, ◌-◌, ◌^◌, ◌==◌, Bool, true, false, List, Option, Some, None, Result, Ok, Err, nat_le, if◌then◌else◌}
 use Rattle.slate_ids.specs.declared.error.SlateDBError.{SlateDBError}
 use Rattle.slate_ids.specs.declared.error.SlateDBError.TheVariants.{TransactionalObjectVersionExists, StoreFault, Corrupt, Exhausted}
 use Rattle.slate_ids.specs.declared.error.FormatName.TheVariants.{Boundary as BoundaryFormat}
@@ -7,6 +7,8 @@ use Rattle.slate_store.specs.declared.store_call.StoreCall.{StoreCall}
 use Rattle.slate_store.specs.declared.store_call.StoreCall.TheVariants.{PutNew, Get}
 use Rattle.slate_store.specs.declared.store_answer.StoreAnswer.{StoreAnswer}
 use Rattle.slate_store.specs.declared.store_answer.StoreAnswer.TheVariants.{Got, Created}
+use Rattle.slate_store.specs.declared.step.Step.{Step}
+use Rattle.slate_store.specs.declared.step.Step.TheVariants.{Again, Done}
 use Rattle.slate_store.specs.Machines.{Goes, Stay, End}
 use Rattle.slate_txn.specs.Boundary.{boundary_got}
 use Rattle.slate_txn.specs.LogPaths.{version_path, boundary_path}
@@ -70,3 +72,15 @@ abbrev pub commit_rank : {T : Type 0} → CommitPhase T → ℕ
 commit_rank (Putting n bytes value) = 2
 commit_rank (Bounding n value) = 1
 commit_rank Over = 0
+
+-- what is put
+abbrev pub commit_version : {T : Type 0} → CommitPhase T → Option (ℕ × T)
+commit_version (Putting n bytes value) = Some (n, value)
+commit_version (Bounding n value) = Some (n, value)
+commit_version Over = None
+
+-- a commit keeps to what is put, and answers it
+abbrev pub KeepsVersion : {T : Type 0} → CommitPhase T → CommitPhase T → Step (ℕ × T) → Type 0
+KeepsVersion old new Again = commit_version new ≡ commit_version old
+KeepsVersion old new (Done (Ok version)) = commit_version old ≡ Some version
+KeepsVersion old new (Done (Err e)) = Unit {0}

@@ -1,5 +1,5 @@
 -- When a call is due, and where a fault comes from.
-use Rattle.std.specs.Prelude.{◌≡◌, ◌≢◌, Bool, true, Result, Err}
+use Rattle.std.specs.Prelude.{◌≡◌, ◌≢◌, Bool, true, false, Result, Err}
 use Rattle.slate_ids.specs.Answers.{ran_out}
 use Rattle.slate_ids.specs.declared.error.SlateDBError.{SlateDBError}
 use Rattle.slate_ids.specs.declared.error.SlateDBError.TheVariants.{StoreFault}
@@ -23,3 +23,13 @@ FaultRose old new step = step ≡ Done (Err StoreFault) → Rose old.faults new.
 -- bytes are refused for what they are, never as a fault of the store
 abbrev pub NoFault : {X Y : Type 0} → (X → Result Y SlateDBError) → Type 0
 NoFault f = (x : _) → f x ≢ Err StoreFault
+
+-- where memory runs out
+abbrev pub WhereOut : {R : Type 0} → Step R → Type 0 → Type 0
+WhereOut Again fact = Unit {0}
+WhereOut (Done r) fact = ran_out r ≡ true → fact
+
+-- memory never runs out
+abbrev pub NeverOut : {R : Type 0} → Step R → Type 0
+NeverOut Again = Unit {0}
+NeverOut (Done r) = ran_out r ≡ false

@@ -73,9 +73,9 @@ run_rose {goes = goes} only moment old new (m ∷ ms) p q due run =
 pub ran_rose : {P R : Type 0} {due is_start : P → Bool} {asks : P → StoreCall} {goes : P → StoreAnswer → Goes P R} {moment : ℤ} {tries : ℕ} {old new : Told} {start to : P} {result : Result R SlateDBError}
     → OnlyFaults due asks goes → due start ≡ true → Ran is_start asks goes moment tries old new start to result → FaultOf old new result
 ran_rose {asks = asks} {goes = goes} {moment = moment} {old = old} {new = new} {start = start} {to = to} {result = result} only due ran = λ fault. elim ran.ends [
-    inl e ↦ run_rose only moment old new ran.made start to due (subst (λ (out : Goes _ _). Run asks goes moment old new ran.made (Stay start) out) (e.0 ∙ ap (λ (r : Result _ SlateDBError). End to r) fault) ran.run)
+  | inl e ↦ run_rose only moment old new ran.made start to due (subst (λ (out : Goes _ _). Run asks goes moment old new ran.made (Stay start) out) (e.0 ∙ ap (λ (r : Result _ SlateDBError). End to r) fault) ran.run)
   | inr e ↦ absurd (let other : Err Contended ≡ result = sym e.1 in let both : Err Contended ≡ Err StoreFault = other ∙ fault in cc)
-  ]
+]
 
 -- the same of a run for which memory may run out
 pub call_rose : {P R M : Type 0} {due is_start : P → Bool} {asks : P → StoreCall} {goes : P → StoreAnswer → Goes P R} {moment : ℤ} {tries : ℕ} {old new : Told} {start to : P} (result : Result R SlateDBError)

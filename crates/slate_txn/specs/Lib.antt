@@ -6,5 +6,9 @@ pub mod Faults
 pub mod Read
 pub mod ReadFaults
 pub mod Reading
+pub mod Once
+pub mod TryRead
+pub mod Versions
 pub mod Commit
 pub mod Raise
+pub mod Holder

@@ -4,7 +4,8 @@ use Rattle.std.proofs.Common.{inr, subst, ◌∙◌}
 use Rattle.slate_ids.specs.Answers.{OrMemory-map}
 use Rattle.slate_store.specs.Store.{Store}
 use Rattle.slate_store.specs.Calls.{Told, Makes, contents_after, moment_of}
-use Rattle.slate_store.specs.Machines.{Goes, Steps, GoesOn}
+use Rattle.slate_store.specs.Machines.{Goes, Held, Steps, GoesOn}
+use Rattle.slate_txn.specs.Due.{WhereOut}
 use Rattle.slate_store.specs.declared.mark.Mark.{Mark}
 use Rattle.slate_store.specs.declared.mark.Mark.TheVariants.{Good, Fail, Lost}
 use Rattle.slate_store.specs.declared.step.Step.{Step}
@@ -47,3 +48,11 @@ goes_steps {old = old} {new = new} {answer = answer} wanted moment goes from to 
 goes_steps {old = old} {new = new} {answer = answer} wanted moment goes from to same reading makes (Done r) h =
     let here : Makes old new wanted (moment_of wanted moment) answer = subst (λ (c : StoreCall). Makes old new c (moment_of c moment) answer) same makes in
     OrMemory-map r (λ kept. record { kept = kept; made = record { contents = reads_keep reading here; calls = inr (answer, here) } }) (λ gives. record { answer = answer; makes = here; gives = gives }) h
+
+-- and where memory ran out it held
+pub goes_held : {P R : Type 0} {old new : Told} {call : StoreCall} {answer : StoreAnswer} (wanted : StoreCall) (moment : ℤ) (from to : P)
+    → call ≡ wanted → is_reading wanted ≡ true → Makes old new call (moment_of call moment) answer → (step : Step R) → WhereOut step (to ≡ from) → WhereOut step (Held old new wanted moment from to)
+goes_held wanted moment from to same reading makes Again h = tt
+goes_held {old = old} {new = new} {answer = answer} wanted moment from to same reading makes (Done r) h = λ out.
+    let here : Makes old new wanted (moment_of wanted moment) answer = subst (λ (c : StoreCall). Makes old new c (moment_of c moment) answer) same makes in
+    record { kept = h out; made = record { contents = reads_keep reading here; calls = inr (answer, here) } }

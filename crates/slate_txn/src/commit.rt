@@ -1,9 +1,9 @@
 //! Committing the next version.
-ghost use Rattle.std.specs.Prelude.{◌≡◌, ◌<◌, IfOk, true};
+ghost use Rattle.std.specs.Prelude.{◌≡◌, ◌+◌, ◌<◌, IfOk, Some, true};
 ghost use Rattle.slate_ids.specs.Answers.{Gives};
-ghost use Rattle.slate_store.specs.Machines.{Steps, GoesOnAlways, IsAgain};
-ghost use Rattle.slate_txn.specs.Commit.{prepared, commit_asks, commit_goes, commit_due, commit_rank, is_putting};
-ghost use Rattle.slate_txn.specs.Due.{StillDue, FaultRose};
+ghost use Rattle.slate_store.specs.Machines.{Steps, Held, GoesOnAlways, IsAgain};
+ghost use Rattle.slate_txn.specs.Commit.{prepared, commit_asks, commit_goes, commit_due, commit_rank, is_putting, commit_version, KeepsVersion};
+ghost use Rattle.slate_txn.specs.Due.{StillDue, FaultRose, WhereOut, NeverOut};
 
 use crate::boundary::boundary_in;
 use crate::right::Right;
@@ -38,6 +38,7 @@ pub fn prepare<T: Drop, C: ObjectCodec<T>, R: Rules<T>>(
 ) -> Result<CommitPhase<T>, SlateDBError>
     ensures commit { Gives result (prepared (R.refusal rules.now) (C.encoded codec.now) id old.now value right.now) }
     ensures putting { IfOk result (λ commit. is_putting commit ≡ true) }
+    ensures version { IfOk result (λ commit. commit_version commit ≡ Some (id + 1, value)) }
 {
     if id == u64::MAX {
         return Err(SlateDBError::Exhausted(id));
@@ -83,6 +84,8 @@ impl<T: Drop> CommitPhase<T> {
         ensures goes { GoesOnAlways (commit_goes self.old answer.now) self.new result }
         ensures falls { IsAgain result → commit_rank self.new < commit_rank self.old }
         ensures due { StillDue result (commit_due self.new) }
+        ensures version { KeepsVersion self.old self.new result }
+        ensures memory { NeverOut result }
     {
         match (mem::replace(self, CommitPhase::Over), answer) {
             (CommitPhase::Putting(n, _, _), StoreAnswer::Created(None)) => {
@@ -127,6 +130,8 @@ impl<T: Drop> CommitPhase<T> {
             (commit_goes self.old) self.old self.new result }
         ensures falls { IsAgain result → commit_rank self.new < commit_rank self.old }
         ensures due { StillDue result (commit_due self.new) }
+        ensures version { KeepsVersion self.old self.new result }
+        ensures memory { WhereOut result (Held (S.told store.old) (S.told store.new) (commit_asks sequenced.now.db sequenced.now.log self.old) moment self.old self.new) }
         ensures fault { FaultRose (S.told store.old) (S.told store.new) result }
     {
         match self.asks(alloc, sequenced) {

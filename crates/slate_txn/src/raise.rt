@@ -1,7 +1,7 @@
 //! Raising the epoch of a value read.
-ghost use Rattle.std.specs.Prelude.{◌≡◌, IfOk, true};
+ghost use Rattle.std.specs.Prelude.{◌≡◌, ◌+◌, IfOk, Some, true};
 ghost use Rattle.slate_ids.specs.Answers.{Gives};
-ghost use Rattle.slate_txn.specs.Commit.{is_putting};
+ghost use Rattle.slate_txn.specs.Commit.{is_putting, commit_version};
 ghost use Rattle.slate_txn.specs.Raise.{raised};
 
 use crate::commit::{CommitPhase, prepare};
@@ -22,6 +22,7 @@ pub fn prepare_raise<T: Drop, C: ObjectCodec<T>, R: Rules<T>, E: Epochs<T>>(
 ) -> Result<CommitPhase<T>, SlateDBError>
     ensures commit { Gives result (raised (R.refusal rules.now) (C.encoded codec.now) (E.epoch epochs.now) (E.with_epoch epochs.now) id value.now) }
     ensures putting { IfOk result (λ commit. is_putting commit ≡ true) }
+    ensures version { IfOk result (λ commit. commit_version commit ≡ Some (id + 1, E.with_epoch epochs.now value.now (E.epoch epochs.now value.now + 1))) }
 {
     let epoch = epochs.get(value);
     if epoch == u64::MAX {

@@ -1,7 +1,7 @@
 //! Reading the latest version.
 ghost use Rattle.std.specs.Prelude.{◌≡◌, ◌<◌, pos, true};
-ghost use Rattle.slate_store.specs.Machines.{Steps, GoesOn, IsAgain};
-ghost use Rattle.slate_txn.specs.Due.{StillDue, FaultRose, NoFault};
+ghost use Rattle.slate_store.specs.Machines.{Steps, Held, GoesOn, IsAgain};
+ghost use Rattle.slate_txn.specs.Due.{StillDue, FaultRose, NoFault, WhereOut};
 ghost use Rattle.slate_txn.specs.Read.{read_asks, read_goes, read_due, is_listing, Falls, AtVersion};
 
 use crate::boundary::{boundary_in, greatest};
@@ -70,6 +70,7 @@ impl<T: Drop> ReadPhase<T> {
         ensures falls { IsAgain result → Falls self.old self.new }
         ensures from { AtVersion result self.old }
         ensures due { StillDue result (read_due self.new) }
+        ensures memory { WhereOut result (self.new ≡ self.old) }
     {
         match (mem::replace(self, ReadPhase::Over), answer) {
             (ReadPhase::Listing, StoreAnswer::Found(listing)) => {
@@ -130,6 +131,7 @@ impl<T: Drop> ReadPhase<T> {
         ensures falls { IsAgain result → Falls self.old self.new }
         ensures from { AtVersion result self.old }
         ensures due { StillDue result (read_due self.new) }
+        ensures memory { WhereOut result (Held (S.told store.old) (S.told store.new) (read_asks sequenced.now.db sequenced.now.log self.old) moment self.old self.new) }
         ensures fault { NoFault (C.decoded sequenced.now.codec) → FaultRose (S.told store.old) (S.told store.new) result }
     {
         let call = self.asks(sequenced);
