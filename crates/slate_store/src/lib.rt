@@ -1,6 +1,9 @@
-//! The object store: the trait, what its calls mean, and how they are made and told.
+//! The object store: the trait, what its calls mean, how they are made and told, and a store in memory. And where bytes
+//! come from and go to: sources and sinks that count their faults.
 #![tactic(auto)]
 
+#[cfg(test)]
+mod ends_tests;
 mod list_dir;
 mod made;
 mod mark;
@@ -16,6 +19,8 @@ mod step;
 mod store;
 mod store_answer;
 mod store_call;
+#[cfg(test)]
+mod store_tests;
 mod writing;
 
 pub use list_dir::ListDir;

@@ -27,7 +27,7 @@ type Objects = BTreeMap<ObjectPath, StoredObject>;
 /// A store in memory: its objects, the last tag that it gave, the marks of the calls to come, and the count of faults,
 /// which stays at 2^64 - 1 once there. Each call takes one mark. A write that has no tag left faults, and writes
 /// nothing.
-#[derive(Drop)]
+#[derive(Debug, Drop)]
 pub struct MemoryStore {
     objects: Objects,
     last_tag: u64,

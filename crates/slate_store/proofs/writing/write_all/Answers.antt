@@ -1,10 +1,8 @@
-use Rattle.std.proofs.Common.{◌≡◌, ℕ, ◌-◌, List, length, take, drop, length-drop, ap, sym, ◌∙◌, rules, arith}
-use Rattle.std.proofs.Math.Seq.{take-add, take-length}
+use Rattle.std.proofs.Common.{rules, arith}
+use Rattle.std.proofs.Math.Seq.{take-add}
 use Rattle.std.proofs.KnownBytes.{Appends-trans}
+use Rattle.slate_store.proofs.Slices.{tail_slice}
 use Rattle.slate_store.proofs.writing.write_all.Goals as goal
-
-tail_slice : (p : ℕ) (bs : List ℕ) → take (length bs - p) (drop p bs) ≡ drop p bs
-tail_slice p bs = ap (λ n. take n (drop p bs)) (sym (length-drop p bs)) ∙ take-length (drop p bs)
 
 pub loop-place-preserved : goal.loop-place-preserved
 loop-place-preserved g c =
