@@ -1,10 +1,10 @@
 -- The kinds are read back from their texts.
-use Rattle.std.proofs.Common.{◌≡◌, ℕ, zero, suc, ◌+◌, ◌^◌, ◌<◌, ◌≤◌, ◌==◌, nat_lt, Bool, true, false, List, [], ◌∷◌, ◌++◌, length, Option, Some, None, option_and_then, option_map, codes, refl, sym, ap, subst, ◌∙◌, arith, if◌then◌else◌}
+use Rattle.std.proofs.Common.{◌≡◌, ℕ, ◌^◌, ◌<◌, ◌==◌, nat_lt, Bool, true, false, List, ◌++◌, length, Some, None, option_and_then, option_map, codes, refl, sym, ap, ◌∙◌, arith, if◌then◌else◌}
 use Rattle.std.proofs.lemmas.Bool.{eqb-true}
 use Rattle.std.proofs.lemmas.Bool.Decides.{nat_tests}
 use Rattle.std.proofs.lemmas.Option.{option_and_then_some}
 use Rattle.std.specs.Str.{bytes_eq}
-use Rattle.slate_ids.specs.Numerals.{numeral, number_of}
+use Rattle.slate_ids.specs.Numerals.{number_of}
 use Rattle.slate_ids.specs.UlidText.{ulid_text, ulid_of}
 use Rattle.slate_ids.specs.Twenty.{twenty}
 use Rattle.slate_ids.specs.PathKind.{strip_front, middle, twenty_of, numbered, table_of, single_of, or_else, kind_of, kind_text}
@@ -13,7 +13,7 @@ use Rattle.slate_ids.specs.declared.path_kind.PathKind.TheVariants.{Manifest, Re
 use Rattle.slate_ids.proofs.Digits.{twenty-numeral}
 use Rattle.slate_ids.proofs.Numerals.{length-numeral}
 use Rattle.slate_ids.proofs.Reading.{IsAlphabet, IsAlphabet-tested, number_read, number_letters}
-use Rattle.slate_ids.proofs.Strips.{same_bytes, bytes_same, middle_off, middle_on, middle_none, or_else_some, option_map_some}
+use Rattle.slate_ids.proofs.Strips.{same_bytes, middle_off, middle_on, middle_none, or_else_some, option_map_some}
 use Rattle.slate_ids.proofs.UlidTexts.{if_some, ulid_shown}
 
 abbrev tens : List ℕ

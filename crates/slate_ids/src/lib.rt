@@ -33,3 +33,6 @@ pub use out_of_memory::OutOfMemory;
 pub use path_rest::PathRest;
 pub use text::Text;
 pub use ulid::Ulid;
+
+#[cfg(test)]
+mod tests;

@@ -1,4 +1,4 @@
-use Rattle.std.proofs.Common.{◌≡◌, Some, ap, sym, subst}
+use Rattle.std.proofs.Common.{◌≡◌, Some, sym, subst}
 use Rattle.slate_ids.specs.PathText.{path_text}
 use Rattle.slate_ids.specs.PathOf.{path_of}
 use Rattle.slate_ids.specs.declared.path_kind.PathKind.TheVariants as kind

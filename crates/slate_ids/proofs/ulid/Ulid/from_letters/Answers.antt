@@ -1,4 +1,4 @@
-use Rattle.std.proofs.Common.{◌≡◌, sym, ap, ◌∙◌, arith, take, drop, Some, None}
+use Rattle.std.proofs.Common.{◌≡◌, sym, ap, ◌∙◌, take, drop, Some, None}
 use Rattle.slate_ids.specs.Numerals.{number_of}
 use Rattle.slate_ids.specs.UlidText.{id_letters}
 use Rattle.slate_ids.proofs.UlidTexts.{ulid_long, ulid_no_ms, ulid_no_tail, ulid_early, ulid_late, tail_fits, ulid_shown}
