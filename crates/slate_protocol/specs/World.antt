@@ -1,5 +1,5 @@
 -- The state of a cluster, and what an event does to it.
-use Rattle.std.specs.Prelude.{ℕ, ◌+◌, ℤ, Bool, true, false, not, ◌&&◌, ◌||◌, List, [], ◌∷◌, ◌++◌, Option, Some, None, is_some, is_none, length, nat_lt, max, min, if◌then◌else◌}
+use Rattle.std.specs.Prelude.{ℕ, ◌+◌, ℤ, Bool, true, false, not, ◌||◌, List, [], ◌∷◌, ◌++◌, Option, Some, None, is_some, is_none, length, nat_lt, max, min, if◌then◌else◌}
 use Rattle.std.specs.Map.{lookup, set_value}
 use Rattle.std.specs.BTreeMap.{is_at, insert_entry}
 use Rattle.std.specs.Ordering.{nat_cmp}
@@ -78,19 +78,19 @@ wrote before now = nat_lt before.last_tag now.last_tag
 abbrev pub lost_one : Store → Store → Bool
 lost_one before now = nat_lt (length now.objects) (length before.objects)
 
--- the greatest committed numbers after a call
-abbrev pub tallied : StoreCall → Store → Store → List (List ℕ × Tally) → List (List ℕ × Tally)
-tallied (PutNew path bytes) before now tallies = if wrote before now then committed path tallies else tallies
-tallied _ before now tallies = tallies
+-- the greatest committed numbers after a call, by whether it wrote: a put of a new object that had its effect counts
+abbrev pub tallied : StoreCall → Bool → List (List ℕ × Tally) → List (List ℕ × Tally)
+tallied (PutNew path bytes) true tallies = committed path tallies
+tallied _ _ tallies = tallies
 
 -- a count in 64 bits, which stops at its end
 abbrev pub one_more : ℕ → ℕ
 one_more n = min (n + 1) 18446744073709551615
 
--- the count of deletes that removed an object
-abbrev pub counted : StoreCall → Store → Store → ℕ → ℕ
-counted (Delete path) before now deleted = if lost_one before now then one_more deleted else deleted
-counted _ before now deleted = deleted
+-- the count of deletes that removed an object, by whether the call removed one
+abbrev pub counted : StoreCall → Bool → ℕ → ℕ
+counted (Delete path) true deleted = one_more deleted
+counted _ _ deleted = deleted
 
 -- ---- what an event does
 
@@ -132,8 +132,8 @@ stepped w n facts purpose position moment mark =
     record {
       entry = Called n call moment mark outcome.answer (reply_of next);
       world = record {
-        tallies = tallied call w.store outcome.store w.tallies;
-        deleted = counted call w.store outcome.store w.deleted;
+        tallies = tallied call (wrote w.store outcome.store) w.tallies;
+        deleted = counted call (lost_one w.store outcome.store) w.deleted;
         store = outcome.store;
         parties = with_party n (settled facts next) w.parties;
       };
