@@ -1,5 +1,5 @@
 //! A store in memory.
-ghost use Rattle.std.specs.Prelude.{◌≡◌, ◌≢◌, ◌≤◌, ◌+◌, [], ◌∷◌, drop, map, filter, length, pos, option_copied, Ok, Err, IfOk, OnOk, OnErr};
+ghost use Rattle.std.specs.Prelude.{◌≡◌, ◌≢◌, ◌≤◌, ◌+◌, [], ◌∷◌, drop, map, filter, length, pos, is_some, option_copied, Ok, Err, IfOk, OnOk, OnErr};
 ghost use Rattle.std.specs.Map.{remove_entry, lookup};
 ghost use Rattle.std.specs.BTreeMap.{is_at, insert_entry};
 ghost use Rattle.slate_ids.specs.PathText.{path_cmp};
@@ -68,6 +68,14 @@ fn copy_of(
     }
 }
 
+// Whether an object stands at a path.
+fn is_taken(objects: &Objects, path: &ObjectPath) -> bool
+    ensures { result ≡ is_some (lookup (is_at (path_cmp path.now)) objects.now.entries) }
+{
+    objects.contains_key(path)
+}
+
+// Whether an object with this tag stands at a path.
 fn has_tag(objects: &Objects, path: &ObjectPath, tag: u64) -> bool
     ensures { result ≡ HasTag tag (lookup (is_at (path_cmp path.now)) objects.now.entries) }
 {
@@ -292,7 +300,7 @@ impl ObjectStore for MemoryStore {
         bytes: &[u8],
         moment: Millis,
     ) -> Result<Option<u64>, StoreError> {
-        if self.objects.contains_key(path) {
+        if is_taken(&self.objects, path) {
             self.answer(None)
         } else {
             Ok(Some(self.write(alloc, path, bytes, moment)?))

@@ -4,164 +4,163 @@ use std::alloc::Global;
 use std::process::Abort;
 use std::test::Fail;
 
-fn store_with(alloc: Global, marks: &[Mark]) -> Result<MemoryStore, Fail> {
-    Ok(MemoryStore::new(alloc, Vec::from_slice(alloc, marks)?))
+// A call on the file of a number, and what it answers.
+#[derive(Clone, Copy)]
+enum Try {
+    PutNew(u64, Result<Option<u64>, StoreError>),
+    Replace(u64, u64, Result<Option<u64>, StoreError>),
+    Put(u64, Result<u64, StoreError>),
+    Delete(u64, Result<(), StoreError>),
+    Tag(u64, Option<u64>),
+    Faults(u64),
+    Set(Mark),
 }
 
 fn db(name: &str) -> Result<DbPath, Fail> {
     Ok(DbPath::from_text(name)?.ok_or("no path of a database")?)
 }
 
-// Compares the paths of all objects.
-fn has_paths(
+fn file(number: u64) -> Result<ObjectPath, Fail> {
+    Ok(ObjectPath::Wal(db("a")?, number))
+}
+
+// Compares the tag of an object, as a get and a look-up give it.
+fn has_tag(
     rt: &impl Abort,
     alloc: Global,
-    store: &MemoryStore,
-    paths: &[ObjectPath],
+    store: &mut MemoryStore,
+    path: &ObjectPath,
+    tag: Option<u64>,
 ) -> Result<(), Fail> {
-    let found = store.paths(alloc)?;
-    assert_eq!(rt; found.as_slice(), paths);
+    assert_eq!(rt; store.object(path).map(|object| object.e_tag), tag);
+    assert_eq!(rt; store.get(alloc, path)?.map(|object| object.e_tag), tag);
     Ok(())
 }
 
-// Compares the locations and the tags of a listing.
+fn run(rt: &impl Abort, alloc: Global, store: &mut MemoryStore, a_try: Try) -> Result<(), Fail> {
+    match a_try {
+        Try::PutNew(n, wanted) => {
+            assert_eq!(rt; store.put_new(alloc, &file(n)?, b"new", 1), wanted);
+        }
+        Try::Replace(n, tag, wanted) => {
+            assert_eq!(rt; store.replace(alloc, &file(n)?, tag, b"other", 2), wanted);
+        }
+        Try::Put(n, wanted) => assert_eq!(rt; store.put(alloc, &file(n)?, b"put", 3), wanted),
+        Try::Delete(n, wanted) => assert_eq!(rt; store.delete(&file(n)?), wanted),
+        Try::Tag(n, tag) => has_tag(rt, alloc, store, &file(n)?, tag)?,
+        Try::Faults(count) => assert_eq!(rt; store.faults(), count),
+        Try::Set(mark) => store.set_mark(mark),
+    }
+    Ok(())
+}
+
+fn run_all(rt: &impl Abort, alloc: Global, marks: &[Mark], tries: &[Try]) -> Result<(), Fail> {
+    let mut store = MemoryStore::new(alloc, Vec::from_slice(alloc, marks)?);
+    for a_try in tries {
+        run(rt, alloc, &mut store, *a_try)?;
+    }
+    Ok(())
+}
+
+#[test]
+fn writes(rt: HostRuntime) -> Result<(), Fail> {
+    let tries = [
+        Try::PutNew(1, Ok(Some(1))),
+        Try::PutNew(1, Ok(None)),
+        Try::Tag(1, Some(1)),
+        Try::Replace(1, 2, Ok(None)),
+        Try::Replace(1, 1, Ok(Some(2))),
+        Try::Tag(1, Some(2)),
+        Try::Put(1, Ok(3)),
+        Try::Replace(2, 0, Ok(None)),
+        Try::Delete(2, Ok(())),
+        Try::Tag(1, Some(3)),
+        Try::Delete(1, Ok(())),
+        Try::Tag(1, None),
+        Try::Put(1, Ok(4)),
+        Try::Faults(0),
+    ];
+    run_all(&rt, rt.alloc(), &[], &tries)
+}
+
+#[test]
+fn goes_by_marks(rt: HostRuntime) -> Result<(), Fail> {
+    let marks = [Mark::Good, Mark::Fail, Mark::Lost, Mark::Good, Mark::Fail];
+    let tries = [
+        Try::PutNew(1, Ok(Some(1))),
+        Try::PutNew(2, Err(StoreError::Fault)),
+        Try::PutNew(2, Err(StoreError::Fault)),
+        Try::Tag(2, Some(2)),
+        Try::Faults(2),
+        Try::Set(Mark::Lost),
+        Try::Set(Mark::Good),
+        Try::Put(3, Ok(3)),
+        Try::Set(Mark::Lost),
+        Try::Delete(3, Err(StoreError::Fault)),
+        Try::Tag(3, None),
+        Try::Set(Mark::Fail),
+        Try::Delete(1, Err(StoreError::Fault)),
+        Try::Tag(1, Some(1)),
+        Try::Faults(4),
+    ];
+    run_all(&rt, rt.alloc(), &marks, &tries)
+}
+
+// A store with these objects, whose tags count from 1.
+fn store_of(alloc: Global, paths: &[ObjectPath]) -> Result<MemoryStore, Fail> {
+    let mut store = MemoryStore::new(alloc, Vec::new(alloc));
+    for path in paths {
+        store.put(alloc, path, b"", 1)?;
+    }
+    Ok(store)
+}
+
+// Compares the tags of a listing.
 fn lists(
     rt: &impl Abort,
     alloc: Global,
     store: &mut MemoryStore,
     dir: &ListDir,
-    wanted: &[(ObjectPath, u64)],
+    tags: &[u64],
 ) -> Result<(), Fail> {
     let found = store.list(alloc, dir)?;
-    assert_eq!(rt; found.len(), wanted.len());
-    for (metadata, (location, tag)) in found.iter().zip(wanted.iter()) {
-        assert_eq!(rt; &metadata.location, location);
-        assert_eq!(rt; &metadata.e_tag, tag);
+    assert_eq!(rt; found.len(), tags.len());
+    for (metadata, tag) in found.iter().zip(tags.iter()) {
+        assert_eq!(rt; metadata.e_tag, *tag);
     }
     Ok(())
 }
 
-// Compares the object at a path.
-fn gets(
+// Compares the tags of all objects.
+fn has_tags(
     rt: &impl Abort,
     alloc: Global,
     store: &mut MemoryStore,
-    path: &ObjectPath,
-    bytes: &[u8],
-    moment: i64,
-    tag: u64,
+    tags: &[u64],
 ) -> Result<(), Fail> {
-    let object = store.get(alloc, path)?.ok_or("no object")?;
-    assert_eq!(rt; object.bytes.as_slice(), bytes);
-    assert_eq!(rt; object.last_modified, moment);
-    assert_eq!(rt; object.e_tag, tag);
-    Ok(())
-}
-
-#[test]
-fn writes_and_reads(rt: HostRuntime) -> Result<(), Fail> {
-    let alloc = rt.alloc();
-    let mut store = store_with(alloc, &[])?;
-    let path = ObjectPath::Manifest(db("a")?, 1);
-    assert_eq!(rt; store.put_new(alloc, &path, b"one", 10), Ok(Some(1)));
-    assert_eq!(rt; store.put_new(alloc, &path, b"two", 11), Ok(None));
-    gets(&rt, alloc, &mut store, &path, b"one", 10, 1)?;
-    assert_eq!(rt; store.replace(alloc, &path, 2, b"two", 12), Ok(None));
-    assert_eq!(rt; store.replace(alloc, &path, 1, b"two", 12), Ok(Some(2)));
-    gets(&rt, alloc, &mut store, &path, b"two", 12, 2)?;
-    assert_eq!(rt; store.put(alloc, &path, b"three", 13), Ok(3));
-    gets(&rt, alloc, &mut store, &path, b"three", 13, 3)?;
-    let absent = ObjectPath::Manifest(db("a")?, 2);
-    assert!(rt; store.get(alloc, &absent)?.is_none());
-    assert!(rt; store.object(&absent).is_none());
-    assert_eq!(rt; store.replace(alloc, &absent, 0, b"", 14), Ok(None));
-    assert_eq!(rt; store.delete(&absent), Ok(()));
-    has_paths(&rt, alloc, &store, &[ObjectPath::Manifest(db("a")?, 1)])?;
-    assert_eq!(rt; store.delete(&path), Ok(()));
-    assert_eq!(rt; store.delete(&path), Ok(()));
-    has_paths(&rt, alloc, &store, &[])?;
-    assert_eq!(rt; store.put(alloc, &path, b"", 15), Ok(4));
-    assert_eq!(rt; store.faults(), 0);
+    let paths = store.paths(alloc)?;
+    assert_eq!(rt; paths.len(), tags.len());
+    for (path, tag) in paths.iter().zip(tags.iter()) {
+        has_tag(rt, alloc, store, path, Some(*tag))?;
+    }
     Ok(())
 }
 
 #[test]
 fn lists_by_kind(rt: HostRuntime) -> Result<(), Fail> {
     let alloc = rt.alloc();
-    let mut store = store_with(alloc, &[])?;
     let a = db("a")?;
     let b = db("a-b")?;
-    store.put(alloc, &ObjectPath::Wal(a, 7), b"", 1)?;
-    store.put(alloc, &ObjectPath::Manifest(a, 10), b"", 1)?;
-    store.put(alloc, &ObjectPath::Manifest(a, 9), b"", 1)?;
-    store.put(alloc, &ObjectPath::ManifestBoundary(a), b"", 1)?;
-    store.put(alloc, &ObjectPath::Manifest(b, 1), b"", 1)?;
-    let manifests = [
-        (ObjectPath::Manifest(a, 9), 3),
-        (ObjectPath::Manifest(a, 10), 2),
-    ];
-    lists(&rt, alloc, &mut store, &ListDir::Manifests(a), &manifests)?;
-    lists(&rt, alloc, &mut store, &ListDir::Records(a), &[])?;
-    let all = [
-        (ObjectPath::ManifestBoundary(a), 4),
-        (ObjectPath::Manifest(a, 9), 3),
-        (ObjectPath::Manifest(a, 10), 2),
-        (ObjectPath::Wal(a, 7), 1),
-    ];
-    lists(&rt, alloc, &mut store, &ListDir::All(a), &all)?;
     let paths = [
-        ObjectPath::Manifest(b, 1),
-        ObjectPath::ManifestBoundary(a),
-        ObjectPath::Manifest(a, 9),
-        ObjectPath::Manifest(a, 10),
         ObjectPath::Wal(a, 7),
+        ObjectPath::Manifest(a, 10),
+        ObjectPath::Manifest(a, 9),
+        ObjectPath::ManifestBoundary(a),
+        ObjectPath::Manifest(b, 1),
     ];
-    has_paths(&rt, alloc, &store, &paths)
-}
-
-#[test]
-fn goes_by_marks(rt: HostRuntime) -> Result<(), Fail> {
-    let alloc = rt.alloc();
-    let mut store = store_with(alloc, &[Mark::Good, Mark::Fail, Mark::Lost, Mark::Fail])?;
-    let a = db("a")?;
-    assert_eq!(rt; store.put(alloc, &ObjectPath::Wal(a, 1), b"1", 1), Ok(1));
-    assert_eq!(rt;
-        store.put(alloc, &ObjectPath::Wal(a, 2), b"2", 1),
-        Err(StoreError::Fault)
-    );
-    has_paths(&rt, alloc, &store, &[ObjectPath::Wal(a, 1)])?;
-    assert_eq!(rt;
-        store.put(alloc, &ObjectPath::Wal(a, 3), b"3", 1),
-        Err(StoreError::Fault)
-    );
-    has_paths(
-        &rt,
-        alloc,
-        &store,
-        &[ObjectPath::Wal(a, 1), ObjectPath::Wal(a, 3)],
-    )?;
-    assert_eq!(rt; store.faults(), 2);
-    store.set_mark(Mark::Lost);
-    store.set_mark(Mark::Good);
-    assert_eq!(rt; store.put(alloc, &ObjectPath::Wal(a, 4), b"4", 1), Ok(3));
-    store.set_mark(Mark::Lost);
-    assert_eq!(rt;
-        store.delete(&ObjectPath::Wal(a, 3)),
-        Err(StoreError::Fault)
-    );
-    has_paths(
-        &rt,
-        alloc,
-        &store,
-        &[ObjectPath::Wal(a, 1), ObjectPath::Wal(a, 4)],
-    )?;
-    store.set_mark(Mark::Fail);
-    assert_eq!(rt;
-        store.delete(&ObjectPath::Wal(a, 1)),
-        Err(StoreError::Fault)
-    );
-    assert_eq!(rt; store.delete(&ObjectPath::Wal(a, 4)), Ok(()));
-    has_paths(&rt, alloc, &store, &[ObjectPath::Wal(a, 1)])?;
-    assert_eq!(rt; store.faults(), 4);
-    Ok(())
+    let mut store = store_of(alloc, &paths)?;
+    lists(&rt, alloc, &mut store, &ListDir::Manifests(a), &[3, 2])?;
+    lists(&rt, alloc, &mut store, &ListDir::Records(a), &[])?;
+    lists(&rt, alloc, &mut store, &ListDir::All(a), &[4, 3, 2, 1])?;
+    has_tags(&rt, alloc, &mut store, &[5, 4, 3, 2, 1])
 }
