@@ -2,7 +2,6 @@
 use Rattle.std.specs.Prelude.{◌≡◌, ℕ, ◌+◌, List, [], ◌∷◌, ◌++◌, Option, Some, None}
 use Rattle.slate_ids.specs.declared.object_path.ObjectPath.TheVariants as paths
 use Rattle.slate_model.specs.Bytes.{manifest_bytes}
-use Rattle.slate_model.specs.Initial.{initial}
 use Rattle.slate_script.specs.declared.db_spec.DbSpec.{DbSpec}
 use Rattle.slate_script.specs.declared.event.Event.{Event}
 use Rattle.slate_script.specs.declared.entry.Entry.{Entry}
@@ -19,15 +18,6 @@ opening_of spec = record {
   };
   parties = [];
 }
-
--- a new database
-abbrev pub IsNew : DbSpec → Type 0
-IsNew spec = spec.manifest ≡ initial
-
--- one new database
-abbrev pub IsOneNew : List DbSpec → Type 0
-IsOneNew (spec ∷ []) = IsNew spec
-IsOneNew _ = ⊥
 
 -- the entries so far, and the state after them
 pub record Course : Type 0 where

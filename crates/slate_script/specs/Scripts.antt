@@ -57,6 +57,15 @@ abbrev pub databases_from : ℕ → Items → Result (List DbSpec) ScriptPlace
 databases_from i no_items = Ok []
 databases_from i (item d ds) = and_then (at_place (database_place i) (database_in d)) (λ db. with_front (db ∷ []) (databases_from (i + 1) ds))
 
+-- a new database
+abbrev pub IsNew : DbSpec → Type 0
+IsNew spec = spec.manifest ≡ initial
+
+-- one new database
+abbrev pub IsOneNew : List DbSpec → Type 0
+IsOneNew (spec ∷ []) = IsNew spec
+IsOneNew _ = ⊥
+
 -- ---- events
 
 abbrev pub event_limit : ℕ

@@ -4,7 +4,7 @@ ghost use Rattle.serde_json.specs.Read.{read};
 ghost use Rattle.serde_json.specs.View.{view, items_view};
 ghost use Rattle.slate_script.specs.Fields.{Gives};
 ghost use Rattle.slate_script.specs.Events.{expand, count_of};
-ghost use Rattle.slate_script.specs.Scripts.{Reads, at_place, database_in, databases_from, written_at, events_from, event_limit, array_in, top_in, parts_in, script_in, json_of, script_of};
+ghost use Rattle.slate_script.specs.Scripts.{Reads, at_place, database_in, databases_from, written_at, events_from, event_limit, array_in, top_in, parts_in, script_in, json_of, script_of, IsOneNew};
 
 use crate::db_spec::DbSpec;
 use crate::event::Event;
@@ -172,9 +172,9 @@ fn json(alloc: Global, bytes: &[u8]) -> Result<Value, Refusal>
     }
 }
 
-/// The script of the bytes, or the first place at which they are none.
+// The script of the bytes, or the first place at which they are none.
 #[tactic(auto, unfolding(crate::specs::Scripts::script_of))]
-pub fn read_script(alloc: Global, bytes: &[u8]) -> Result<Script, ScriptError>
+fn script_in_bytes(alloc: Global, bytes: &[u8]) -> Result<Script, ScriptError>
     ensures { Reads result (script_of bytes.now) }
 {
     let value = match json(alloc, bytes) {
@@ -183,4 +183,12 @@ pub fn read_script(alloc: Global, bytes: &[u8]) -> Result<Script, ScriptError>
         Err(Refusal::OutOfMemory) => return Err(ScriptError::OutOfMemory),
     };
     script(alloc, &value)
+}
+
+/// The script of the bytes, or the first place at which they are none. A script has one database, which is new.
+pub fn read_script(alloc: Global, bytes: &[u8]) -> Result<Script, ScriptError>
+    ensures script { Reads result (script_of bytes.now) }
+    ensures one_new { IfOk result (λ s. IsOneNew s.databases) }
+{
+    script_in_bytes(alloc, bytes)
 }

@@ -29,7 +29,8 @@ fn name_of(refusal: &SlateDBError) -> &'static str
     match refusal {
         SlateDBError::TransactionalObjectVersionExists { .. } => "TransactionalObjectVersionExists",
         SlateDBError::Fenced { .. } => "Fenced",
-        SlateDBError::LatestTransactionalObjectVersionMissing => "LatestTransactionalObjectVersionMissing",
+        SlateDBError::LatestTransactionalObjectVersionMissing =>
+            "LatestTransactionalObjectVersionMissing",
         SlateDBError::ManifestMissing(_) => "ManifestMissing",
         SlateDBError::CheckpointMissing(_) => "CheckpointMissing",
         SlateDBError::InvalidClockTick { .. } => "InvalidClockTick",
