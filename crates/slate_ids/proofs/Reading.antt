@@ -8,7 +8,7 @@ use Rattle.std.proofs.lemmas.List.FromFn.{get_or-range_with_len, length-range_wi
 use Rattle.std.proofs.lemmas.Option.{option_and_then_some}
 use Rattle.std.proofs.lemmas.Bool.Decides.{nat_tests, eqb_tells}
 use Rattle.std.proofs.lemmas.Nat.{div-add-mod', mul-add-lt, div-mul-add, mod-mul-add}
-use Rattle.std.proofs.Math.Nat.{pow-zero, pow-suc, pow-succ', pow-le-pow_right, mod-lt, div-lt_iff_lt-mul}
+use Rattle.std.proofs.Math.Nat.{mul_assoc, mul-add-div_right, mul-add-mod_self_right, pow-zero, pow-suc, pow-succ', pow-le-pow_right, mod-lt, div-lt_iff_lt-mul}
 use Rattle.std.specs.List.{position_or_len, list_all, range_with_len}
 use Rattle.slate_ids.specs.Numerals.{numeral, digit_of, number_after, number_of}
 
@@ -141,3 +141,20 @@ pub one_more_at : (b j a d : ℕ) → a < b ^ j → d < b → a * b + d < b ^ (j
 one_more_at b j a d l m =
     let next : j + 1 ≡ suc j = omega arith in
     rw next (one_more b j a d l m)
+
+moved_up : (b m t k : ℕ) → m * b ^ suc k + t ≡ m * b ^ k * b + t
+moved_up b m t k = rw (pow-suc b k, mul_assoc m (b ^ k) b)
+
+-- the digits of a number are those of its two parts
+pub numeral_split : (alphabet : List ℕ) → 0 < length alphabet → (j k m t : ℕ) → t < length alphabet ^ k → numeral alphabet (j + k) (m * length alphabet ^ k + t) ≡ numeral alphabet j m ++ numeral alphabet k t
+unfolding numeral
+numeral_split alphabet s j zero m t l =
+    let none : t ≡ 0 = omega (arith, pow-zero (length alphabet)) in
+    let width : j + 0 ≡ j = omega arith in
+    let whole : m * length alphabet ^ 0 + t ≡ m = rw (pow-zero (length alphabet), none) (omega arith) in
+    rw (width, whole) (sym (append-nil (numeral alphabet j m)))
+numeral_split alphabet s j (suc k) m t l =
+    let b = length alphabet in
+    let width : j + suc k ≡ suc (j + k) = omega arith in
+    let less : t / b < b ^ k = (div-lt_iff_lt-mul {k = b} {x = t} {y = b ^ k} s).1 (rw pow-suc at l) in
+    rw (width, moved_up b m t k, mul-add-div_right s (m * b ^ k) t, mul-add-mod_self_right (m * b ^ k) b t, numeral_split alphabet s j k m (t / b) less, append_assoc)

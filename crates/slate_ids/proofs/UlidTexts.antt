@@ -1,5 +1,5 @@
 -- Ids are read back from their texts.
-use Rattle.std.proofs.Common.{◌≡◌, ◌≢◌, ℕ, ◌+◌, ◌^◌, ◌<◌, ◌≤◌, ◌==◌, nat_lt, Bool, true, false, List, ◌++◌, length, take, drop, Option, Some, None, option_and_then, refl, subst, ◌∙◌, arith, if◌then◌else◌}
+use Rattle.std.proofs.Common.{◌≡◌, ◌≢◌, ℕ, ◌+◌, ◌*◌, ◌^◌, ◌<◌, ◌≤◌, ◌==◌, nat_lt, sym, Bool, true, false, List, ◌++◌, length, take, drop, Option, Some, None, option_and_then, refl, subst, ◌∙◌, arith, if◌then◌else◌}
 use Rattle.std.proofs.lemmas.List.{length-append, take-append-drop, length-drop, length-take}
 use Rattle.std.proofs.Math.Seq.{take-append_seam, drop-append_seam}
 use Rattle.std.proofs.lemmas.Option.{option_and_then_some}
@@ -8,7 +8,7 @@ use Rattle.std.proofs.lemmas.Bool.Decides.{nat_tests}
 use Rattle.slate_ids.specs.Numerals.{numeral, number_of}
 use Rattle.slate_ids.specs.UlidText.{id_letters, ulid_text, id_of, ulid_of}
 use Rattle.slate_ids.proofs.Numerals.{length-numeral}
-use Rattle.slate_ids.proofs.Reading.{IsAlphabet, IsAlphabet-tested, number_read, number_letters, number_below}
+use Rattle.slate_ids.proofs.Reading.{IsAlphabet, IsAlphabet-tested, number_read, number_letters, number_below, numeral_split}
 
 pub id_alphabet : IsAlphabet id_letters
 id_alphabet = IsAlphabet-tested id_letters (omega arith) refl
@@ -81,3 +81,8 @@ ulid_late text ms tail h e f l = let t : nat_lt ms (2 ^ 48) ≡ false = grind (a
 
 pub tail_fits : (text : List ℕ) (tail : ℕ) → length text ≡ 26 → number_of id_letters (drop 10 text) ≡ Some tail → tail < 2 ^ 80
 tail_fits text tail h e = number_below id_letters (drop 10 text) 16 tail (length-back 10 26 16 text h (omega arith)) e
+
+-- an id's text has the 26 digits of ms * 2^80 + tail
+pub ulid_digits : (u : ℕ × ℕ) → u.1 < 2 ^ 80 → ulid_text u ≡ numeral id_letters 26 (u.0 * 2 ^ 80 + u.1)
+unfolding ulid_text
+ulid_digits u l = sym (numeral_split id_letters (omega arith) 10 16 u.0 u.1 l)

@@ -23,6 +23,7 @@ abbrev pub path_or : List ℕ → List ℕ → Option PathKind → ObjectPath
 path_or db rest (Some k) = path_with db k
 path_or db rest None = Other db rest
 
+-- `/`
 abbrev is_slash : ℕ → Bool
 is_slash c = c == 47
 

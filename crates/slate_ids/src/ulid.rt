@@ -1,6 +1,7 @@
 //! Ids that sort by time.
-ghost use Rattle.std.specs.Prelude.{◌≡◌, ◌<◌, ◌^◌, Some, IfOk, IfSome, string_bytes};
-ghost use Rattle.slate_ids.specs.UlidText.{ulid_of, ulid_text};
+ghost use Rattle.std.specs.Prelude.{◌≡◌, ◌<◌, ◌^◌, ◌*◌, ◌+◌, Some, IfOk, IfSome, string_bytes};
+ghost use Rattle.slate_ids.specs.UlidText.{id_letters, ulid_of, ulid_text};
+ghost use Rattle.slate_ids.specs.Numerals.{numeral};
 
 use crate::letters::text_of;
 use crate::numeral::{read_numeral, write_numeral};
@@ -60,6 +61,8 @@ impl Ulid {
     /// The id's 26 letters. They are read back as the id.
     pub fn letters(&self) -> [u8; 26]
         ensures letters { result ≡ ulid_text self.now }
+        ensures digits { ulid_text self.now
+            ≡ numeral id_letters 26 (self.now.0 * 2 ^ 80 + self.now.1) }
         ensures read_back { ulid_of (ulid_text self.now) ≡ Some self.now }
     {
         let mut block = [0; 26];
