@@ -12,3 +12,6 @@ pub mod Versions
 pub mod Commit
 pub mod Raise
 pub mod Holder
+pub mod Committing
+pub mod Updating
+pub mod Loading

@@ -3,6 +3,8 @@
 
 mod boundary;
 mod commit;
+mod committing;
+mod load;
 mod log_kind;
 mod raise;
 mod ran_out;
@@ -13,9 +15,11 @@ mod rules;
 mod sequenced;
 mod stored;
 mod try_read;
+mod update;
 mod versions;
 
 pub use commit::{CommitPhase, prepare};
+pub use load::LoadMachine;
 pub use log_kind::LogKind;
 pub use raise::prepare_raise;
 pub use read::ReadPhase;
@@ -24,4 +28,5 @@ pub use rules::Rules;
 pub use sequenced::Sequenced;
 pub use stored::{DirtyObject, Stored};
 pub use try_read::TryReadPhase;
+pub use update::UpdateMachine;
 pub use versions::ListPhase;
