@@ -119,3 +119,13 @@ update_steps old new call moment holder p q Again stepped = record { answer = st
 update_steps old new call moment holder p q (Done reply) (inl stepped) = inl (record { answer = stepped.answer; makes = stepped.makes; gives = ap (held_goes holder) stepped.gives })
 update_steps old new call moment holder p q (Done (Ok version)) (inr m) = absurd (let out : false ≡ true = m.0 in cc)
 update_steps old new call moment holder p q (Done (Err e)) (inr m) = inr (m.0, record { kept = ap (with_commit holder) m.1.kept; made = m.1.made })
+
+-- and so next of an update that commits
+pub update_next : {T C R : Type 0} (old new : Told) (moment : ℤ) (machine : UpdateMachine T) (holder held : Holder T C R) (p q : CommitPhase T) (step : Step (ℕ × T)) (result : Step (Unit {0}))
+    → machine ≡ Committing p → held ≡ held_by holder step → result ≡ done_step step → Steps old new (commit_asks holder.sequenced.db holder.sequenced.log p) moment (commit_goes p) p q step
+    → UpdateSteps old new moment (machine, holder) (Committing q, held) result
+update_next old new moment machine holder held p q step result at after done steps =
+    subst (λ (m : UpdateMachine _). UpdateSteps old new moment (m, holder) (Committing q, held) result) (sym at)
+    (subst (λ (h : Holder _ _ _). UpdateSteps old new moment (Committing p, holder) (Committing q, h) result) (sym after)
+    (subst (λ (r : Step (Unit {0})). UpdateSteps old new moment (Committing p, holder) (Committing q, held_by holder step) r) (sym done)
+    (update_steps old new (commit_asks holder.sequenced.db holder.sequenced.log p) moment holder p q step steps)))
