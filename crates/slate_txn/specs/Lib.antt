@@ -15,3 +15,8 @@ pub mod Holder
 pub mod Committing
 pub mod Updating
 pub mod Loading
+pub mod Apply
+pub mod ApplyRuns
+pub mod FencedHolder
+pub mod Fence
+pub mod Initing

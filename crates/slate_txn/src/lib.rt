@@ -1,9 +1,13 @@
 //! The versioned log, over any codec, rules and store.
 #![tactic(auto)]
 
+mod apply;
 mod boundary;
+mod change;
 mod commit;
 mod committing;
+mod fenced;
+mod init;
 mod load;
 mod log_kind;
 mod raise;
@@ -18,7 +22,11 @@ mod try_read;
 mod update;
 mod versions;
 
+pub use apply::ApplyPhase;
+pub use change::{Change, NextEpoch};
 pub use commit::{CommitPhase, prepare};
+pub use fenced::Fenced;
+pub use init::InitMachine;
 pub use load::LoadMachine;
 pub use log_kind::LogKind;
 pub use raise::prepare_raise;
