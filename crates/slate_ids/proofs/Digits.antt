@@ -4,7 +4,7 @@ use Rattle.std.proofs.lemmas.List.{replicate_more, length-append}
 use Rattle.std.proofs.lemmas.List.FromFn.{get_or-map-range_with_len}
 use Rattle.std.proofs.lemmas.Fmt.{decimal_by_steps, length-decimal-le}
 use Rattle.slate_ids.specs.Numerals.{numeral}
-use Rattle.slate_ids.specs.PathText.{twenty}
+use Rattle.slate_ids.specs.Twenty.{twenty}
 
 abbrev tens : List ℕ
 tens = codes "0123456789"

@@ -2,7 +2,7 @@
 use Rattle.std.proofs.Common.{◌≡◌, ℕ, ◌^◌, ◌-◌, ◌++◌, List, length, replicate, false, [], decimal, arith}
 use Rattle.std.proofs.lemmas.List.{append-nil}
 use Rattle.std.specs.Fmt.{padded_integral, char_count, format_spec}
-use Rattle.slate_ids.specs.PathText.{twenty}
+use Rattle.slate_ids.specs.Twenty.{twenty}
 
 unpadded : (k len : ℕ) (text : List ℕ) → replicate (k - len - 0 - 0) 48 ++ (text ++ []) ≡ replicate (k - len) 48 ++ text
 unpadded k len text =

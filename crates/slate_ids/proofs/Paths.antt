@@ -11,12 +11,12 @@ use Rattle.slate_ids.specs.Padded.{IsPadded, padded}
 pub name_in_block : (front letters : List ℕ) → front ≡ letters → length letters ≤ 64 → is_db_path letters ≡ true → IsPadded record { block = front ++ drop (length letters) (replicate 64 0); used = length letters }
 name_in_block front letters e room name =
     subst (λ (f : List ℕ). IsPadded record { block = f ++ drop (length letters) (replicate 64 0); used = length letters }) (sym e) (
-      let t = take-append_seam letters (drop (length letters) (replicate 64 0)) in record {
-        room = room;
-        count = ap length t;
-        rest = ap padded t ∙ ap (λ (r : List ℕ). letters ++ r) (sym (drop-replicate (length letters) 64 0));
-        name = ap is_db_path t ∙ name;
-      })
+    let t = take-append_seam letters (drop (length letters) (replicate 64 0)) in record {
+      room = room;
+      count = ap length t;
+      rest = ap padded t ∙ ap (λ (r : List ℕ). letters ++ r) (sym (drop-replicate (length letters) 64 0));
+      name = ap is_db_path t ∙ name;
+    })
 
 short_by : (n : ℕ) (b : Bool) → nat_lt 0 n && nat_le n 64 && b ≡ true → n ≤ 64
 short_by n b h = grind (arith, nat_tests)

@@ -5,5 +5,8 @@ pub mod Codes
 pub mod Answers
 pub mod Numerals
 pub mod UlidText
+pub mod Twenty
 pub mod PathText
+pub mod PathKind
+pub mod PathOf
 pub mod Pieces

@@ -1,15 +1,12 @@
 -- The texts of paths, and their order.
-use Rattle.std.specs.Prelude.{ℕ, ◌-◌, List, ◌++◌, length, replicate, codes, decimal}
+use Rattle.std.specs.Prelude.{ℕ, List, ◌++◌, codes}
 use Rattle.std.specs.declared.cmp.Ordering.{Ordering}
 use Rattle.std.specs.Ordering.{nat_cmp, on}
 use Rattle.std.specs.Cmp.Lexicographic.{slice_cmp}
+pub use Rattle.slate_ids.specs.Twenty.{twenty}
 use Rattle.slate_ids.specs.UlidText.{ulid_text}
 use Rattle.slate_ids.specs.declared.object_path.ObjectPath.{ObjectPath}
 use Rattle.slate_ids.specs.declared.object_path.ObjectPath.TheVariants.{Manifest, Record, ManifestBoundary, RecordBoundary, Table, Wal, Marker, Other}
-
--- twenty digits, with leading zeros
-unfoldable pub twenty : ℕ → List ℕ
-twenty n = replicate (20 - length (decimal n)) 48 ++ decimal n
 
 -- the text of a path
 abbrev pub path_text : ObjectPath → List ℕ

@@ -1,7 +1,7 @@
 -- A path's text in four pieces.
 use Rattle.std.specs.Prelude.{ℕ, List, [], ◌++◌}
 use Rattle.slate_ids.specs.UlidText.{ulid_text}
-use Rattle.slate_ids.specs.PathText.{twenty}
+use Rattle.slate_ids.specs.Twenty.{twenty}
 use Rattle.slate_ids.specs.declared.object_path.ObjectPath.{ObjectPath}
 use Rattle.slate_ids.specs.declared.object_path.ObjectPath.TheVariants.{Manifest, Record, ManifestBoundary, RecordBoundary, Table, Wal, Marker, Other}
 use Rattle.slate_ids.specs.declared.path_pieces.Name.{Name}

@@ -7,11 +7,11 @@ ghost use Rattle.std.proofs.lemmas.Cmp.{eq_by_cmp_equiv};
 ghost use Rattle.std.specs.List.{list_all};
 ghost use Rattle.slate_ids.specs.Ids.{is_db_path, is_path_char};
 
+use crate::letters::text_of;
 use crate::out_of_memory::OutOfMemory;
 use std::cmp::Ordering;
 use std::fmt;
 use std::marker::Model;
-use std::str;
 
 /// The path of a database: 1 to 64 of the characters a to z, 0 to 9, `_` and `-`. Takes no memory.
 #[derive(Clone, Copy, Debug)]
@@ -73,11 +73,17 @@ impl DbPath {
     pub fn from_text(text: &str) -> Result<Option<DbPath>, OutOfMemory>
         ensures { result ≡ Ok (if is_db_path text.now then Some text.now else None) }
     {
-        let letters = text.as_bytes();
+        Ok(DbPath::from_letters(text.as_bytes()))
+    }
+
+    /// The path of these letters, where they are one.
+    pub(crate) fn from_letters(letters: &[u8]) -> Option<DbPath>
+        ensures { result ≡ (if is_db_path letters.now then Some letters.now else None) }
+    {
         if is_path(letters) {
-            Ok(Some(path_of(letters)))
+            Some(path_of(letters))
         } else {
-            Ok(None)
+            None
         }
     }
 
@@ -93,10 +99,7 @@ impl DbPath {
     pub fn as_str(&self) -> &str
         ensures { result.now ≡ self.now }
     {
-        match str::from_utf8(self.letters()) {
-            Ok(text) => text,
-            Err(_) => unreachable!(),
-        }
+        text_of(self.letters())
     }
 }
 

@@ -1,5 +1,5 @@
 //! The refusals.
-ghost use Rattle.std.specs.Prelude.{◌≡◌};
+ghost use Rattle.std.specs.Prelude.{◌≡◌, IfOk};
 ghost use Rattle.slate_ids.specs.declared.error.SlateDBError.TheVariants.{OutOfMemory as OutOfMemoryRefusal};
 ghost use Rattle.slate_ids.specs.Answers.{is_memory, is_conflict};
 ghost use Rattle.slate_ids.specs.Codes.{code_of};
@@ -9,7 +9,7 @@ use crate::out_of_memory::OutOfMemory;
 use crate::text::Text;
 use crate::ulid::Ulid;
 use bytes::Bytes;
-use std::alloc::{AllocError, AllocFailed};
+use std::alloc::{AllocError, AllocFailed, Global};
 use thiserror::Error;
 
 /// The update rule that a new version breaks. The others have refusals of their own.
@@ -193,6 +193,21 @@ impl<T: Drop> From<AllocFailed<T>> for SlateDBError {
     }
 }
 
+fn copy_bytes(alloc: Global, bytes: &Bytes) -> Result<Bytes, OutOfMemory>
+    ensures { IfOk result (λ copied. copied ≡ bytes.now) }
+{
+    Ok(Bytes::copy_from_slice(alloc, bytes.as_slice())?)
+}
+
+fn copy_name(alloc: Global, name: &Option<Text>) -> Result<Option<Text>, OutOfMemory>
+    ensures { IfOk result (λ copied. copied ≡ name.now) }
+{
+    match name {
+        None => Ok(None),
+        Some(text) => Ok(Some(Text::copy_of(alloc, text.as_str())?)),
+    }
+}
+
 impl SlateDBError {
     /// The refusal's number, 1 to 23.
     pub fn code(&self) -> u8
@@ -223,6 +238,76 @@ impl SlateDBError {
             SlateDBError::Exhausted(_) => 22,
             SlateDBError::OutOfMemory => 23,
         }
+    }
+
+    /// An equal refusal.
+    pub fn copy(&self, alloc: Global) -> Result<SlateDBError, OutOfMemory>
+        ensures { IfOk result (λ copied. copied ≡ self.now) }
+    {
+        Ok(match self {
+            Self::TransactionalObjectVersionExists { number, boundary } => {
+                Self::TransactionalObjectVersionExists {
+                    number: *number,
+                    boundary: *boundary,
+                }
+            }
+            Self::Fenced { own, read } => Self::Fenced {
+                own: *own,
+                read: *read,
+            },
+            Self::LatestTransactionalObjectVersionMissing => {
+                Self::LatestTransactionalObjectVersionMissing
+            }
+            Self::ManifestMissing(n) => Self::ManifestMissing(*n),
+            Self::CheckpointMissing(id) => Self::CheckpointMissing(*id),
+            Self::InvalidClockTick {
+                last_tick,
+                next_tick,
+            } => Self::InvalidClockTick {
+                last_tick: *last_tick,
+                next_tick: *next_tick,
+            },
+            Self::UpdateRefused(rule) => Self::UpdateRefused(*rule),
+            Self::InvalidDBState(cause) => Self::InvalidDBState(*cause),
+            Self::InvalidDeletion(n) => Self::InvalidDeletion(*n),
+            Self::EmptyManifest => Self::EmptyManifest,
+            Self::InvalidCompaction => Self::InvalidCompaction,
+            Self::InvalidVersion { format, actual } => Self::InvalidVersion {
+                format: *format,
+                actual: *actual,
+            },
+            Self::Corrupt(format) => Self::Corrupt(*format),
+            Self::Unencodable(field) => Self::Unencodable(*field),
+            Self::SegmentWithoutWriter(prefix) => {
+                Self::SegmentWithoutWriter(copy_bytes(alloc, prefix)?)
+            }
+            Self::InvalidSegmentPrefix { prefix, conflict } => {
+                Self::InvalidSegmentPrefix {
+                    prefix: copy_bytes(alloc, prefix)?,
+                    conflict: copy_bytes(alloc, conflict)?,
+                }
+            }
+            Self::SegmentExtractorMismatch {
+                persisted,
+                configured,
+            } => Self::SegmentExtractorMismatch {
+                persisted: copy_name(alloc, persisted)?,
+                configured: copy_name(alloc, configured)?,
+            },
+            Self::SegmentPrefixNotRecognized { prefix, extractor } => {
+                Self::SegmentPrefixNotRecognized {
+                    prefix: copy_bytes(alloc, prefix)?,
+                    extractor: Text::copy_of(alloc, extractor.as_str())?,
+                }
+            }
+            Self::WalStoreReconfigurationError => {
+                Self::WalStoreReconfigurationError
+            }
+            Self::StoreFault => Self::StoreFault,
+            Self::Contended => Self::Contended,
+            Self::Exhausted(n) => Self::Exhausted(*n),
+            Self::OutOfMemory => Self::OutOfMemory,
+        })
     }
 
     /// Whether memory ran out.

@@ -6,14 +6,17 @@ mod checkpoint_id;
 mod codec;
 mod db_path;
 mod error;
+mod letters;
 mod listed;
 mod millis;
 mod number_range;
 mod numeral;
 mod object_path;
 mod out_of_memory;
+mod path_kind;
 mod path_pieces;
 mod path_rest;
+mod path_text;
 mod text;
 mod ulid;
 
@@ -30,3 +33,6 @@ pub use out_of_memory::OutOfMemory;
 pub use path_rest::PathRest;
 pub use text::Text;
 pub use ulid::Ulid;
+
+#[cfg(test)]
+mod tests;

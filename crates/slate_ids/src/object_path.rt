@@ -132,7 +132,7 @@ struct Twenty(u64);
 
 impl fmt::Display for Twenty {
     ghost use Rattle.std.specs.Prelude.{Some};
-    ghost use Rattle.slate_ids.specs.PathText.{twenty};
+    ghost use Rattle.slate_ids.specs.Twenty.{twenty};
 
     ghost output = { λ t. Some (twenty t.0) };
 

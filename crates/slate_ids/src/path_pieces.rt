@@ -2,13 +2,13 @@
 ghost use Rattle.std.specs.Prelude.{◌≡◌};
 ghost use Rattle.std.specs.Ordering.{nat_cmp};
 ghost use Rattle.std.specs.Cmp.Lexicographic.{slice_cmp};
-ghost use Rattle.slate_ids.specs.PathText.{path_text, twenty};
+ghost use Rattle.slate_ids.specs.PathText.{path_text};
+ghost use Rattle.slate_ids.specs.Twenty.{twenty};
 ghost use Rattle.slate_ids.specs.Pieces.{joined, name_letters, name_of};
 
-use crate::numeral::write_numeral;
 use crate::db_path::DbPath;
+use crate::numeral::write_numeral;
 use crate::object_path::ObjectPath;
-use crate::ulid::id_digits;
 use std::cmp::Ordering;
 
 /// The digits of a path's number or id.
@@ -46,7 +46,7 @@ impl Name {
             ObjectPath::Manifest(_, n) | ObjectPath::Record(_, n) | ObjectPath::Wal(_, n) => {
                 Name::Number(twenty_digits(*n))
             }
-            ObjectPath::Table(_, id) => Name::Id(id_digits(id)),
+            ObjectPath::Table(_, id) => Name::Id(id.letters()),
             _ => Name::Nothing,
         }
     }
@@ -91,8 +91,18 @@ impl<'a> Pieces<'a> {
     pub(crate) fn compare(&self, other: &Pieces<'_>) -> Ordering
         ensures { result ≡ slice_cmp nat_cmp (joined self.now) (joined other.now) }
     {
-        let own = self.db.iter().chain(self.folder).chain(self.name).chain(self.suffix);
-        let others = other.db.iter().chain(other.folder).chain(other.name).chain(other.suffix);
+        let own = self
+            .db
+            .iter()
+            .chain(self.folder)
+            .chain(self.name)
+            .chain(self.suffix);
+        let others = other
+            .db
+            .iter()
+            .chain(other.folder)
+            .chain(other.name)
+            .chain(other.suffix);
         own.cmp(others)
     }
 }

@@ -1,11 +1,16 @@
 //! Ids that sort by time.
-ghost use Rattle.std.specs.Prelude.{◌≡◌, ◌<◌, ◌^◌};
-ghost use Rattle.slate_ids.specs.UlidText.{ulid_text};
+ghost use Rattle.std.specs.Prelude.{◌≡◌, ◌<◌, ◌^◌, Some, IfOk, IfSome, string_bytes};
+ghost use Rattle.slate_ids.specs.UlidText.{ulid_of, ulid_text};
 
-use crate::numeral::write_numeral;
+use crate::letters::text_of;
+use crate::numeral::{read_numeral, write_numeral};
+use crate::out_of_memory::OutOfMemory;
+use std::alloc::Global;
 use std::fmt;
 use std::marker::Model;
-use std::str;
+
+// The letters of ids, which are the digits of base 32.
+const ID_LETTERS: &[u8] = b"0123456789ABCDEFGHJKMNPQRSTVWXYZ";
 
 /// An id: milliseconds since the Unix epoch, below 2^48, and a tail below 2^80. Ids order by milliseconds, then by tail.
 #[derive(Clone, Copy, Debug, PartialEq, Eq, PartialOrd, Ord)]
@@ -51,28 +56,64 @@ impl Ulid {
     {
         self.tail
     }
-}
 
-/// The letters of an id.
-pub(crate) fn id_digits(id: &Ulid) -> [u8; 26]
-    ensures { result ≡ ulid_text id.now }
-{
-    let letters = b"0123456789ABCDEFGHJKMNPQRSTVWXYZ";
-    let mut block = [0; 26];
-    write_numeral(&mut block[10..], letters, id.tail());
-    write_numeral(&mut block[..10], letters, id.timestamp_ms() as u128);
-    block
+    /// The id's 26 letters. They are read back as the id.
+    pub fn letters(&self) -> [u8; 26]
+        ensures letters { result ≡ ulid_text self.now }
+        ensures read_back { ulid_of (ulid_text self.now) ≡ Some self.now }
+    {
+        let mut block = [0; 26];
+        write_numeral(&mut block[10..], ID_LETTERS, self.tail());
+        write_numeral(&mut block[..10], ID_LETTERS, self.timestamp_ms() as u128);
+        block
+    }
+
+    /// The id's 26 letters as text. They are read back as the id.
+    pub fn to_text(&self, alloc: Global) -> Result<String, OutOfMemory>
+        ensures text { IfOk result (λ text. string_bytes text ≡ ulid_text self.now) }
+        ensures read_back { ulid_of (ulid_text self.now) ≡ Some self.now }
+    {
+        let letters = self.letters();
+        Ok(String::from_str(alloc, text_of(&letters))?)
+    }
+
+    /// The id of 26 letters, where the text is one: letters of ids in upper case, of which the first is at most 7. Takes no memory.
+    pub fn from_text(text: &str) -> Option<Ulid>
+        ensures id { result ≡ ulid_of text.now }
+        ensures shown { IfSome result (λ id. ulid_text id ≡ text.now) }
+    {
+        Ulid::from_letters(text.as_bytes())
+    }
+
+    /// The id of 26 letters, as `from_text`.
+    pub(crate) fn from_letters(letters: &[u8]) -> Option<Ulid>
+        ensures id { result ≡ ulid_of letters.now }
+        ensures shown { IfSome result (λ id. ulid_text id ≡ letters.now) }
+    {
+        if letters.len() != 26 {
+            return None;
+        }
+        let (ms, tail) = letters.split_at(10);
+        let ms = read_numeral(ID_LETTERS, ms)?;
+        let tail = read_numeral(ID_LETTERS, tail)?;
+        if ms < 1 << 48 {
+            Some(Ulid {
+                ms: ms as u64,
+                tail,
+            })
+        } else {
+            None
+        }
+    }
 }
 
 impl fmt::Display for Ulid {
     ghost use Rattle.std.specs.Prelude.{Some};
+
     ghost output = { λ id. Some (ulid_text id) };
 
     fn fmt<W: fmt::Write>(&self, f: &mut fmt::Formatter<W>) -> fmt::Result {
-        let block = id_digits(self);
-        match str::from_utf8(&block) {
-            Ok(text) => f.write_str(text),
-            Err(_) => unreachable!(),
-        }
+        let letters = self.letters();
+        f.write_str(text_of(&letters))
     }
 }

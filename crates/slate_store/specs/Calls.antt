@@ -1,7 +1,9 @@
 -- What a store tells of itself, and what one call does to that.
-use Rattle.std.specs.Prelude.{◌≡◌, ◌+◌, ◌-◌, ◌^◌, ◌≤◌, ℕ, ℤ, pos, min, Option, Some, None, Result, Ok, Err, List, [], ◌∷◌, ◌++◌, drop}
+use Rattle.std.specs.Prelude.{◌≡◌, ◌≤◌, ℕ, ℤ, pos, Option, Some, None, Result, Ok, Err, List, [], ◌∷◌, ◌++◌, drop}
 use Rattle.std.proofs.Common.{subst}
+pub use Rattle.slate_store.specs.Counts.{Rose}
 use Rattle.slate_store.specs.Store.{Store, effect}
+use Rattle.slate_store.specs.declared.made.Made.{Made}
 use Rattle.slate_store.specs.declared.mark.Mark.{Mark}
 use Rattle.slate_store.specs.declared.mark.Mark.TheVariants.{Good}
 use Rattle.slate_store.specs.declared.store.StoreError.{StoreError}
@@ -11,21 +13,12 @@ use Rattle.slate_store.specs.declared.store_call.StoreCall.TheVariants.{List as 
 use Rattle.slate_store.specs.declared.store_answer.StoreAnswer.{StoreAnswer}
 use Rattle.slate_store.specs.declared.store_answer.StoreAnswer.TheVariants.{Found, Got, Created, Replaced, Written, Deleted, Fault}
 
--- a call that was made, with its answer
-pub record Made : Type 0 where
-  pub call : StoreCall
-  pub answer : StoreAnswer
-
 -- the count of faults, and, each where told, the contents, the marks of the calls to come, and the calls made so far
 pub record Told : Type 0 where
   pub faults : ℕ
   pub contents : Option Store
   pub marks : Option (List Mark)
   pub calls : Option (List Made)
-
--- a count in 64 bits rose, or stands at its end
-abbrev pub Rose : ℕ → ℕ → Type 0
-Rose before now = min (before + 1) (2 ^ 64 - 1) ≤ now
 
 abbrev pub IfFault : StoreAnswer → Type 0 → Type 0
 IfFault Fault P = P

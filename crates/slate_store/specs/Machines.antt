@@ -1,14 +1,13 @@
 -- A machine by its phases: what it asks at a phase, and how it goes on from an answer.
 use Rattle.std.specs.Prelude.{◌≡◌, ℤ, Result, Err, ◌⊎◌, List, [], ◌∷◌, ◌++◌, refl}
 use Rattle.slate_ids.specs.declared.error.SlateDBError.{SlateDBError}
-use Rattle.slate_ids.specs.declared.error.SlateDBError.TheVariants.{StoreFault}
-use Rattle.slate_ids.specs.Answers.{OrMemory, OrMemory-map}
+use Rattle.slate_ids.specs.Answers.{OrMemory}
 use Rattle.slate_store.specs.declared.store_call.StoreCall.{StoreCall}
 use Rattle.slate_store.specs.declared.store_answer.StoreAnswer.{StoreAnswer}
 use Rattle.slate_store.specs.declared.step.Step.{Step}
 use Rattle.slate_store.specs.declared.step.Step.TheVariants.{Again, Done}
 use Rattle.slate_store.specs.Calls.{Told, Makes, moment_of}
-use Rattle.std.proofs.Common.{inr, sym, subst}
+use Rattle.std.proofs.Common.{sym, subst}
 
 -- how a machine goes on: at a phase, or it ends with a reply
 pub data Goes (P R : Type 0) : Type 0 where

@@ -5,7 +5,8 @@ use Rattle.slate_ids.specs.declared.error.SlateDBError.{SlateDBError}
 use Rattle.slate_ids.specs.declared.error.SlateDBError.TheVariants.{Contended}
 use Rattle.slate_store.specs.declared.store_call.StoreCall.{StoreCall}
 use Rattle.slate_store.specs.declared.store_answer.StoreAnswer.{StoreAnswer}
-use Rattle.slate_store.specs.Calls.{Told, Made, Makes, moment_of}
+use Rattle.slate_store.specs.Calls.{Told, Makes, moment_of}
+use Rattle.slate_store.specs.declared.made.Made.{Made}
 use Rattle.slate_store.specs.Machines.{Goes, Stay, End, Stepped, Held, AtMost, Steps}
 use Rattle.slate_store.specs.declared.step.Step.TheVariants.{Done}
 use Rattle.slate_ids.specs.Answers.{OrMemory, OrMemory-map}

@@ -1,5 +1,5 @@
 -- An object store: what each call does to it and answers.
-use Rattle.std.specs.Prelude.{ℕ, ◌+◌, ◌==◌, nat_lt, Bool, true, false, not, ◌&&◌, if◌then◌else◌, ℤ, Option, Some, None, is_some, is_none, List, length, map, filter, drop}
+use Rattle.std.specs.Prelude.{ℕ, ◌+◌, ◌==◌, nat_lt, Bool, true, false, not, ◌&&◌, if◌then◌else◌, ℤ, Option, Some, None, is_some, is_none, List, length, map, filter}
 use Rattle.std.specs.Map.{lookup, remove_entry}
 use Rattle.std.specs.BTreeMap.{is_at, insert_entry}
 use Rattle.slate_ids.specs.PathText.{path_cmp}

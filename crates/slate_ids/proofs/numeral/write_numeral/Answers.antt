@@ -4,7 +4,7 @@ use Rattle.slate_ids.proofs.Numerals.{digit_written, all_written}
 use Rattle.slate_ids.proofs.numeral.write_numeral.Goals as goal
 
 pub loop-i-preserved : goal.loop-i-preserved
-loop-i-preserved c = 
+loop-i-preserved c =
     let i = c.loop-i.invariant in
     record {
       same_length = length-set _ _ _ ∙ i.same_length;

@@ -1,0 +1,123 @@
+-- The kinds are read back from their texts.
+use Rattle.std.proofs.Common.{◌≡◌, ℕ, ◌^◌, ◌<◌, ◌==◌, nat_lt, Bool, true, false, List, ◌++◌, length, Some, None, option_and_then, option_map, codes, refl, sym, ap, ◌∙◌, arith, if◌then◌else◌}
+use Rattle.std.proofs.lemmas.Bool.{eqb-true}
+use Rattle.std.proofs.lemmas.Bool.Decides.{nat_tests}
+use Rattle.std.proofs.lemmas.Option.{option_and_then_some}
+use Rattle.std.specs.Str.{bytes_eq}
+use Rattle.slate_ids.specs.Numerals.{number_of}
+use Rattle.slate_ids.specs.UlidText.{ulid_text, ulid_of}
+use Rattle.slate_ids.specs.Twenty.{twenty}
+use Rattle.slate_ids.specs.PathKind.{strip_front, middle, twenty_of, numbered, table_of, single_of, or_else, kind_of, kind_text}
+use Rattle.slate_ids.specs.declared.path_kind.PathKind.{PathKind}
+use Rattle.slate_ids.specs.declared.path_kind.PathKind.TheVariants.{Manifest, Record, ManifestBoundary, RecordBoundary, Table, Wal, Marker}
+use Rattle.slate_ids.proofs.Digits.{twenty-numeral}
+use Rattle.slate_ids.proofs.Numerals.{length-numeral}
+use Rattle.slate_ids.proofs.Reading.{IsAlphabet, IsAlphabet-tested, number_read, number_letters}
+use Rattle.slate_ids.proofs.Strips.{same_bytes, middle_off, middle_on, middle_none, or_else_some, option_map_some}
+use Rattle.slate_ids.proofs.UlidTexts.{if_some, ulid_shown}
+
+abbrev tens : List ℕ
+tens = codes "0123456789"
+
+tens_alphabet : IsAlphabet tens
+tens_alphabet = IsAlphabet-tested tens (omega arith) refl
+
+-- a number is read back from its twenty digits
+twenty_read : (n : ℕ) → n < 2 ^ 64 → twenty_of (twenty n) ≡ Some n
+unfolding twenty_of
+twenty_read n l =
+    let e = twenty-numeral n l in
+    let read = number_read tens tens_alphabet 20 n (omega arith) in
+    let t : nat_lt n (2 ^ 64) ≡ true = grind (arith, nat_tests) in
+    rw (e, length-numeral tens 20 n, read, t)
+
+twenty_shown : (text : List ℕ) (n : ℕ) → twenty_of text ≡ Some n → twenty n ≡ text
+unfolding twenty_of
+twenty_shown text n h =
+    let i = if_some (length text == 20) (option_and_then (λ k. if nat_lt k (2 ^ 64) then Some k else None) (number_of tens text)) n h in
+    let size : length text ≡ 20 = eqb-true _ _ i.0 in
+    option_and_then_some (λ k. if nat_lt k (2 ^ 64) then Some k else None) (number_of tens text) n i.1 (λ k e f.
+    let s = if_some (nat_lt k (2 ^ 64)) (Some k) n f in
+    let same : k ≡ n = cc (s.1) in
+    let less : k < 2 ^ 64 = let t = s.0 in grind (arith, nat_tests) in
+    rw (← same) (twenty-numeral k less ∙ number_letters tens text 20 k size e))
+
+numbered_read : (front end : List ℕ) (n : ℕ) → n < 2 ^ 64 → numbered front end (front ++ (twenty n ++ end)) ≡ Some n
+unfolding numbered
+numbered_read front end n l = ap (option_and_then twenty_of) (middle_off front end (twenty n)) ∙ twenty_read n l
+
+numbered_shown : (front end text : List ℕ) (n : ℕ) → numbered front end text ≡ Some n → front ++ (twenty n ++ end) ≡ text
+unfolding numbered
+numbered_shown front end text n h = option_and_then_some twenty_of (middle front end text) n h (λ name e f.
+    ap (λ (r : List ℕ). front ++ (r ++ end)) (twenty_shown name n f) ∙ middle_on front end text name e)
+
+numbered_none : (front end text : List ℕ) → strip_front front text ≡ None → numbered front end text ≡ None
+unfolding numbered
+numbered_none front end text h = ap (option_and_then twenty_of) (middle_none front end text h)
+
+table_read : (id : ℕ × ℕ) → ulid_of (ulid_text id) ≡ Some id → table_of (codes "compacted/" ++ (ulid_text id ++ codes ".sst")) ≡ Some id
+unfolding table_of
+table_read id h = ap (option_and_then ulid_of) (middle_off (codes "compacted/") (codes ".sst") (ulid_text id)) ∙ h
+
+table_shown : (text : List ℕ) (id : ℕ × ℕ) → table_of text ≡ Some id → codes "compacted/" ++ (ulid_text id ++ codes ".sst") ≡ text
+unfolding table_of
+table_shown text id h = option_and_then_some ulid_of (middle (codes "compacted/") (codes ".sst") text) id h (λ name e f.
+    ap (λ (r : List ℕ). codes "compacted/" ++ (r ++ codes ".sst")) (ulid_shown name id f) ∙ middle_on (codes "compacted/") (codes ".sst") text name e)
+
+table_none : (text : List ℕ) → strip_front (codes "compacted/") text ≡ None → table_of text ≡ None
+unfolding table_of
+table_none text h = ap (option_and_then ulid_of) (middle_none (codes "compacted/") (codes ".sst") text h)
+
+single_case : (a b c : Bool) (text : List ℕ) (k : PathKind) → (a ≡ true → text ≡ codes "gc/manifest.boundary") → (b ≡ true → text ≡ codes "gc/compactions.boundary") → (c ≡ true → text ≡ codes ".deleting") → (if a then Some ManifestBoundary else (if b then Some RecordBoundary else (if c then Some Marker else None))) ≡ Some k → kind_text k ≡ text
+single_case true b c text k f g h e = let same : ManifestBoundary ≡ k = cc in rw (← same) (sym (f refl))
+single_case false true c text k f g h e = let same : RecordBoundary ≡ k = cc in rw (← same) (sym (g refl))
+single_case false false true text k f g h e = let same : Marker ≡ k = cc in rw (← same) (sym (h refl))
+single_case false false false text k f g h e = absurd cc
+
+single_shown : (text : List ℕ) (k : PathKind) → single_of text ≡ Some k → kind_text k ≡ text
+unfolding single_of
+single_shown text k h = single_case (bytes_eq text (codes "gc/manifest.boundary")) (bytes_eq text (codes "gc/compactions.boundary")) (bytes_eq text (codes ".deleting")) text k (same_bytes _ _) (same_bytes _ _) (same_bytes _ _) h
+
+-- the parts of a kind are those of a path
+abbrev pub KindFits : PathKind → Type 0
+KindFits (Manifest n) = n < 2 ^ 64
+KindFits (Record n) = n < 2 ^ 64
+KindFits ManifestBoundary = Unit {0}
+KindFits RecordBoundary = Unit {0}
+KindFits (Table id) = ulid_of (ulid_text id) ≡ Some id
+KindFits (Wal n) = n < 2 ^ 64
+KindFits Marker = Unit {0}
+
+no_manifest : (text : List ℕ) → strip_front (codes "manifest/") text ≡ None → kind_of text ≡ or_else (option_map Record (numbered (codes "compactions/") (codes ".compactions") text)) (or_else (option_map Wal (numbered (codes "wal/") (codes ".sst") text)) (or_else (option_map Table (table_of text)) (single_of text)))
+unfolding kind_of
+no_manifest text h = rw (numbered_none (codes "manifest/") (codes ".manifest") text h)
+
+no_record : (text : List ℕ) → strip_front (codes "manifest/") text ≡ None → strip_front (codes "compactions/") text ≡ None → kind_of text ≡ or_else (option_map Wal (numbered (codes "wal/") (codes ".sst") text)) (or_else (option_map Table (table_of text)) (single_of text))
+no_record text h i = no_manifest text h ∙ rw (numbered_none (codes "compactions/") (codes ".compactions") text i)
+
+no_wal : (text : List ℕ) → strip_front (codes "manifest/") text ≡ None → strip_front (codes "compactions/") text ≡ None → strip_front (codes "wal/") text ≡ None → kind_of text ≡ or_else (option_map Table (table_of text)) (single_of text)
+no_wal text h i j = no_record text h i ∙ rw (numbered_none (codes "wal/") (codes ".sst") text j)
+
+no_table : (text : List ℕ) → strip_front (codes "manifest/") text ≡ None → strip_front (codes "compactions/") text ≡ None → strip_front (codes "wal/") text ≡ None → strip_front (codes "compacted/") text ≡ None → kind_of text ≡ single_of text
+no_table text h i j k = no_wal text h i j ∙ rw (table_none text k)
+
+-- a kind is read back from its text
+pub kind_read : (k : PathKind) → KindFits k → kind_of (kind_text k) ≡ Some k
+unfolding kind_of single_of strip_front
+kind_read (Manifest n) h = rw (numbered_read (codes "manifest/") (codes ".manifest") n h)
+kind_read (Record n) h = no_manifest (kind_text (Record n)) refl ∙ rw (numbered_read (codes "compactions/") (codes ".compactions") n h)
+kind_read ManifestBoundary h = no_table (kind_text ManifestBoundary) refl refl refl refl
+kind_read RecordBoundary h = no_table (kind_text RecordBoundary) refl refl refl refl
+kind_read (Table id) h = no_wal (kind_text (Table id)) refl refl refl ∙ rw (table_read id h)
+kind_read (Wal n) h = no_record (kind_text (Wal n)) refl refl ∙ rw (numbered_read (codes "wal/") (codes ".sst") n h)
+kind_read Marker h = no_table (kind_text Marker) refl refl refl refl
+
+-- a kind that was read has the text
+pub kind_shown : (text : List ℕ) (k : PathKind) → kind_of text ≡ Some k → kind_text k ≡ text
+unfolding kind_of
+kind_shown text k h =
+    or_else_some _ _ k h (λ a. option_map_some Manifest _ k a (λ n e f. rw (← f) (numbered_shown (codes "manifest/") (codes ".manifest") text n e))) (λ b.
+    or_else_some _ _ k b (λ a. option_map_some Record _ k a (λ n e f. rw (← f) (numbered_shown (codes "compactions/") (codes ".compactions") text n e))) (λ b.
+    or_else_some _ _ k b (λ a. option_map_some Wal _ k a (λ n e f. rw (← f) (numbered_shown (codes "wal/") (codes ".sst") text n e))) (λ b.
+    or_else_some _ _ k b (λ a. option_map_some Table _ k a (λ id e f. rw (← f) (table_shown text id e))) (λ b.
+    single_shown text k b))))

@@ -1,0 +1,59 @@
+-- What stands after a database and `/` in the paths of the kinds with a name.
+use Rattle.std.specs.Prelude.{ℕ, ◌-◌, ◌^◌, ◌&&◌, ◌==◌, nat_lt, Bool, not, List, ◌++◌, length, take, drop, Option, Some, None, option_and_then, option_map, is_some, if◌then◌else◌, codes}
+use Rattle.std.specs.Str.{bytes_eq}
+use Rattle.slate_ids.specs.Numerals.{number_of}
+use Rattle.slate_ids.specs.UlidText.{ulid_text, ulid_of}
+use Rattle.slate_ids.specs.Twenty.{twenty}
+use Rattle.slate_ids.specs.declared.path_kind.PathKind.{PathKind}
+use Rattle.slate_ids.specs.declared.path_kind.PathKind.TheVariants.{Manifest, Record, ManifestBoundary, RecordBoundary, Table, Wal, Marker}
+
+-- a text without its front, where it begins so
+unfoldable pub strip_front : List ℕ → List ℕ → Option (List ℕ)
+strip_front front text = if bytes_eq (take (length front) text) front then Some (drop (length front) text) else None
+
+-- a text without its end, where it ends so
+unfoldable pub strip_end : List ℕ → List ℕ → Option (List ℕ)
+strip_end end text = if bytes_eq (drop (length text - length end) text) end then Some (take (length text - length end) text) else None
+
+-- what stands between a front and an end
+unfoldable pub middle : List ℕ → List ℕ → List ℕ → Option (List ℕ)
+middle front end text = option_and_then (strip_end end) (strip_front front text)
+
+-- the number of twenty digits, below 2^64
+unfoldable pub twenty_of : List ℕ → Option ℕ
+twenty_of text = if length text == 20 then option_and_then (λ n. if nat_lt n (2 ^ 64) then Some n else None) (number_of (codes "0123456789") text) else None
+
+-- the number between a front and an end
+unfoldable pub numbered : List ℕ → List ℕ → List ℕ → Option ℕ
+numbered front end text = option_and_then twenty_of (middle front end text)
+
+-- the id of a table's name
+unfoldable pub table_of : List ℕ → Option (ℕ × ℕ)
+table_of text = option_and_then ulid_of (middle (codes "compacted/") (codes ".sst") text)
+
+-- the kinds of one object each
+unfoldable pub single_of : List ℕ → Option PathKind
+single_of text = if bytes_eq text (codes "gc/manifest.boundary") then Some ManifestBoundary else (if bytes_eq text (codes "gc/compactions.boundary") then Some RecordBoundary else (if bytes_eq text (codes ".deleting") then Some Marker else None))
+
+-- the first of two that is there
+abbrev pub or_else : {A : Type 0} → Option A → Option A → Option A
+or_else (Some x) o = Some x
+or_else None o = o
+
+-- the kind whose form a text has
+unfoldable pub kind_of : List ℕ → Option PathKind
+kind_of text = or_else (option_map Manifest (numbered (codes "manifest/") (codes ".manifest") text)) (or_else (option_map Record (numbered (codes "compactions/") (codes ".compactions") text)) (or_else (option_map Wal (numbered (codes "wal/") (codes ".sst") text)) (or_else (option_map Table (table_of text)) (single_of text))))
+
+-- the text of a kind
+abbrev pub kind_text : PathKind → List ℕ
+kind_text (Manifest n) = codes "manifest/" ++ twenty n ++ codes ".manifest"
+kind_text (Record n) = codes "compactions/" ++ twenty n ++ codes ".compactions"
+kind_text ManifestBoundary = codes "gc/manifest.boundary"
+kind_text RecordBoundary = codes "gc/compactions.boundary"
+kind_text (Table id) = codes "compacted/" ++ ulid_text id ++ codes ".sst"
+kind_text (Wal n) = codes "wal/" ++ twenty n ++ codes ".sst"
+kind_text Marker = codes ".deleting"
+
+-- a text that is there and has the form of no kind
+unfoldable pub is_rest : List ℕ → Bool
+is_rest text = nat_lt 0 (length text) && not (is_some (kind_of text))

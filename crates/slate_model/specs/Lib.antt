@@ -1,0 +1,10 @@
+pub mod Tracker
+pub mod Initial
+pub mod Bytes
+pub mod Reading
+pub mod Parts
+pub mod Decoding
+pub mod Codec
+pub mod Laws
+pub mod Epochs
+pub mod Lawful

@@ -1,0 +1,44 @@
+-- Reading bytes from the front: what was read and the rest, or `None`.
+use Rattle.std.specs.Prelude.{ℕ, ℤ, ◌==◌, nat_le, Bool, true, false, List, [], ◌∷◌, length, take, drop, Option, Some, None, if◌then◌else◌}
+use Rattle.std.specs.Int.{w32, w64, from_be_bytes, cast_signed}
+
+infixl 10 ◌>>=◌
+-- the second reading, of what the first found
+abbrev pub ◌>>=◌ : {A B : Type 0} → Option A → (A → Option B) → Option B
+(Some x) >>= f = f x
+None >>= f = None
+
+-- what follows these bytes
+abbrev pub after : List ℕ → List ℕ → Option (List ℕ)
+after [] bytes = Some bytes
+after (c ∷ constant) [] = None
+after (c ∷ constant) (b ∷ bytes) = if c == b then after constant bytes else None
+
+-- one byte
+abbrev pub byte_in : List ℕ → Option (ℕ × List ℕ)
+byte_in [] = None
+byte_in (b ∷ bytes) = Some (b, bytes)
+
+-- 0 is no, 1 is yes
+abbrev pub flag_of : ℕ → Option Bool
+flag_of n = if n == 0 then Some false else if n == 1 then Some true else None
+
+-- one byte that is a flag
+abbrev pub flag_in : List ℕ → Option (Bool × List ℕ)
+flag_in bytes = byte_in bytes >>= λ b. flag_of b.0 >>= λ flag. Some (flag, b.1)
+
+-- four bytes, the highest first
+unfoldable pub u32_in : List ℕ → Option (ℕ × List ℕ)
+u32_in bytes = if nat_le 4 (length bytes) then Some (from_be_bytes w32 (take 4 bytes), drop 4 bytes) else None
+
+-- eight bytes, the highest first
+unfoldable pub u64_in : List ℕ → Option (ℕ × List ℕ)
+u64_in bytes = if nat_le 8 (length bytes) then Some (from_be_bytes w64 (take 8 bytes), drop 8 bytes) else None
+
+-- the same of a signed number, in two's complement
+abbrev pub i64_in : List ℕ → Option (ℤ × List ℕ)
+i64_in bytes = u64_in bytes >>= λ n. Some (cast_signed w64 n.0, n.1)
+
+-- a sequence number and its moment
+abbrev pub pair_in : List ℕ → Option ((ℕ × ℤ) × List ℕ)
+pair_in bytes = u64_in bytes >>= λ seq. i64_in seq.1 >>= λ moment. Some ((seq.0, moment.0), moment.1)

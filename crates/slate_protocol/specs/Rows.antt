@@ -1,0 +1,28 @@
+-- The row of a call: the next store call or the reply, from the facts of the party, the call, and the answers so far.
+use Rattle.std.specs.Prelude.{List, [], ◌∷◌}
+use Rattle.slate_store.specs.declared.store_answer.StoreAnswer.{StoreAnswer}
+use Rattle.slate_store.specs.declared.store_call.StoreCall.{StoreCall}
+use Rattle.slate_script.specs.declared.call.Call.{Call}
+use Rattle.slate_script.specs.declared.reply.Reply.{Reply}
+use Rattle.slate_protocol.specs.Phrases.{asks, goes}
+use Rattle.slate_protocol.specs.Calls.{Next, Go, Finish, begin, follow}
+use Rattle.slate_protocol.specs.declared.party.Facts.{Facts}
+
+-- where a call stands after these answers more
+abbrev pub after_answers : Facts → Next → List StoreAnswer → Next
+after_answers facts next [] = next
+after_answers facts (Finish reply) (a ∷ answers) = Finish reply
+after_answers facts (Go purpose position) (a ∷ answers) = after_answers facts (follow facts purpose (goes position a)) answers
+
+-- either the next store call, or the reply
+pub data Row : Type 0 where
+  Asks : StoreCall → Row
+  Replies : Reply → Row
+
+abbrev pub row_of : Next → Row
+row_of (Go purpose position) = Asks (asks position)
+row_of (Finish reply) = Replies reply
+
+-- the row of a call of a party with these facts, after these answers
+abbrev pub row : Facts → Call → List StoreAnswer → Row
+row facts call answers = row_of (after_answers facts (begin facts call) answers)

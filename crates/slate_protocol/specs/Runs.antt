@@ -1,0 +1,52 @@
+-- Runs of a list of events.
+use Rattle.std.specs.Prelude.{◌≡◌, ℕ, ◌+◌, List, [], ◌∷◌, ◌++◌, Option, Some, None}
+use Rattle.slate_ids.specs.declared.object_path.ObjectPath.TheVariants as paths
+use Rattle.slate_model.specs.Bytes.{manifest_bytes}
+use Rattle.slate_model.specs.Initial.{initial}
+use Rattle.slate_script.specs.declared.db_spec.DbSpec.{DbSpec}
+use Rattle.slate_script.specs.declared.event.Event.{Event}
+use Rattle.slate_script.specs.declared.entry.Entry.{Entry}
+use Rattle.slate_protocol.specs.World.{World, Done, happens}
+
+-- the state as a run of one database begins: its first manifest stands, with tag 1
+abbrev pub opening_of : DbSpec → World
+opening_of spec = record {
+  tallies = (spec.path, record { manifest = 1; compactions = 0 }) ∷ [];
+  deleted = 0;
+  store = record {
+    objects = (paths.Manifest spec.path 1, record { bytes = manifest_bytes spec.manifest; last_modified = spec.modified; e_tag = 1 }) ∷ [];
+    last_tag = 1;
+  };
+  parties = [];
+}
+
+-- a new database
+abbrev pub IsNew : DbSpec → Type 0
+IsNew spec = spec.manifest ≡ initial
+
+-- one new database
+abbrev pub IsOneNew : List DbSpec → Type 0
+IsOneNew (spec ∷ []) = IsNew spec
+IsOneNew _ = ⊥
+
+-- the entries so far, and the state after them
+pub record Course : Type 0 where
+  pub trail : List Entry
+  pub world : World
+
+abbrev pub Opens : List DbSpec → Course → Type 0
+Opens (spec ∷ []) course = course ≡ record { trail = []; world = opening_of spec }
+Opens _ course = ⊥
+
+-- a run: where it led, and the place of the first bad event
+pub record Ran : Type 0 where
+  pub course : Course
+  pub bad : Option ℕ
+
+abbrev pub going_on : Course → Done → Course
+going_on course done = record { trail = course.trail ++ done.entry ∷ []; world = done.world }
+
+-- the run of events, of which the first is at a place, up to the first bad one
+abbrev pub run : List Event → ℕ → Course → Ran
+run [] place course = record { course = course; bad = None }
+run (e ∷ es) place course = elim (happens course.world e) [ None ↦ record { course = course; bad = Some place } | Some done ↦ run es (place + 1) (going_on course done) ]

@@ -1,0 +1,181 @@
+-- The state of a cluster, and what an event does to it.
+use Rattle.std.specs.Prelude.{ℕ, ◌+◌, ℤ, Bool, true, false, not, ◌&&◌, ◌||◌, List, [], ◌∷◌, ◌++◌, Option, Some, None, is_some, is_none, length, nat_lt, max, min, if◌then◌else◌}
+use Rattle.std.specs.Map.{lookup, set_value}
+use Rattle.std.specs.BTreeMap.{is_at, insert_entry}
+use Rattle.std.specs.Ordering.{nat_cmp}
+use Rattle.std.specs.Cmp.Lexicographic.{slice_cmp}
+use Rattle.std.specs.declared.cmp.Ordering.{Ordering}
+use Rattle.slate_ids.specs.declared.object_path.ObjectPath.{ObjectPath}
+use Rattle.slate_ids.specs.declared.object_path.ObjectPath.TheVariants as paths
+use Rattle.slate_store.specs.Store.{Store, effect}
+use Rattle.slate_store.specs.declared.mark.Mark.{Mark}
+use Rattle.slate_store.specs.declared.store_call.StoreCall.{StoreCall}
+use Rattle.slate_store.specs.declared.store_call.StoreCall.TheVariants.{PutNew, Delete}
+use Rattle.slate_script.specs.declared.call.Call.{Call}
+use Rattle.slate_script.specs.declared.party_kind.PartyKind.{PartyKind}
+use Rattle.slate_script.specs.declared.event.Event.{Event}
+use Rattle.slate_script.specs.declared.event.Event.TheVariants.{Open, Start, Step}
+use Rattle.slate_script.specs.declared.entry.Entry.{Entry}
+use Rattle.slate_script.specs.declared.entry.Entry.TheVariants.{Opened, Started, Called, Idle}
+use Rattle.slate_script.specs.declared.reply.Reply.{Reply}
+use Rattle.slate_script.specs.declared.reply.Reply.TheVariants.{Epoch}
+use Rattle.slate_protocol.specs.Phrases.{asks, goes, is_due}
+use Rattle.slate_protocol.specs.Calls.{Next, Go, Finish, has_call, begin, follow}
+use Rattle.slate_protocol.specs.declared.party.Facts.{Facts}
+use Rattle.slate_protocol.specs.declared.party.Party.{Party}
+use Rattle.slate_protocol.specs.declared.party.Purpose.{Purpose}
+use Rattle.slate_protocol.specs.declared.party.State.{State}
+use Rattle.slate_protocol.specs.declared.party.State.TheVariants.{Resting, Busy}
+use Rattle.slate_protocol.specs.declared.position.Position.{Position}
+use Rattle.slate_protocol.specs.declared.tally.Tally.{Tally}
+
+-- the databases by path with their greatest committed numbers, how many deletes removed an object, the store, and the
+-- parties by number
+pub record World : Type 0 where
+  pub tallies : List (List ℕ × Tally)
+  pub deleted : ℕ
+  pub store : Store
+  pub parties : List (ℕ × Party)
+
+-- the order of databases: by the bytes of their paths
+abbrev pub db_cmp : List ℕ → List ℕ → Ordering
+db_cmp = slice_cmp nat_cmp
+
+abbrev pub tally_of : List ℕ → List (List ℕ × Tally) → Option Tally
+tally_of db tallies = lookup (is_at (db_cmp db)) tallies
+
+-- the party of a number
+abbrev pub party_of : ℕ → List (ℕ × Party) → Option Party
+party_of n parties = lookup (is_at (nat_cmp n)) parties
+
+-- the parties with another one in the place of the one of this number
+abbrev pub with_party : ℕ → Party → List (ℕ × Party) → List (ℕ × Party)
+with_party n party parties = set_value (is_at (nat_cmp n)) parties party
+
+-- ---- what a store call counts for
+
+abbrev pub raise_tally : Option Tally → List ℕ → (Tally → Tally) → List (List ℕ × Tally) → List (List ℕ × Tally)
+raise_tally None db f tallies = tallies
+raise_tally (Some tally) db f tallies = set_value (is_at (db_cmp db)) tallies (f tally)
+
+abbrev pub to_manifest : ℕ → Tally → Tally
+to_manifest n tally = record { manifest = max tally.manifest n; compactions = tally.compactions }
+
+abbrev pub to_record : ℕ → Tally → Tally
+to_record n tally = record { manifest = tally.manifest; compactions = max tally.compactions n }
+
+-- a new object was put at this path
+abbrev pub committed : ObjectPath → List (List ℕ × Tally) → List (List ℕ × Tally)
+committed (paths.Manifest db n) tallies = raise_tally (tally_of db tallies) db (to_manifest n) tallies
+committed (paths.Record db n) tallies = raise_tally (tally_of db tallies) db (to_record n) tallies
+committed _ tallies = tallies
+
+-- whether a write had its effect: it got a tag
+abbrev pub wrote : Store → Store → Bool
+wrote before now = nat_lt before.last_tag now.last_tag
+
+-- whether an object was removed
+abbrev pub lost_one : Store → Store → Bool
+lost_one before now = nat_lt (length now.objects) (length before.objects)
+
+-- the greatest committed numbers after a call
+abbrev pub tallied : StoreCall → Store → Store → List (List ℕ × Tally) → List (List ℕ × Tally)
+tallied (PutNew path bytes) before now tallies = if wrote before now then committed path tallies else tallies
+tallied _ before now tallies = tallies
+
+-- a count in 64 bits, which stops at its end
+abbrev pub one_more : ℕ → ℕ
+one_more n = min (n + 1) 18446744073709551615
+
+-- the count of deletes that removed an object
+abbrev pub counted : StoreCall → Store → Store → ℕ → ℕ
+counted (Delete path) before now deleted = if lost_one before now then one_more deleted else deleted
+counted _ before now deleted = deleted
+
+-- ---- what an event does
+
+-- what an event left: its entry, and the state after it
+pub record Done : Type 0 where
+  pub entry : Entry
+  pub world : World
+
+abbrev pub noted : ℕ → World → Done
+noted n w = record { entry = Idle n; world = w }
+
+abbrev pub epoch_after : Option ℕ → Reply → Option ℕ
+epoch_after epoch (Epoch e) = Some e
+epoch_after epoch _ = epoch
+
+-- the facts after a reply
+abbrev pub facts_after : Facts → Reply → Facts
+facts_after facts reply = record facts { epoch = epoch_after facts.epoch reply }
+
+-- the party where its call stands so
+abbrev pub settled : Facts → Next → Party
+settled facts (Go purpose position) = record { facts = facts; state = Busy purpose position }
+settled facts (Finish reply) = record { facts = facts_after facts reply; state = Resting }
+
+abbrev pub reply_of : Next → Option Reply
+reply_of (Go purpose position) = None
+reply_of (Finish reply) = Some reply
+
+-- a party that comes
+abbrev pub newcomer : PartyKind → List ℕ → Party
+newcomer kind db = record { facts = record { kind = kind; db = db; epoch = None }; state = Resting }
+
+-- the one store call of a step, which the position asks
+abbrev pub stepped : World → ℕ → Facts → Purpose → Position → ℤ → Mark → Done
+stepped w n facts purpose position moment mark =
+    let call = asks position in
+    let outcome = effect mark call moment w.store in
+    let next = follow facts purpose (goes position outcome.answer) in
+    record {
+      entry = Called n call moment mark outcome.answer (reply_of next);
+      world = record {
+        tallies = tallied call w.store outcome.store w.tallies;
+        deleted = counted call w.store outcome.store w.deleted;
+        store = outcome.store;
+        parties = with_party n (settled facts next) w.parties;
+      };
+    }
+
+-- a step of a party with no call, or in whose call none is due, is noted idle
+abbrev pub step_state : World → ℕ → Facts → State → ℤ → Mark → Done
+step_state w n facts Resting moment mark = noted n w
+step_state w n facts (Busy purpose position) moment mark = if is_due position then stepped w n facts purpose position moment mark else noted n w
+
+-- a start of a party that has a call is noted idle
+abbrev pub start_state : World → ℕ → Facts → State → Call → Done
+start_state w n facts Resting call =
+    let next = begin facts call in
+    record { entry = Started n (reply_of next); world = record w { parties = with_party n (settled facts next) w.parties } }
+start_state w n facts (Busy purpose position) call = noted n w
+
+abbrev pub open_at : World → ℕ → PartyKind → List ℕ → Option Party → Option Tally → Option Done
+open_at w n kind db None (Some tally) = Some (record { entry = Opened n; world = record w { parties = insert_entry nat_cmp w.parties n (newcomer kind db) } })
+open_at w n kind db _ _ = None
+
+abbrev pub start_at : World → ℕ → Call → Option Party → Option Done
+start_at w n call None = None
+start_at w n call (Some party) = if has_call party.facts.kind call then Some (start_state w n party.facts party.state call) else None
+
+abbrev pub step_at : World → ℕ → ℤ → Mark → Option Party → Option Done
+step_at w n moment mark None = None
+step_at w n moment mark (Some party) = Some (step_state w n party.facts party.state moment mark)
+
+-- what an event does; none where it is bad
+abbrev pub happens : World → Event → Option Done
+happens w (Open n kind db) = open_at w n kind db (party_of n w.parties) (tally_of db w.tallies)
+happens w (Start n call) = start_at w n call (party_of n w.parties)
+happens w (Step n moment mark) = step_at w n moment mark (party_of n w.parties)
+
+abbrev pub lacks_call : Call → Option Party → Bool
+lacks_call call None = true
+lacks_call call (Some party) = not (has_call party.facts.kind call)
+
+-- whether an event is bad: it opens a number that was opened before or an unknown database, names an unknown party, or
+-- starts a call that the party's kind lacks
+abbrev pub is_bad : World → Event → Bool
+is_bad w (Open n kind db) = is_some (party_of n w.parties) || is_none (tally_of db w.tallies)
+is_bad w (Start n call) = lacks_call call (party_of n w.parties)
+is_bad w (Step n moment mark) = is_none (party_of n w.parties)

@@ -1,0 +1,5 @@
+pub mod Fields
+pub mod Words
+pub mod Events
+pub mod Scripts
+pub mod Lines

@@ -1,0 +1,105 @@
+-- The script that bytes stand for, or the first place at which they stand for none.
+use Rattle.std.specs.Prelude.{◌≡◌, ℕ, suc, ◌+◌, ℤ, pos, nat_lt, Bool, true, false, List, [], ◌∷◌, ◌++◌, Option, Some, None, Result, Ok, Err, codes, if◌then◌else◌}
+use Rattle.std.specs.Str.{is_utf8}
+use Rattle.serde_json.specs.Data.{Data, Items, no_items, item}
+use Rattle.serde_json.specs.Find.{as_array}
+use Rattle.serde_json.specs.Read.{read}
+use Rattle.slate_script.specs.Fields.{◌>>=◌, only, required, db_path_in}
+use Rattle.slate_script.specs.declared.event.Event.{Event}
+use Rattle.slate_script.specs.declared.read_event.Written.{Written}
+use Rattle.slate_script.specs.declared.db_spec.DbSpec.{DbSpec}
+use Rattle.slate_script.specs.declared.script.Script.{Script}
+use Rattle.slate_script.specs.declared.script.ScriptPlace.{ScriptPlace}
+use Rattle.slate_script.specs.declared.script.ScriptPlace.TheVariants as place
+use Rattle.slate_script.specs.declared.script.ScriptError.{ScriptError}
+use Rattle.slate_script.specs.declared.script.ScriptError.TheVariants as errors
+use Rattle.slate_model.specs.Initial.{initial}
+use Rattle.slate_script.specs.Events.{written_in, expand, count_of}
+
+-- A reader answers what the bytes stand for, or the first place, unless memory runs out.
+abbrev pub Fails : {Y : Type 0} → ScriptError → Result Y ScriptPlace → Type 0
+Fails errors.OutOfMemory read = Unit {0}
+Fails (errors.BadScript p) read = read ≡ Err p
+
+abbrev pub Reads : {Y : Type 0} → Result Y ScriptError → Result Y ScriptPlace → Type 0
+Reads (Ok x) read = read ≡ Ok x
+Reads (Err e) read = Fails e read
+
+abbrev pub and_then : {A B : Type 0} → Result A ScriptPlace → (A → Result B ScriptPlace) → Result B ScriptPlace
+and_then (Ok x) f = f x
+and_then (Err p) f = Err p
+
+-- what an item stands for, or its place
+abbrev pub at_place : {X : Type 0} → ScriptPlace → Option X → Result X ScriptPlace
+at_place p None = Err p
+at_place p (Some x) = Ok x
+
+abbrev pub with_front : {X : Type 0} → List X → Result (List X) ScriptPlace → Result (List X) ScriptPlace
+with_front front read = and_then read (λ xs. Ok (front ++ xs))
+
+-- where a database, or an event, is no script: the finer places come with several databases
+abbrev pub database_place : ℕ → ScriptPlace
+database_place i = place.Top
+
+abbrev pub event_place : ℕ → ScriptPlace
+event_place i = place.Top
+
+-- ---- databases
+
+unfoldable pub database_in : Data → Option DbSpec
+database_in d = do
+  _ ← only (codes "path" ∷ []) d
+  path ← required db_path_in (codes "path") d
+  Some (record { path = path; manifest = initial; modified = pos 0 })
+
+-- the databases of the items from place i on
+abbrev pub databases_from : ℕ → Items → Result (List DbSpec) ScriptPlace
+databases_from i no_items = Ok []
+databases_from i (item d ds) = and_then (at_place (database_place i) (database_in d)) (λ db. with_front (db ∷ []) (databases_from (i + 1) ds))
+
+-- ---- events
+
+abbrev pub event_limit : ℕ
+event_limit = 1000000
+
+-- An item's events, unless they go past the limit: then the event at the limit is no script.
+abbrev pub fitting : ℕ → Written → Result Written ScriptPlace
+fitting i w = if nat_lt event_limit (i + count_of w) then Err (event_place event_limit) else Ok w
+
+abbrev pub written_at : ℕ → Data → Result Written ScriptPlace
+written_at i d = and_then (at_place (event_place i) (written_in d)) (fitting i)
+
+-- the events of the items, of which the first is at place i
+abbrev pub events_from : ℕ → Items → Result (List Event) ScriptPlace
+events_from i no_items = Ok []
+events_from i (item d ds) = and_then (written_at i d) (λ w. with_front (expand w) (events_from (i + count_of w) ds))
+
+-- ---- the whole
+
+abbrev pub array_in : List ℕ → Data → Option Items
+array_in name d = required as_array name d
+
+unfoldable pub top_in : Data → Option (Items × Items)
+top_in d = do
+  _ ← only (codes "databases" ∷ codes "events" ∷ []) d
+  ds ← array_in (codes "databases") d
+  es ← array_in (codes "events") d
+  Some (ds, es)
+
+-- a script has one database
+abbrev pub only_one : List DbSpec → Result (List DbSpec) ScriptPlace
+only_one (d ∷ []) = Ok (d ∷ [])
+only_one _ = Err place.Top
+
+abbrev pub parts_in : Items × Items → Result Script ScriptPlace
+parts_in p = and_then (and_then (databases_from 0 p.0) only_one) (λ ds. and_then (events_from 0 p.1) (λ es. Ok (record { databases = ds; events = es })))
+
+unfoldable pub script_in : Data → Result Script ScriptPlace
+script_in d = and_then (at_place place.Top (top_in d)) parts_in
+
+-- the JSON value of the bytes
+unfoldable pub json_of : List ℕ → Option Data
+json_of bytes = if is_utf8 bytes then read bytes else None
+
+unfoldable pub script_of : List ℕ → Result Script ScriptPlace
+script_of bytes = and_then (at_place place.Json (json_of bytes)) script_in

@@ -1,0 +1,26 @@
+-- Words of a script.
+use Rattle.std.specs.Prelude.{ℕ, List, [], ◌∷◌, Option, Some, None, codes, if◌then◌else◌, bytes_eq}
+use Rattle.serde_json.specs.Data.{Data}
+use Rattle.serde_json.specs.Find.{as_str}
+use Rattle.slate_script.specs.Fields.{◌>>=◌}
+use Rattle.slate_script.specs.declared.party_kind.PartyKind.{PartyKind}
+use Rattle.slate_script.specs.declared.party_kind.PartyKind.TheVariants as kind
+use Rattle.slate_script.specs.declared.call.Call.{Call}
+use Rattle.slate_script.specs.declared.call.Call.TheVariants as call
+
+-- a word of a table of words
+abbrev pub word_in : {X : Type 0} → List (List ℕ × X) → List ℕ → Option X
+word_in [] s = None
+word_in (w ∷ ws) s = if bytes_eq s w.0 then Some w.1 else word_in ws s
+
+unfoldable pub kind_word : List ℕ → Option PartyKind
+kind_word s = word_in ((codes "writer", kind.Writer) ∷ []) s
+
+abbrev pub kind_in : Data → Option PartyKind
+kind_in d = as_str d >>= kind_word
+
+unfoldable pub call_word : List ℕ → Option Call
+call_word s = word_in ((codes "open_writer", call.OpenWriter) ∷ []) s
+
+abbrev pub call_in : Data → Option Call
+call_in d = as_str d >>= call_word

@@ -1,0 +1,73 @@
+//! Entries of a trail.
+ghost use Rattle.std.specs.Prelude.{◌≡◌, IfOk};
+
+use crate::reply::Reply;
+use slate_ids::{Millis, OutOfMemory};
+use slate_store::{Mark, StoreAnswer, StoreCall};
+use std::alloc::Global;
+
+/// What became of an event.
+#[derive(Debug, Drop)]
+pub enum Entry {
+    Opened {
+        party: u32,
+    },
+    /// A call was started. A call that makes no store call has its reply at once.
+    Started {
+        party: u32,
+        reply: Option<Reply>,
+    },
+    /// One store call was made, and with the last one of a call comes its reply.
+    Called {
+        party: u32,
+        call: StoreCall,
+        moment: Millis,
+        mark: Mark,
+        answer: StoreAnswer,
+        reply: Option<Reply>,
+    },
+    /// Nothing happened: a step of a party that has no call, or a start on one that has.
+    Idle {
+        party: u32,
+    },
+}
+
+fn copy_reply(alloc: Global, reply: &Option<Reply>) -> Result<Option<Reply>, OutOfMemory>
+    ensures { IfOk result (λ copied. copied ≡ reply.now) }
+{
+    match reply {
+        None => Ok(None),
+        Some(reply) => Ok(Some(reply.copy(alloc)?)),
+    }
+}
+
+impl Entry {
+    /// An equal entry.
+    pub fn copy(&self, alloc: Global) -> Result<Entry, OutOfMemory>
+        ensures { IfOk result (λ copied. copied ≡ self.now) }
+    {
+        Ok(match self {
+            Entry::Opened { party } => Entry::Opened { party: *party },
+            Entry::Started { party, reply } => Entry::Started {
+                party: *party,
+                reply: copy_reply(alloc, reply)?,
+            },
+            Entry::Called {
+                party,
+                call,
+                moment,
+                mark,
+                answer,
+                reply,
+            } => Entry::Called {
+                party: *party,
+                call: call.copy(alloc)?,
+                moment: *moment,
+                mark: *mark,
+                answer: answer.copy(alloc)?,
+                reply: copy_reply(alloc, reply)?,
+            },
+            Entry::Idle { party } => Entry::Idle { party: *party },
+        })
+    }
+}

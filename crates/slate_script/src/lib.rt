@@ -1,0 +1,29 @@
+//! Scripts and reports: what bytes stand for, and the lines that are written of a run.
+#![tactic(auto)]
+
+mod call;
+mod db_spec;
+mod entry;
+mod event;
+mod fields;
+mod party_kind;
+mod read_database;
+mod read_event;
+mod reading;
+mod refusal;
+mod reply;
+mod report_lines;
+mod script;
+mod store_lines;
+mod values;
+
+pub use call::Call;
+pub use db_spec::DbSpec;
+pub use entry::Entry;
+pub use event::Event;
+pub use party_kind::PartyKind;
+pub use reading::read_script;
+pub use reply::Reply;
+pub use report_lines::{entry_line, push_entries, push_entry, push_left};
+pub use script::{Script, ScriptError, ScriptPlace};
+pub use store_lines::push_path;

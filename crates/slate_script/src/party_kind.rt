@@ -1,0 +1,8 @@
+//! Kinds of parties.
+
+/// What a party is, which decides the calls that it has.
+#[derive(Clone, Copy, Debug, Drop, PartialEq, Eq)]
+pub enum PartyKind {
+    /// It opens a database and raises its writer epoch.
+    Writer,
+}

@@ -1,0 +1,132 @@
+//! The events that an item of a script stands for.
+ghost use Rattle.std.specs.Prelude.{◌≡◌, Some, None};
+ghost use Rattle.serde_json.specs.View.{view};
+ghost use Rattle.slate_script.specs.Fields.{Gives};
+ghost use Rattle.slate_script.specs.Words.{kind_word, call_word};
+ghost use Rattle.slate_script.specs.Events.{open_in, start_in, step_in, written_in};
+
+use crate::call::Call;
+use crate::event::Event;
+use crate::fields::{defaulted, only, required};
+use crate::party_kind::PartyKind;
+use crate::refusal::Refusal;
+use crate::values::FromJson;
+use serde_json::Value;
+use slate_ids::Millis;
+use std::alloc::Global;
+
+/// An item of a script: a step may stand for several.
+#[derive(Clone, Copy, Debug)]
+pub(crate) enum Written {
+    Once(Event),
+    Steps {
+        party: u32,
+        moment: Millis,
+        times: u32,
+    },
+}
+
+#[tactic(auto, unfolding(crate::specs::Words::kind_word))]
+fn kind_of(text: &str) -> Option<PartyKind>
+    ensures { result ≡ kind_word text.now }
+{
+    match text {
+        "writer" => Some(PartyKind::Writer),
+        _ => None,
+    }
+}
+
+impl FromJson for PartyKind {
+    ghost use Rattle.slate_script.specs.Words.{kind_in};
+
+    ghost reads = { kind_in };
+
+    fn from_json(_alloc: Global, d: &Value) -> Result<PartyKind, Refusal> {
+        match d.as_str() {
+            Some(text) => match kind_of(text) {
+                Some(kind) => Ok(kind),
+                None => Err(Refusal::Malformed),
+            },
+            None => Err(Refusal::Malformed),
+        }
+    }
+}
+
+#[tactic(auto, unfolding(crate::specs::Words::call_word))]
+fn call_of(text: &str) -> Option<Call>
+    ensures { result ≡ call_word text.now }
+{
+    match text {
+        "open_writer" => Some(Call::OpenWriter),
+        _ => None,
+    }
+}
+
+impl FromJson for Call {
+    ghost use Rattle.slate_script.specs.Words.{call_in};
+
+    ghost reads = { call_in };
+
+    fn from_json(_alloc: Global, d: &Value) -> Result<Call, Refusal> {
+        match d.as_str() {
+            Some(text) => match call_of(text) {
+                Some(call) => Ok(call),
+                None => Err(Refusal::Malformed),
+            },
+            None => Err(Refusal::Malformed),
+        }
+    }
+}
+
+#[tactic(auto, unfolding(crate::specs::Events::open_in))]
+fn open(alloc: Global, d: &Value) -> Result<Written, Refusal>
+    ensures { Gives result (open_in (view d.now)) }
+{
+    only(d, &["open", "kind", "db"])?;
+    let party = required(alloc, d, "open")?;
+    let kind = required(alloc, d, "kind")?;
+    let db = required(alloc, d, "db")?;
+    Ok(Written::Once(Event::Open { party, kind, db }))
+}
+
+#[tactic(auto, unfolding(crate::specs::Events::start_in))]
+fn start(alloc: Global, d: &Value) -> Result<Written, Refusal>
+    ensures { Gives result (start_in (view d.now)) }
+{
+    only(d, &["start", "call"])?;
+    let party = required(alloc, d, "start")?;
+    let call = required(alloc, d, "call")?;
+    Ok(Written::Once(Event::Start { party, call }))
+}
+
+#[tactic(auto, unfolding(crate::specs::Events::step_in))]
+fn step(alloc: Global, d: &Value) -> Result<Written, Refusal>
+    ensures { Gives result (step_in (view d.now)) }
+{
+    only(d, &["step", "at", "times"])?;
+    let party = required(alloc, d, "step")?;
+    let moment = required(alloc, d, "at")?;
+    let times: u32 = defaulted(alloc, d, "times", 1)?;
+    if times < 1 || times > 1000 {
+        return Err(Refusal::Malformed);
+    }
+    Ok(Written::Steps {
+        party,
+        moment,
+        times,
+    })
+}
+
+/// The events that an item of a script stands for.
+#[tactic(auto, unfolding(crate::specs::Events::written_in))]
+pub(crate) fn read_event(alloc: Global, d: &Value) -> Result<Written, Refusal>
+    ensures { Gives result (written_in (view d.now)) }
+{
+    if d.get("open").is_some() {
+        open(alloc, d)
+    } else if d.get("start").is_some() {
+        start(alloc, d)
+    } else {
+        step(alloc, d)
+    }
+}

@@ -1,0 +1,186 @@
+//! The script that bytes stand for.
+ghost use Rattle.std.specs.Prelude.{◌≡◌, ◌≤◌, ◌<◌, ◌+◌, ◌++◌, IfOk, OnOk, OnErr, length, Option, Some, None, option_map};
+ghost use Rattle.serde_json.specs.Read.{read};
+ghost use Rattle.serde_json.specs.View.{view, items_view};
+ghost use Rattle.slate_script.specs.Fields.{Gives};
+ghost use Rattle.slate_script.specs.Events.{expand, count_of};
+ghost use Rattle.slate_script.specs.Scripts.{Reads, at_place, database_in, databases_from, written_at, events_from, event_limit, array_in, top_in, parts_in, script_in, json_of, script_of};
+
+use crate::db_spec::DbSpec;
+use crate::event::Event;
+use crate::fields::only;
+use crate::read_database::read_database;
+use crate::read_event::{Written, read_event};
+use crate::refusal::Refusal;
+use crate::script::{Script, ScriptError, ScriptPlace};
+use serde_json::Value;
+use slate_ids::{Listed, OutOfMemory};
+use slate_store::Mark;
+use std::alloc::Global;
+use std::str;
+
+const EVENT_LIMIT: u64 = 1_000_000;
+
+// Where a database is no script. The finer places come with several databases.
+fn database_place(_i: usize) -> ScriptPlace
+    ensures { result ≡ Rattle.slate_script.specs.Scripts.database_place _i }
+{
+    ScriptPlace::Top
+}
+
+// Where an event is no script.
+fn event_place(_i: u64) -> ScriptPlace
+    ensures { result ≡ Rattle.slate_script.specs.Scripts.event_place _i }
+{
+    ScriptPlace::Top
+}
+
+// What was read of an item, or its place.
+fn at<X: Drop>(place: ScriptPlace, read: Result<X, Refusal>) -> Result<X, ScriptError>
+    ensures { (o : Option X) → Gives read o → Reads result (at_place place o) }
+{
+    match read {
+        Ok(x) => Ok(x),
+        Err(Refusal::Malformed) => Err(ScriptError::BadScript(place)),
+        Err(Refusal::OutOfMemory) => Err(ScriptError::OutOfMemory),
+    }
+}
+
+fn database(alloc: Global, i: usize, value: &Value) -> Result<DbSpec, ScriptError>
+    ensures { Reads result (at_place (Rattle.slate_script.specs.Scripts.database_place i) (database_in (view value.now))) }
+{
+    at(database_place(i), read_database(alloc, value))
+}
+
+fn databases(alloc: Global, values: &[Value]) -> Result<Listed<DbSpec>, ScriptError>
+    ensures { Reads result (databases_from 0 (items_view values.now)) }
+{
+    let mut databases = Listed::new(alloc);
+    for (i, value) in values.iter().enumerate() {
+        let db = database(alloc, i, value)?;
+        databases.push(db)?;
+    }
+    Ok(databases)
+}
+
+// A script has one database.
+fn only_one(databases: Listed<DbSpec>) -> Result<Listed<DbSpec>, ScriptError>
+    ensures { Reads result (Rattle.slate_script.specs.Scripts.only_one databases) }
+{
+    match databases.as_slice() {
+        [_] => Ok(databases),
+        _ => Err(ScriptError::BadScript(ScriptPlace::Top)),
+    }
+}
+
+fn written_event(alloc: Global, i: u64, value: &Value) -> Result<Written, ScriptError>
+    requires { i ≤ event_limit }
+    ensures value { Reads result (written_at i (view value.now)) }
+    ensures fits { IfOk result (λ w. i + count_of w ≤ event_limit) }
+{
+    let written = at(event_place(i), read_event(alloc, value))?;
+    let count = match &written {
+        Written::Once(_) => 1,
+        Written::Steps { times, .. } => *times as u64,
+    };
+    if i + count > EVENT_LIMIT {
+        return Err(ScriptError::BadScript(event_place(EVENT_LIMIT)));
+    }
+    Ok(written)
+}
+
+fn push_written(events: &mut Listed<Event>, written: Written) -> Result<(), OutOfMemory>
+    ensures { OnOk result (events.new ≡ events.old ++ expand written) }
+{
+    match written {
+        Written::Once(event) => events.push(event),
+        Written::Steps {
+            party,
+            moment,
+            times,
+        } => {
+            for _ in 0..times {
+                events.push(Event::Step {
+                    party,
+                    moment,
+                    mark: Mark::Good,
+                })?;
+            }
+            Ok(())
+        }
+    }
+}
+
+fn events(alloc: Global, values: &[Value]) -> Result<Listed<Event>, ScriptError>
+    ensures { Reads result (events_from 0 (items_view values.now)) }
+{
+    let mut events = Listed::new(alloc);
+    for value in values {
+        let place = events.as_slice().len() as u64;
+        let written = written_event(alloc, place, value)?;
+        push_written(&mut events, written)?;
+    }
+    Ok(events)
+}
+
+fn array_of<'a>(d: &'a Value, name: &str) -> Option<&'a Vec<Value>>
+    ensures { option_map (λ v. items_view v.now.items) result
+        ≡ array_in name.now (view d.now) }
+{
+    d.get(name)?.as_array()
+}
+
+#[tactic(auto, unfolding(crate::specs::Scripts::top_in, crate::specs::Scripts::script_in))]
+fn script(alloc: Global, d: &Value) -> Result<Script, ScriptError>
+    ensures { Reads result (script_in (view d.now)) }
+{
+    at(ScriptPlace::Top, only(d, &["databases", "events"]))?;
+    let (Some(database_values), Some(event_values)) = (
+        array_of(d, "databases"),
+        array_of(d, "events"),
+    ) else {
+        return Err(ScriptError::BadScript(ScriptPlace::Top));
+    };
+    let databases = only_one(databases(alloc, database_values)?)?;
+    let events = events(alloc, event_values)?;
+    Ok(Script { databases, events })
+}
+
+// The JSON value of the text.
+fn json_text(alloc: Global, text: &str) -> Result<Value, Refusal>
+    ensures ok { IfOk result (λ v. read text.now ≡ Some (view v)) }
+    ensures malformed { result ≡ Err Refusal.Malformed → read text.now ≡ None }
+{
+    match Value::from_str(alloc, text) {
+        Ok(value) => Ok(value),
+        Err(e) => if e.is_memory() {
+            Err(Refusal::OutOfMemory)
+        } else {
+            Err(Refusal::Malformed)
+        },
+    }
+}
+
+// The JSON value of the bytes.
+fn json(alloc: Global, bytes: &[u8]) -> Result<Value, Refusal>
+    ensures ok { IfOk result (λ v. json_of bytes.now ≡ Some (view v)) }
+    ensures malformed { result ≡ Err Refusal.Malformed → json_of bytes.now ≡ None }
+{
+    match str::from_utf8(bytes) {
+        Ok(text) => json_text(alloc, text),
+        Err(_) => Err(Refusal::Malformed),
+    }
+}
+
+/// The script of the bytes, or the first place at which they are none.
+#[tactic(auto, unfolding(crate::specs::Scripts::script_of))]
+pub fn read_script(alloc: Global, bytes: &[u8]) -> Result<Script, ScriptError>
+    ensures { Reads result (script_of bytes.now) }
+{
+    let value = match json(alloc, bytes) {
+        Ok(value) => value,
+        Err(Refusal::Malformed) => return Err(ScriptError::BadScript(ScriptPlace::Json)),
+        Err(Refusal::OutOfMemory) => return Err(ScriptError::OutOfMemory),
+    };
+    script(alloc, &value)
+}

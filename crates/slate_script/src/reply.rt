@@ -1,0 +1,26 @@
+//! Replies of calls.
+ghost use Rattle.std.specs.Prelude.{◌≡◌, IfOk};
+
+use slate_ids::{OutOfMemory, SlateDBError};
+use std::alloc::Global;
+
+/// What a call of a party ends with.
+#[derive(Debug, Drop)]
+pub enum Reply {
+    /// The epoch that an open committed.
+    Epoch(u64),
+    /// The call was refused.
+    Refused(SlateDBError),
+}
+
+impl Reply {
+    /// An equal reply.
+    pub fn copy(&self, alloc: Global) -> Result<Reply, OutOfMemory>
+        ensures { IfOk result (λ copied. copied ≡ self.now) }
+    {
+        Ok(match self {
+            Reply::Epoch(n) => Reply::Epoch(*n),
+            Reply::Refused(refusal) => Reply::Refused(refusal.copy(alloc)?),
+        })
+    }
+}

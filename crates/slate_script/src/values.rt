@@ -1,0 +1,58 @@
+//! JSON values that stand for plain values.
+ghost use Rattle.std.specs.Prelude.{◌≡◌, Option};
+ghost use Rattle.serde_json.specs.Data.{Data};
+ghost use Rattle.serde_json.specs.View.{view};
+ghost use Rattle.slate_script.specs.Fields.{Gives, u32_in, i64_in, db_path_in};
+
+use crate::refusal::Refusal;
+use serde_json::Value;
+use slate_ids::DbPath;
+use std::alloc::Global;
+
+/// What a JSON value may stand for.
+pub(crate) trait FromJson: Drop {
+    /// What it stands for, where it does.
+    ghost reads: { Data → Option Self };
+
+    /// Reads it.
+    fn from_json(alloc: Global, value: &Value) -> Result<Self, Refusal>
+    where
+        Self: Sized,
+        ensures { Gives result (reads (view value.now)) };
+}
+
+impl FromJson for u32 {
+    ghost reads = { u32_in };
+
+    fn from_json(_alloc: Global, value: &Value) -> Result<u32, Refusal> {
+        match value.as_u64() {
+            Some(n) if n < 1 << 32 => Ok(n as u32),
+            _ => Err(Refusal::Malformed),
+        }
+    }
+}
+
+impl FromJson for i64 {
+    ghost reads = { i64_in };
+
+    fn from_json(_alloc: Global, value: &Value) -> Result<i64, Refusal> {
+        match value.as_i64() {
+            Some(n) => Ok(n),
+            None => Err(Refusal::Malformed),
+        }
+    }
+}
+
+impl FromJson for DbPath {
+    ghost reads = { db_path_in };
+
+    fn from_json(_alloc: Global, value: &Value) -> Result<DbPath, Refusal> {
+        match value.as_str() {
+            Some(text) => match DbPath::from_text(text)? {
+                Some(path) => Ok(path),
+                None => Err(Refusal::Malformed),
+            },
+            None => Err(Refusal::Malformed),
+        }
+    }
+}
