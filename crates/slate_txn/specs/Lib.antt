@@ -12,3 +12,11 @@ pub mod Versions
 pub mod Commit
 pub mod Raise
 pub mod Holder
+pub mod Committing
+pub mod Updating
+pub mod Loading
+pub mod Apply
+pub mod ApplyRuns
+pub mod FencedHolder
+pub mod Fence
+pub mod Initing

@@ -1,6 +1,6 @@
 -- From how a machine goes on to what its step does.
 use Rattle.std.specs.Prelude.{◌≡◌, ℤ, Bool, true, false, Option, Some, None, refl}
-use Rattle.std.proofs.Common.{inr, subst, ◌∙◌}
+use Rattle.std.proofs.Common.{inl, inr, subst, ◌∙◌}
 use Rattle.slate_ids.specs.Answers.{OrMemory-map}
 use Rattle.slate_store.specs.Store.{Store}
 use Rattle.slate_store.specs.Calls.{Told, Makes, contents_after, moment_of}
@@ -56,3 +56,14 @@ goes_held wanted moment from to same reading makes Again h = tt
 goes_held {old = old} {new = new} {answer = answer} wanted moment from to same reading makes (Done r) h = λ out.
     let here : Makes old new wanted (moment_of wanted moment) answer = subst (λ (c : StoreCall). Makes old new c (moment_of c moment) answer) same makes in
     record { kept = h out; made = record { contents = reads_keep reading here; calls = inr (answer, here) } }
+
+-- the same of a machine that runs out of memory only after a call that reads
+pub steps_where : {P R : Type 0} {old new : Told} {call : StoreCall} {answer : StoreAnswer} (wanted : StoreCall) (moment : ℤ) (goes : StoreAnswer → Goes P R) (from to : P)
+    → call ≡ wanted → Makes old new call (moment_of call moment) answer → (step : Step R) → GoesOn (goes answer) from to step → WhereOut step (is_reading wanted ≡ true) → Steps old new wanted moment goes from to step
+steps_where {old = old} {new = new} {answer = answer} wanted moment goes from to same makes Again h reading =
+    record { answer = answer; makes = subst (λ (c : StoreCall). Makes old new c (moment_of c moment) answer) same makes; gives = h }
+steps_where {old = old} {new = new} {answer = answer} wanted moment goes from to same makes (Done r) (inl gives) reading =
+    inl (record { answer = answer; makes = subst (λ (c : StoreCall). Makes old new c (moment_of c moment) answer) same makes; gives = gives })
+steps_where {old = old} {new = new} {answer = answer} wanted moment goes from to same makes (Done r) (inr m) reading =
+    let here : Makes old new wanted (moment_of wanted moment) answer = subst (λ (c : StoreCall). Makes old new c (moment_of c moment) answer) same makes in
+    inr (m.0, record { kept = m.1; made = record { contents = reads_keep (reading m.0) here; calls = inr (answer, here) } })

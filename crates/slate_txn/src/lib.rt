@@ -1,8 +1,14 @@
 //! The versioned log, over any codec, rules and store.
 #![tactic(auto)]
 
+mod apply;
 mod boundary;
+mod change;
 mod commit;
+mod committing;
+mod fenced;
+mod init;
+mod load;
 mod log_kind;
 mod raise;
 mod ran_out;
@@ -13,9 +19,15 @@ mod rules;
 mod sequenced;
 mod stored;
 mod try_read;
+mod update;
 mod versions;
 
+pub use apply::ApplyPhase;
+pub use change::{Change, NextEpoch};
 pub use commit::{CommitPhase, prepare};
+pub use fenced::Fenced;
+pub use init::InitMachine;
+pub use load::LoadMachine;
 pub use log_kind::LogKind;
 pub use raise::prepare_raise;
 pub use read::ReadPhase;
@@ -24,4 +36,5 @@ pub use rules::Rules;
 pub use sequenced::Sequenced;
 pub use stored::{DirtyObject, Stored};
 pub use try_read::TryReadPhase;
+pub use update::UpdateMachine;
 pub use versions::ListPhase;

@@ -1,0 +1,31 @@
+use Rattle.slate_ids.specs.Answers.{OrMemory-map}
+use Rattle.slate_store.specs.Runs.{begins, goes_further, starts_again, gives_up, done_with}
+use Rattle.slate_txn.specs.ApplyRuns.{putting_due}
+use Rattle.std.proofs.Common.{arith, sym, ◌∙◌, inl, w64}
+use Rattle.std.proofs.lemmas.Int.{to_z-of_z}
+use Rattle.slate_txn.proofs.stored.Stored.drive.Goals as goal
+
+pub loop-result-init : goal.loop-result-init
+loop-result-init g c = record { running = begins _ _ _ _ _ _ _ c.requires.some; due = putting_due c.args.commit c.requires.putting }
+
+pub returns-in-Done : goal.returns-in-Done
+returns-in-Done g c =
+    let ran = done_with c.loop-result.invariant.running (g.S.ObjectStore.told c.next.new.store) (c.next.new.self, c.next.new.holder) c.in-Done.result c.in-Done.ensures.steps in
+    OrMemory-map c.in-Done.result (λ began. (c.next.new.self, began)) (λ done. (c.next.new.self, done)) (rw (to_z-of_z w64 c.args.moment c.ranges.moment) at ran)
+
+pub returns-then-left-eq1 : goal.returns-then-left-eq1
+returns-then-left-eq1 g c =
+    let ran = gives_up c.loop-result.invariant.running c.in-Again.ensures.steps (sym c.is_start.ensures ∙ c.if-is_start.true) c.if-left-eq1.true in
+    inl (c.next.new.self, rw (to_z-of_z w64 c.args.moment c.ranges.moment) at ran)
+
+pub loop-result-preserved-then-is_start : goal.loop-result-preserved-then-is_start
+loop-result-preserved-then-is_start g c = record {
+  running = starts_again c.loop-result.invariant.running c.in-Again.ensures.steps (sym c.is_start.ensures ∙ c.if-is_start.true) (omega (arith, c.loop-result.invariant.running.more));
+  due = c.in-Again.ensures.due;
+}
+
+pub loop-result-preserved : goal.loop-result-preserved
+loop-result-preserved g c = record {
+  running = goes_further c.loop-result.invariant.running c.in-Again.ensures.steps (sym c.is_start.ensures ∙ c.if-is_start.false);
+  due = c.in-Again.ensures.due;
+}

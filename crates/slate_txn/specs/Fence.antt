@@ -1,0 +1,28 @@
+-- A fenced holder is made by the commit of the next epoch.
+use Rattle.std.specs.Prelude.{◌≡◌, ℕ, ℤ, Bool, true, false, List, Option, Result, Ok, Err}
+use Rattle.slate_ids.specs.declared.error.SlateDBError.{SlateDBError}
+use Rattle.slate_store.specs.Calls.{Told}
+use Rattle.slate_txn.specs.Apply.{Ways, Applies}
+use Rattle.slate_txn.specs.FencedHolder.{FencedHolder, fenced_at}
+use Rattle.slate_txn.specs.Holder.{Holder}
+use Rattle.slate_txn.specs.Raise.{next_epoch}
+use Rattle.slate_txn.specs.declared.right.Right.{Right}
+use Rattle.slate_txn.specs.declared.right.Right.TheVariants.{Plain}
+
+-- the raise of the epoch, as the change of an apply
+abbrev pub raising : {T C R E : Type 0} → (C → List ℕ → Result T SlateDBError) → (C → T → Result (List ℕ) SlateDBError) → (R → ℕ → T → T → Right → Option SlateDBError) → (E → T → ℕ) → (E → T → ℕ → T) → E → Ways T C R
+raising decoded encoded refusal epoch with_epoch epochs = record { decoded = decoded; encoded = encoded; refusal = refusal; changed = next_epoch (epoch epochs) (with_epoch epochs); right = Plain }
+
+abbrev pub fenced_of : {T C R E : Type 0} → (E → T → ℕ) → E → Holder T C R → Result (Unit {0}) SlateDBError → Result (FencedHolder T C R E) SlateDBError
+fenced_of epoch epochs holder (Ok u) = Ok (fenced_at epoch holder epochs)
+fenced_of epoch epochs holder (Err e) = Err e
+
+-- the raise was applied, and the holder has the epoch of the value that it holds then
+pub record FencedBy {T C R E : Type 0} (epoch : E → T → ℕ) (ways : Ways T C R) (moment : ℤ) (tries : ℕ) (old new : Told) (holder : Holder T C R) (epochs : E) (result : Result (FencedHolder T C R E) SlateDBError) : Type 0 where
+  pub to : Holder T C R
+  pub reply : Result (Unit {0}) SlateDBError
+  pub applies : Applies ways moment tries old new holder to reply
+  pub same : fenced_of epoch epochs to reply ≡ result
+
+abbrev pub fenced_with : {T C R E : Type 0} → Holder T C R → E → ℕ → Result (FencedHolder T C R E) SlateDBError
+fenced_with holder epochs epoch = Ok (record { holder = holder; epochs = epochs; epoch = epoch })

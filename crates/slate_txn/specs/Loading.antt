@@ -1,0 +1,54 @@
+-- Loading a holder of the latest version.
+use Rattle.std.specs.Prelude.{◌≡◌, ℕ, ℤ, Bool, true, false, List, Option, Some, None, Result, Ok, Err, refl}
+use Rattle.std.proofs.Common.{inr, ap}
+use Rattle.slate_ids.specs.declared.error.SlateDBError.{SlateDBError}
+use Rattle.slate_ids.specs.declared.error.SlateDBError.TheVariants.{LatestTransactionalObjectVersionMissing, OutOfMemory}
+use Rattle.slate_store.specs.Calls.{Told}
+use Rattle.slate_store.specs.Machines.{Goes, Stay, End, Steps, Held}
+use Rattle.slate_store.specs.declared.step.Step.{Step}
+use Rattle.slate_store.specs.declared.step.Step.TheVariants.{Again, Done}
+use Rattle.slate_store.specs.declared.store_answer.StoreAnswer.{StoreAnswer}
+use Rattle.slate_store.specs.declared.store_call.StoreCall.{StoreCall}
+use Rattle.slate_txn.specs.Due.{WhereOut}
+use Rattle.slate_txn.specs.Holder.{Holder}
+use Rattle.slate_txn.specs.Read.{read_asks, read_goes, read_due}
+use Rattle.slate_txn.specs.declared.load.LoadMachine.{LoadMachine}
+use Rattle.slate_txn.specs.declared.load.LoadMachine.TheVariants.{Reading, Over}
+use Rattle.slate_txn.specs.declared.read.ReadPhase.{ReadPhase}
+use Rattle.slate_txn.specs.declared.sequenced.Sequenced.{Sequenced}
+
+abbrev pub holder_of : {T C R : Type 0} → Sequenced T C → R → ℕ × T → Holder T C R
+holder_of sequenced rules version = record { sequenced = sequenced; rules = rules; id = version.0; object = version.1 }
+
+-- the holder of the version that was read; it is refused where there is none
+abbrev pub loaded : {T C R : Type 0} → Sequenced T C → R → Result (Option (ℕ × T)) SlateDBError → Result (Holder T C R) SlateDBError
+loaded sequenced rules (Ok (Some version)) = Ok (holder_of sequenced rules version)
+loaded sequenced rules (Ok None) = Err LatestTransactionalObjectVersionMissing
+loaded sequenced rules (Err e) = Err e
+
+-- whether a call is due
+abbrev pub load_due : {T C R : Type 0} → LoadMachine T C R → Bool
+load_due (Reading read sequenced rules) = read_due read
+load_due Over = false
+
+abbrev pub loaded_goes : {T C R : Type 0} → Sequenced T C → R → Goes (ReadPhase T) (Option (ℕ × T)) → Goes (LoadMachine T C R) (Holder T C R)
+loaded_goes sequenced rules (Stay read) = Stay (Reading read sequenced rules)
+loaded_goes sequenced rules (End read reply) = End Over (loaded sequenced rules reply)
+
+-- how a load goes on after its read
+abbrev pub load_goes : {T C R : Type 0} → (C → List ℕ → Result T SlateDBError) → ReadPhase T → Sequenced T C → R → StoreAnswer → Goes (LoadMachine T C R) (Holder T C R)
+load_goes decoded read sequenced rules answer = loaded_goes sequenced rules (read_goes sequenced.log (decoded sequenced.codec) read answer)
+
+-- what next does: the read takes a step
+abbrev pub LoadSteps : {T C R : Type 0} → (C → List ℕ → Result T SlateDBError) → Told → Told → ℤ → LoadMachine T C R → LoadMachine T C R → Step (Holder T C R) → Type 0
+LoadSteps decoded old new moment (Reading read sequenced rules) to step =
+    Steps old new (read_asks sequenced.db sequenced.log read) moment (load_goes decoded read sequenced rules) (Reading read sequenced rules) to step
+LoadSteps decoded old new moment Over to step = Unit {0}
+
+abbrev reading : {T C R : Type 0} → Sequenced T C → R → ReadPhase T → LoadMachine T C R
+reading sequenced rules read = Reading read sequenced rules
+
+-- want of memory leaves a load as it was
+pub load_held : {T C R : Type 0} (decoded : C → List ℕ → Result T SlateDBError) (old new : Told) (moment : ℤ) (p q : ReadPhase T) (sequenced : Sequenced T C) (rules : R) → Held old new (read_asks sequenced.db sequenced.log p) moment p q
+    → LoadSteps decoded old new moment (Reading p sequenced rules) (Reading q sequenced rules) (Done (Err OutOfMemory))
+load_held decoded old new moment p q sequenced rules held = inr (refl, record { kept = ap (λ (r : ReadPhase _). reading sequenced rules r) held.kept; made = held.made })

@@ -1,0 +1,131 @@
+-- Holders: a load, and an update of the value held.
+use Rattle.std.specs.Prelude.{◌≡◌, ℕ, ℤ, ◌==◌, Bool, true, false, List, Option, Some, None, Result, Ok, Err, if◌then◌else◌, refl}
+use Rattle.std.proofs.Common.{◌⊎◌, inl, inr, sym, subst, ap, ◌∙◌}
+use Rattle.slate_ids.specs.Answers.{Gives, OrMemory, ran_out}
+use Rattle.slate_store.specs.declared.store_call.StoreCall.{StoreCall}
+use Rattle.slate_ids.specs.declared.error.SlateDBError.{SlateDBError}
+use Rattle.slate_ids.specs.declared.error.SlateDBError.TheVariants.{TransactionalObjectVersionExists}
+use Rattle.slate_store.specs.Calls.{Told}
+use Rattle.slate_store.specs.Machines.{Goes, Stay, End, Steps, AnswersAtOnce}
+use Rattle.slate_store.specs.declared.step.Step.{Step}
+use Rattle.slate_store.specs.declared.step.Step.TheVariants.{Again, Done}
+use Rattle.slate_store.specs.declared.store_answer.StoreAnswer.{StoreAnswer}
+use Rattle.slate_txn.specs.Commit.{prepared, commit_asks, commit_goes, commit_due}
+use Rattle.slate_txn.specs.Committing.{Committed, CommitBegan}
+use Rattle.slate_txn.specs.Holder.{Holder, at_version}
+use Rattle.slate_txn.specs.declared.commit.CommitPhase.{CommitPhase}
+use Rattle.slate_txn.specs.declared.commit.CommitPhase.TheVariants.{Over}
+use Rattle.slate_txn.specs.declared.stored.DirtyObject.{DirtyObject}
+use Rattle.slate_txn.specs.declared.right.Right.{Right}
+use Rattle.slate_txn.specs.declared.update.UpdateMachine.{UpdateMachine}
+use Rattle.slate_txn.specs.declared.update.UpdateMachine.TheVariants.{Refused, Committing}
+
+-- an update begins where the dirty value's number is the holder's: then it is the commit of that value
+abbrev pub started : {T C R : Type 0} → (R → ℕ → T → T → Right → Option SlateDBError) → (C → T → Result (List ℕ) SlateDBError) → Holder T C R → DirtyObject T → Right → Result (CommitPhase T) SlateDBError
+started refusal encoded holder dirty right =
+    if dirty.id == holder.id then prepared (refusal holder.rules) (encoded holder.sequenced.codec) holder.id holder.object dirty.value right else Err (TransactionalObjectVersionExists dirty.id None)
+
+abbrev pub done_of : {T : Type 0} → Result (ℕ × T) SlateDBError → Result (Unit {0}) SlateDBError
+done_of (Ok version) = Ok tt
+done_of (Err e) = Err e
+
+-- after Ok the holder holds what was put, and else it is unchanged
+abbrev pub held_of : {T C R : Type 0} → Holder T C R → Result (ℕ × T) SlateDBError → Holder T C R
+held_of holder (Ok version) = at_version holder version.0 version.1
+held_of holder (Err e) = holder
+
+-- an update that is refused at once makes no call; else its commit ran
+abbrev pub Updated : {T C R : Type 0} → Holder T C R → ℤ → Told → Told → Result (CommitPhase T) SlateDBError → Result (Unit {0}) SlateDBError → Type 0
+Updated holder moment old new (Err e) result = (result ≡ Err e) × (new ≡ old)
+Updated holder moment old new (Ok commit) result = (reply : Result (ℕ × _) SlateDBError) × Committed holder.sequenced.db holder.sequenced.log moment old new commit reply × (done_of reply ≡ result)
+
+-- memory ran out before the first call, or within the commit
+abbrev pub UpdateBegan : {T C R : Type 0} → Holder T C R → ℤ → Told → Told → Result (CommitPhase T) SlateDBError → Type 0
+UpdateBegan holder moment old new start = (new ≡ old) ⊎ ((commit : CommitPhase _) × (start ≡ Ok commit) × CommitBegan holder.sequenced.db holder.sequenced.log moment old new commit)
+
+-- a whole update of a holder
+abbrev pub Updates : {T C R : Type 0} → (R → ℕ → T → T → Right → Option SlateDBError) → (C → T → Result (List ℕ) SlateDBError) → ℤ → Told → Told → Holder T C R → DirtyObject T → Right → Result (Unit {0}) SlateDBError → Type 0
+Updates refusal encoded moment old new holder dirty right result =
+    OrMemory result (UpdateBegan holder moment old new (started refusal encoded holder dirty right)) (Updated holder moment old new (started refusal encoded holder dirty right) result)
+
+-- the machine of an update
+abbrev pub update_of : {T : Type 0} → Result (CommitPhase T) SlateDBError → UpdateMachine T
+update_of (Ok commit) = Committing commit
+update_of (Err e) = Refused e
+
+-- whether a call is due
+abbrev pub update_due : {T : Type 0} → UpdateMachine T → Bool
+update_due (Refused e) = false
+update_due (Committing commit) = commit_due commit
+
+-- whether it has not ended
+abbrev pub update_open : {T : Type 0} → UpdateMachine T → Bool
+update_open (Refused e) = true
+update_open (Committing commit) = commit_due commit
+
+-- the machine and the holder
+abbrev pub UpdateState : Type 0 → Type 0 → Type 0 → Type 0
+UpdateState T C R = UpdateMachine T × Holder T C R
+
+abbrev pub held_goes : {T C R : Type 0} → Holder T C R → Goes (CommitPhase T) (ℕ × T) → Goes (UpdateState T C R) (Unit {0})
+held_goes holder (Stay commit) = Stay (Committing commit, holder)
+held_goes holder (End commit reply) = End (Committing commit, held_of holder reply) (done_of reply)
+
+-- how an update goes on after its commit
+abbrev pub update_goes : {T C R : Type 0} → CommitPhase T → Holder T C R → StoreAnswer → Goes (UpdateState T C R) (Unit {0})
+update_goes commit holder answer = held_goes holder (commit_goes commit answer)
+
+-- what next does: a refused update answers at once, and else the commit takes a step
+abbrev pub UpdateSteps : {T C R : Type 0} → Told → Told → ℤ → UpdateState T C R → UpdateState T C R → Step (Unit {0}) → Type 0
+UpdateSteps old new moment (Refused e, holder) to step = AnswersAtOnce old new e step × (to ≡ (Committing Over, holder))
+UpdateSteps old new moment (Committing commit, holder) to step =
+    Steps old new (commit_asks holder.sequenced.db holder.sequenced.log commit) moment (update_goes commit holder) (Committing commit, holder) to step
+
+abbrev pub done_step : {T : Type 0} → Step (ℕ × T) → Step (Unit {0})
+done_step Again = Again
+done_step (Done reply) = Done (done_of reply)
+
+abbrev pub held_by : {T C R : Type 0} → Holder T C R → Step (ℕ × T) → Holder T C R
+held_by holder Again = holder
+held_by holder (Done reply) = held_of holder reply
+
+done_out : {T : Type 0} (reply : Result (ℕ × T) SlateDBError) → ran_out (done_of reply) ≡ ran_out reply
+done_out (Ok version) = refl
+done_out (Err e) = refl
+
+-- a commit that ran is an update
+pub updated : {T C R : Type 0} (holder : Holder T C R) (moment : ℤ) (old new : Told) (commit : CommitPhase T) (start : Result (CommitPhase T) SlateDBError) (reply : Result (ℕ × T) SlateDBError) (result : Result (Unit {0}) SlateDBError)
+    → Gives (Ok commit) start → result ≡ done_of reply
+    → OrMemory reply (CommitBegan holder.sequenced.db holder.sequenced.log moment old new commit) (Committed holder.sequenced.db holder.sequenced.log moment old new commit reply)
+    → OrMemory result (UpdateBegan holder moment old new start) (Updated holder moment old new start result)
+updated holder moment old new commit start reply result (inr out) same ran = absurd (let both : false ≡ true = out in cc)
+updated holder moment old new commit start reply result (inl e) same (inl done) =
+    inl (subst (λ (s : Result (CommitPhase _) SlateDBError). Updated holder moment old new s result) (sym e) (reply, done, sym same))
+updated holder moment old new commit start reply result (inl e) same (inr m) = inr (ap ran_out same ∙ done_out reply ∙ m.0, inr (commit, e, m.1))
+
+-- an update that is refused at once
+pub refused_at_once : {T C R : Type 0} (holder : Holder T C R) (moment : ℤ) (old : Told) (start : Result (CommitPhase T) SlateDBError) (e : SlateDBError) (result : Result (Unit {0}) SlateDBError)
+    → Gives (Err e) start → result ≡ Err e → OrMemory result (UpdateBegan holder moment old old start) (Updated holder moment old old start result)
+refused_at_once holder moment old start e result (inl same) r = inl (subst (λ (s : Result (CommitPhase _) SlateDBError). Updated holder moment old old s result) (sym same) (r, refl))
+refused_at_once holder moment old start e result (inr out) r = inr (ap ran_out r ∙ out, inl refl)
+
+abbrev with_commit : {T C R : Type 0} → Holder T C R → CommitPhase T → UpdateState T C R
+with_commit holder commit = (Committing commit, holder)
+
+-- a step of the commit is one of the update
+pub update_steps : {T C R : Type 0} (old new : Told) (call : StoreCall) (moment : ℤ) (holder : Holder T C R) (p q : CommitPhase T) (step : Step (ℕ × T)) → Steps old new call moment (commit_goes p) p q step
+    → Steps old new call moment (update_goes p holder) (Committing p, holder) (Committing q, held_by holder step) (done_step step)
+update_steps old new call moment holder p q Again stepped = record { answer = stepped.answer; makes = stepped.makes; gives = ap (held_goes holder) stepped.gives }
+update_steps old new call moment holder p q (Done reply) (inl stepped) = inl (record { answer = stepped.answer; makes = stepped.makes; gives = ap (held_goes holder) stepped.gives })
+update_steps old new call moment holder p q (Done (Ok version)) (inr m) = absurd (let out : false ≡ true = m.0 in cc)
+update_steps old new call moment holder p q (Done (Err e)) (inr m) = inr (m.0, record { kept = ap (with_commit holder) m.1.kept; made = m.1.made })
+
+-- and so next of an update that commits
+pub update_next : {T C R : Type 0} (old new : Told) (moment : ℤ) (machine : UpdateMachine T) (holder held : Holder T C R) (p q : CommitPhase T) (step : Step (ℕ × T)) (result : Step (Unit {0}))
+    → machine ≡ Committing p → held ≡ held_by holder step → result ≡ done_step step → Steps old new (commit_asks holder.sequenced.db holder.sequenced.log p) moment (commit_goes p) p q step
+    → UpdateSteps old new moment (machine, holder) (Committing q, held) result
+update_next old new moment machine holder held p q step result at after done steps =
+    subst (λ (m : UpdateMachine _). UpdateSteps old new moment (m, holder) (Committing q, held) result) (sym at)
+    (subst (λ (h : Holder _ _ _). UpdateSteps old new moment (Committing p, holder) (Committing q, h) result) (sym after)
+    (subst (λ (r : Step (Unit {0})). UpdateSteps old new moment (Committing p, holder) (Committing q, held_by holder step) r) (sym done)
+    (update_steps old new (commit_asks holder.sequenced.db holder.sequenced.log p) moment holder p q step steps)))

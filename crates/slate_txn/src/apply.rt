@@ -1,0 +1,253 @@
+//! Committing what a change makes of the version held, after a conflict too.
+ghost use Rattle.std.specs.Prelude.{◌≡◌, ◌<◌, IfOk, IfSome, true};
+ghost use Rattle.slate_ids.specs.Answers.{Gives, OrMemory};
+ghost use Rattle.slate_store.specs.Machines.{Steps, GoesOn, IsAgain};
+ghost use Rattle.slate_txn.specs.Commit.{is_putting};
+ghost use Rattle.slate_txn.specs.Due.{StillDue, WhereOut, FaultRose};
+ghost use Rattle.slate_txn.specs.Apply.{renewed, apply_goes, apply_asks, apply_due, ApplyFalls, is_start, is_reading_phase, Applied, ApplyBegan, Applies, FaultFree};
+
+use crate::change::Change;
+use crate::commit::{CommitPhase, prepare};
+use crate::read::ReadPhase;
+use crate::right::Right;
+use crate::rules::Rules;
+use crate::stored::Stored;
+use slate_ids::{Millis, ObjectCodec, OutOfMemory, SlateDBError};
+use slate_store::{ObjectStore, Step, StoreAnswer, StoreCall, perform};
+use std::alloc::Global;
+
+/// Where it stands.
+#[derive(Debug, Drop)]
+pub enum ApplyPhase<T> {
+    /// The latest version is being read.
+    Reading(ReadPhase<T>),
+    /// What was made of the version held is being committed.
+    Committing(CommitPhase<T>),
+}
+
+// The commit of what the change makes of a version.
+fn renew<T: Drop, C: ObjectCodec<T>, R: Rules<T>, X: Change<T>>(
+    alloc: Global,
+    codec: &C,
+    rules: &R,
+    change: &X,
+    right: &Right,
+    id: u64,
+    value: &T,
+) -> Result<Option<CommitPhase<T>>, SlateDBError>
+    ensures commit { Gives result (renewed (X.changed change.now) (R.refusal rules.now) (C.encoded codec.now) right.now id value.now) }
+    ensures putting { IfOk result (λ commit. IfSome commit (λ c. is_putting c ≡ true)) }
+{
+    match change.change(alloc, codec, id, value)? {
+        None => Ok(None),
+        Some(new) => Ok(Some(prepare(alloc, codec, rules, id, value, new, right)?)),
+    }
+}
+
+impl<T: Drop> ApplyPhase<T> {
+    /// The call that is due.
+    pub fn asks<C: Drop, R: Drop>(
+        &self,
+        alloc: Global,
+        holder: &Stored<T, C, R>,
+    ) -> Result<StoreCall, OutOfMemory>
+        ensures { IfOk result (λ call. call ≡ apply_asks (self.now, holder.now)) }
+    {
+        match self {
+            ApplyPhase::Reading(read) => Ok(read.asks(&holder.sequenced)),
+            ApplyPhase::Committing(commit) => commit.asks(alloc, &holder.sequenced),
+        }
+    }
+
+    /// Whether a call is due. None is after an end, but for want of memory.
+    pub fn due(&self) -> bool
+        ensures { result ≡ apply_due self.now }
+    {
+        match self {
+            ApplyPhase::Reading(read) => read.due(),
+            ApplyPhase::Committing(commit) => commit.due(),
+        }
+    }
+
+    /// Whether a version is to be read anew.
+    pub fn is_start(&self) -> bool
+        ensures { result ≡ is_start self.now }
+    {
+        match self {
+            ApplyPhase::Reading(read) => read.is_listing(),
+            ApplyPhase::Committing(_) => false,
+        }
+    }
+
+    /// Goes on from the answer to that call. Want of memory leaves phase and holder as they were.
+    pub fn goes_on<C: ObjectCodec<T> + Drop, R: Rules<T> + Drop, X: Change<T>>(
+        &mut self,
+        alloc: Global,
+        holder: &mut Stored<T, C, R>,
+        change: &X,
+        right: &Right,
+        answer: &StoreAnswer,
+    ) -> Step<()>
+        ensures goes { GoesOn (apply_goes (record { decoded = C.decoded; encoded = C.encoded; refusal = R.refusal; changed = X.changed change.now; right = right.now }) (self.old, holder.old) answer.now)
+            (self.old, holder.old) (self.new, holder.new) result }
+        ensures falls { IsAgain result → ApplyFalls self.old self.new }
+        ensures due { StillDue result (apply_due self.new) }
+        ensures reading { WhereOut result (is_reading_phase self.old ≡ true) }
+    {
+        match self {
+            ApplyPhase::Committing(commit) => match commit.goes_on(answer) {
+                Step::Again => Step::Again,
+                Step::Done(Ok((id, object))) => {
+                    holder.id = id;
+                    holder.object = object;
+                    Step::Done(Ok(()))
+                }
+                Step::Done(Err(e)) => {
+                    if e.is_conflict() {
+                        *self = ApplyPhase::Reading(ReadPhase::Listing);
+                        Step::Again
+                    } else {
+                        Step::Done(Err(e))
+                    }
+                }
+            },
+            ApplyPhase::Reading(read) => {
+                let step = read.goes_on(alloc, &holder.sequenced, answer);
+                match step {
+                    Step::Again => Step::Again,
+                    Step::Done(Err(e)) => Step::Done(Err(e)),
+                    Step::Done(Ok(None)) => {
+                        Step::Done(Err(SlateDBError::LatestTransactionalObjectVersionMissing))
+                    }
+                    Step::Done(Ok(Some((id, value)))) => {
+                        let held = &*holder;
+                        let renewed = renew(
+                            alloc,
+                            &held.sequenced.codec,
+                            &held.rules,
+                            change,
+                            right,
+                            id,
+                            &value,
+                        );
+                        match renewed {
+                            Err(e) => {
+                                if e.is_memory() {
+                                    *read = ReadPhase::Bounding(id, value);
+                                } else {
+                                    holder.id = id;
+                                    holder.object = value;
+                                }
+                                Step::Done(Err(e))
+                            }
+                            Ok(None) => {
+                                holder.id = id;
+                                holder.object = value;
+                                Step::Done(Ok(()))
+                            }
+                            Ok(Some(commit)) => {
+                                holder.id = id;
+                                holder.object = value;
+                                *self = ApplyPhase::Committing(commit);
+                                Step::Again
+                            }
+                        }
+                    }
+                }
+            }
+        }
+    }
+
+    /// Makes the one call that is due. Want of memory leaves phase and holder as they were.
+    pub fn next<C: ObjectCodec<T> + Drop, R: Rules<T> + Drop, X: Change<T>, S: ObjectStore>(
+        &mut self,
+        alloc: Global,
+        holder: &mut Stored<T, C, R>,
+        change: &X,
+        right: &Right,
+        store: &mut S,
+        moment: Millis,
+    ) -> Step<()>
+        requires due { apply_due self.now ≡ true }
+        ensures steps { Steps (S.told store.old) (S.told store.new) (apply_asks (self.old, holder.old)) moment
+            (apply_goes (record { decoded = C.decoded; encoded = C.encoded; refusal = R.refusal; changed = X.changed change.now; right = right.now }) (self.old, holder.old))
+            (self.old, holder.old) (self.new, holder.new) result }
+        ensures falls { IsAgain result → ApplyFalls self.old self.new }
+        ensures due { StillDue result (apply_due self.new) }
+    {
+        match self.asks(alloc, holder) {
+            Ok(call) => match perform(alloc, store, &call, moment) {
+                Ok(answer) => self.goes_on(alloc, holder, change, right, &answer),
+                Err(_) => Step::Done(Err(SlateDBError::OutOfMemory)),
+            },
+            Err(_) => Step::Done(Err(SlateDBError::OutOfMemory)),
+        }
+    }
+}
+
+impl<T: Drop, C: ObjectCodec<T> + Drop, R: Rules<T> + Drop> Stored<T, C, R> {
+    // Goes on from a commit until it ends, or the tries are used up.
+    fn drive<X: Change<T>, S: ObjectStore>(
+        &mut self,
+        alloc: Global,
+        commit: CommitPhase<T>,
+        change: &X,
+        right: &Right,
+        store: &mut S,
+        moment: Millis,
+        tries: u32,
+    ) -> Result<(), SlateDBError>
+        requires some { 0 < tries }
+        requires putting { is_putting commit ≡ true }
+        ensures { OrMemory result
+            (ApplyBegan (record { decoded = C.decoded; encoded = C.encoded; refusal = R.refusal; changed = X.changed change.now; right = right.now }) moment tries (S.told store.old) (S.told store.new) commit self.old self.new)
+            (Applied (record { decoded = C.decoded; encoded = C.encoded; refusal = R.refusal; changed = X.changed change.now; right = right.now }) moment tries (S.told store.old) (S.told store.new) commit self.old self.new result) }
+    {
+        let mut phase = ApplyPhase::Committing(commit);
+        let mut left = tries;
+        loop {
+            match phase.next(alloc, self, change, right, store, moment) {
+                Step::Done(result) => return result,
+                Step::Again => {}
+            }
+            if phase.is_start() {
+                if left == 1 {
+                    return Err(SlateDBError::Contended);
+                }
+                left -= 1;
+            }
+        }
+    }
+
+    /// Commits what the change makes of the version held. After a conflict it reads the latest version, holds it, and
+    /// commits what the change makes of that: so often as there are tries, then `Contended`. Each conflict and each
+    /// restarted read uses one. The holder holds what was put or read last.
+    pub fn apply<X: Change<T>, S: ObjectStore>(
+        &mut self,
+        alloc: Global,
+        change: &X,
+        right: &Right,
+        store: &mut S,
+        moment: Millis,
+        tries: u32,
+    ) -> Result<(), SlateDBError>
+        requires { 0 < tries }
+        ensures { Applies (record { decoded = C.decoded; encoded = C.encoded; refusal = R.refusal; changed = X.changed change.now; right = right.now }) moment tries (S.told store.old) (S.told store.new) self.old self.new result }
+    {
+        let held = &*self;
+        let renewed = renew(
+            alloc,
+            &held.sequenced.codec,
+            &held.rules,
+            change,
+            right,
+            held.id,
+            &held.object,
+        );
+        match renewed {
+            Err(e) => Err(e),
+            Ok(None) => Ok(()),
+            Ok(Some(commit)) => self.drive(alloc, commit, change, right, store, moment, tries),
+        }
+    }
+}

@@ -1,0 +1,136 @@
+//! The machine that makes a fenced holder.
+ghost use Rattle.std.specs.Prelude.{◌≡◌, IfOk, true};
+ghost use Rattle.slate_txn.specs.Due.{FaultRose};
+ghost use Rattle.slate_txn.specs.Initing.{init_of, init_due, init_open, fenced_reply, InitSteps};
+ghost use Rattle.slate_txn.specs.Raise.{raised};
+
+use crate::commit::CommitPhase;
+use crate::fenced::Fenced;
+use crate::raise::prepare_raise;
+use crate::rules::Rules;
+use crate::stored::Stored;
+use slate_ids::{Epochs, Millis, ObjectCodec, OutOfMemory, SlateDBError};
+use slate_store::{ObjectStore, Step};
+use std::alloc::Global;
+use std::mem;
+
+/// The machine of one try of a fence. It owns the holder until it ends.
+#[derive(Drop)]
+pub enum InitMachine<T, C, R, E> {
+    /// The raise was refused before its first call, and the machine answers so.
+    Refused(SlateDBError),
+    /// The commit of the value held with its epoch plus one.
+    Committing(CommitPhase<T>, Stored<T, C, R>, E),
+    /// It ended.
+    Over,
+}
+
+// The fenced holder after its commit.
+fn fence<T: Drop, C: Drop, R: Drop, E: Epochs<T> + Drop>(
+    stored: Stored<T, C, R>,
+    epochs: E,
+    reply: Result<(u64, T), SlateDBError>,
+) -> Result<Fenced<T, C, R, E>, SlateDBError>
+    ensures { result ≡ fenced_reply E.epoch stored epochs reply }
+{
+    match reply {
+        Err(e) => Err(e),
+        Ok((id, object)) => {
+            let epoch = epochs.get(&object);
+            let mut stored = stored;
+            stored.id = id;
+            stored.object = object;
+            Ok(Fenced {
+                stored,
+                epochs,
+                epoch,
+            })
+        }
+    }
+}
+
+impl<T: Drop, C: ObjectCodec<T> + Drop, R: Rules<T> + Drop, E: Epochs<T> + Drop> Fenced<
+    T,
+    C,
+    R,
+    E,
+> {
+    /// The machine of one try of a fence. Where the raise is refused before its first call, no call is due in it.
+    pub fn start_init(
+        alloc: Global,
+        stored: Stored<T, C, R>,
+        epochs: E,
+    ) -> Result<InitMachine<T, C, R, E>, OutOfMemory>
+        ensures { IfOk result (λ machine. machine ≡ init_of (raised (R.refusal stored.rules) (C.encoded stored.sequenced.codec) (E.epoch epochs) (E.with_epoch epochs) stored.id stored.object) stored epochs) }
+    {
+        let held = &stored;
+        let raised = prepare_raise(
+            alloc,
+            &held.sequenced.codec,
+            &held.rules,
+            &epochs,
+            held.id,
+            &held.object,
+        );
+        match raised {
+            Ok(commit) => Ok(InitMachine::Committing(commit, stored, epochs)),
+            Err(e) => {
+                if e.is_memory() {
+                    Err(OutOfMemory)
+                } else {
+                    Ok(InitMachine::Refused(e))
+                }
+            }
+        }
+    }
+}
+
+impl<T: Drop, C: ObjectCodec<T> + Drop, R: Rules<T> + Drop, E: Epochs<T> + Drop> InitMachine<
+    T,
+    C,
+    R,
+    E,
+> {
+    /// Whether a call is due. None is after an end, but for want of memory, nor where the raise was refused.
+    pub fn due(&self) -> bool
+        ensures { result ≡ init_due self.now }
+    {
+        match self {
+            InitMachine::Committing(commit, _, _) => commit.due(),
+            _ => false,
+        }
+    }
+
+    /// Makes the one call that is due. A refused raise makes none and answers its refusal. A conflict ends it. Want of
+    /// memory leaves the machine as it was, and any other end leaves none due and drops the holder, or hands it out.
+    pub fn next<S: ObjectStore>(
+        &mut self,
+        alloc: Global,
+        store: &mut S,
+        moment: Millis,
+    ) -> Step<Fenced<T, C, R, E>>
+        requires open { init_open self.now ≡ true }
+        ensures steps { InitSteps E.epoch (S.told store.old) (S.told store.new) moment self.old self.new result }
+        ensures fault { init_due self.old ≡ true → FaultRose (S.told store.old) (S.told store.new) result }
+    {
+        match mem::replace(self, InitMachine::Over) {
+            InitMachine::Over => unreachable!(),
+            InitMachine::Refused(e) => Step::Done(Err(e)),
+            InitMachine::Committing(commit, stored, epochs) => {
+                let mut commit = commit;
+                let step = commit.next(alloc, &stored.sequenced, store, moment);
+                match step {
+                    Step::Again => {
+                        *self = InitMachine::Committing(commit, stored, epochs);
+                        Step::Again
+                    }
+                    Step::Done(Err(SlateDBError::OutOfMemory)) => {
+                        *self = InitMachine::Committing(commit, stored, epochs);
+                        Step::Done(Err(SlateDBError::OutOfMemory))
+                    }
+                    Step::Done(reply) => Step::Done(fence(stored, epochs, reply)),
+                }
+            }
+        }
+    }
+}
