@@ -20,3 +20,4 @@ pub mod ApplyRuns
 pub mod FencedHolder
 pub mod Fence
 pub mod Initing
+pub mod ApplyFaults

@@ -3,7 +3,7 @@ ghost use Rattle.std.specs.Prelude.{◌≡◌, ◌<◌, IfOk, IfSome, true};
 ghost use Rattle.slate_ids.specs.Answers.{Gives, OrMemory};
 ghost use Rattle.slate_store.specs.Machines.{Steps, GoesOn, IsAgain};
 ghost use Rattle.slate_txn.specs.Commit.{is_putting};
-ghost use Rattle.slate_txn.specs.Due.{StillDue, WhereOut, FaultRose};
+ghost use Rattle.slate_txn.specs.Due.{StillDue, WhereOut, FaultOf};
 ghost use Rattle.slate_txn.specs.Apply.{renewed, apply_goes, apply_asks, apply_due, ApplyFalls, is_start, is_reading_phase, Applied, ApplyBegan, Applies, FaultFree};
 
 use crate::change::Change;
@@ -199,9 +199,10 @@ impl<T: Drop, C: ObjectCodec<T> + Drop, R: Rules<T> + Drop> Stored<T, C, R> {
     ) -> Result<(), SlateDBError>
         requires some { 0 < tries }
         requires putting { is_putting commit ≡ true }
-        ensures { OrMemory result
+        ensures apply { OrMemory result
             (ApplyBegan (record { decoded = C.decoded; encoded = C.encoded; refusal = R.refusal; changed = X.changed change.now; right = right.now }) moment tries (S.told store.old) (S.told store.new) commit self.old self.new)
             (Applied (record { decoded = C.decoded; encoded = C.encoded; refusal = R.refusal; changed = X.changed change.now; right = right.now }) moment tries (S.told store.old) (S.told store.new) commit self.old self.new result) }
+        ensures fault { FaultFree (record { decoded = C.decoded; encoded = C.encoded; refusal = R.refusal; changed = X.changed change.now; right = right.now }) → FaultOf (S.told store.old) (S.told store.new) result }
     {
         let mut phase = ApplyPhase::Committing(commit);
         let mut left = tries;
@@ -232,7 +233,8 @@ impl<T: Drop, C: ObjectCodec<T> + Drop, R: Rules<T> + Drop> Stored<T, C, R> {
         tries: u32,
     ) -> Result<(), SlateDBError>
         requires { 0 < tries }
-        ensures { Applies (record { decoded = C.decoded; encoded = C.encoded; refusal = R.refusal; changed = X.changed change.now; right = right.now }) moment tries (S.told store.old) (S.told store.new) self.old self.new result }
+        ensures apply { Applies (record { decoded = C.decoded; encoded = C.encoded; refusal = R.refusal; changed = X.changed change.now; right = right.now }) moment tries (S.told store.old) (S.told store.new) self.old self.new result }
+        ensures fault { FaultFree (record { decoded = C.decoded; encoded = C.encoded; refusal = R.refusal; changed = X.changed change.now; right = right.now }) → FaultOf (S.told store.old) (S.told store.new) result }
     {
         let held = &*self;
         let renewed = renew(

@@ -1,5 +1,7 @@
 //! A fenced holder.
 ghost use Rattle.std.specs.Prelude.{◌≡◌, ◌<◌};
+ghost use Rattle.slate_txn.specs.Apply.{FaultFree};
+ghost use Rattle.slate_txn.specs.Due.{FaultOf};
 ghost use Rattle.slate_txn.specs.Fence.{FencedBy, raising};
 
 use crate::change::NextEpoch;
@@ -45,7 +47,8 @@ impl<T: Drop, C: ObjectCodec<T> + Drop, R: Rules<T> + Drop, E: Epochs<T> + Drop>
         tries: u32,
     ) -> Result<Fenced<T, C, R, E>, SlateDBError>
         requires { 0 < tries }
-        ensures { FencedBy E.epoch (raising C.decoded C.encoded R.refusal E.epoch E.with_epoch epochs) moment tries (S.told store.old) (S.told store.new) stored epochs result }
+        ensures fenced { FencedBy E.epoch (raising C.decoded C.encoded R.refusal E.epoch E.with_epoch epochs) moment tries (S.told store.old) (S.told store.new) stored epochs result }
+        ensures fault { FaultFree (raising C.decoded C.encoded R.refusal E.epoch E.with_epoch epochs) → FaultOf (S.told store.old) (S.told store.new) result }
     {
         let raise = NextEpoch { epochs };
         let mut stored = stored;

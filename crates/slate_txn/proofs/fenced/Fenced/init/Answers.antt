@@ -3,18 +3,18 @@ use Rattle.std.proofs.lemmas.Int.{to_z-of_z}
 use Rattle.slate_txn.specs.Fence.{fenced_with}
 use Rattle.slate_txn.proofs.fenced.Fenced.init.Goals as goal
 
-pub returns-in-Err : goal.returns-in-Err
-returns-in-Err g c = record {
+pub returns-in-Err-clause-fenced : goal.returns-in-Err-clause-fenced
+returns-in-Err-clause-fenced g c = record {
   to = c.apply.new.self;
   reply = Err c.in-Err.e;
-  applies = rw (to_z-of_z w64 c.args.moment c.ranges.moment) at c.in-Err.ensures;
+  applies = rw (to_z-of_z w64 c.args.moment c.ranges.moment) at c.in-Err.ensures.apply;
   same = refl;
 }
 
-pub returns-in-Ok : goal.returns-in-Ok
-returns-in-Ok g c = record {
+pub returns-in-Ok-clause-fenced : goal.returns-in-Ok-clause-fenced
+returns-in-Ok-clause-fenced g c = record {
   to = c.apply.new.self;
   reply = Ok tt;
-  applies = rw (to_z-of_z w64 c.args.moment c.ranges.moment) at c.in-Ok.ensures;
+  applies = rw (to_z-of_z w64 c.args.moment c.ranges.moment) at c.in-Ok.ensures.apply;
   same = ap (fenced_with c.apply.new.self c.args.epochs) (ap (g.E.Epochs.epoch c.args.epochs) (sym c.object.ensures) ∙ sym c.get-epoch.ensures);
 }

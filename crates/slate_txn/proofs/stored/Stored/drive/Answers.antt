@@ -1,5 +1,7 @@
 use Rattle.slate_ids.specs.Answers.{OrMemory-map}
 use Rattle.slate_store.specs.Runs.{begins, goes_further, starts_again, gives_up, done_with}
+use Rattle.slate_txn.specs.ApplyFaults.{apply_faults}
+use Rattle.slate_txn.specs.Faults.{call_rose, ran_rose}
 use Rattle.slate_txn.specs.ApplyRuns.{putting_due}
 use Rattle.std.proofs.Common.{arith, sym, ◌∙◌, inl, w64}
 use Rattle.std.proofs.lemmas.Int.{to_z-of_z}
@@ -10,13 +12,22 @@ loop-result-init g c = record { running = begins _ _ _ _ _ _ _ c.requires.some; 
 
 pub returns-in-Done : goal.returns-in-Done
 returns-in-Done g c =
-    let ran = done_with c.loop-result.invariant.running (g.S.ObjectStore.told c.next.new.store) (c.next.new.self, c.next.new.holder) c.in-Done.result c.in-Done.ensures.steps in
-    OrMemory-map c.in-Done.result (λ began. (c.next.new.self, began)) (λ done. (c.next.new.self, done)) (rw (to_z-of_z w64 c.args.moment c.ranges.moment) at ran)
+    let inside = c.loop-result.invariant in
+    let first = done_with inside.running (g.S.ObjectStore.told c.next.new.store) (c.next.new.self, c.next.new.holder) c.in-Done.result c.in-Done.ensures.steps in
+    let ran = rw (to_z-of_z w64 c.args.moment c.ranges.moment) at first in
+    record {
+      apply = OrMemory-map c.in-Done.result (λ began. (c.next.new.self, began)) (λ done. (c.next.new.self, done)) ran;
+      fault = λ free. call_rose c.in-Done.result (apply_faults _ free) (putting_due c.args.commit c.requires.putting) ran;
+    }
 
 pub returns-then-left-eq1 : goal.returns-then-left-eq1
 returns-then-left-eq1 g c =
-    let ran = gives_up c.loop-result.invariant.running c.in-Again.ensures.steps (sym c.is_start.ensures ∙ c.if-is_start.true) c.if-left-eq1.true in
-    inl (c.next.new.self, rw (to_z-of_z w64 c.args.moment c.ranges.moment) at ran)
+    let first = gives_up c.loop-result.invariant.running c.in-Again.ensures.steps (sym c.is_start.ensures ∙ c.if-is_start.true) c.if-left-eq1.true in
+    let ran = rw (to_z-of_z w64 c.args.moment c.ranges.moment) at first in
+    record {
+      apply = inl (c.next.new.self, ran);
+      fault = λ free. ran_rose (apply_faults _ free) (putting_due c.args.commit c.requires.putting) ran;
+    }
 
 pub loop-result-preserved-then-is_start : goal.loop-result-preserved-then-is_start
 loop-result-preserved-then-is_start g c = record {
