@@ -1,6 +1,6 @@
 //! The machine that makes a fenced holder.
 ghost use Rattle.std.specs.Prelude.{◌≡◌, IfOk, true};
-ghost use Rattle.slate_txn.specs.Due.{FaultRose};
+ghost use Rattle.slate_txn.specs.Due.{FaultRose, StillDue};
 ghost use Rattle.slate_txn.specs.Initing.{init_of, init_due, init_open, fenced_reply, InitSteps};
 ghost use Rattle.slate_txn.specs.Raise.{raised};
 
@@ -61,7 +61,8 @@ impl<T: Drop, C: ObjectCodec<T> + Drop, R: Rules<T> + Drop, E: Epochs<T> + Drop>
         stored: Stored<T, C, R>,
         epochs: E,
     ) -> Result<InitMachine<T, C, R, E>, OutOfMemory>
-        ensures { IfOk result (λ machine. machine ≡ init_of (raised (R.refusal stored.rules) (C.encoded stored.sequenced.codec) (E.epoch epochs) (E.with_epoch epochs) stored.id stored.object) stored epochs) }
+        ensures open { IfOk result (λ machine. init_open machine ≡ true) }
+        ensures machine { IfOk result (λ machine. machine ≡ init_of (raised (R.refusal stored.rules) (C.encoded stored.sequenced.codec) (E.epoch epochs) (E.with_epoch epochs) stored.id stored.object) stored epochs) }
     {
         let held = &stored;
         let raised = prepare_raise(
@@ -93,7 +94,8 @@ impl<T: Drop, C: ObjectCodec<T> + Drop, R: Rules<T> + Drop, E: Epochs<T> + Drop>
 > {
     /// Whether a call is due. None is after an end, but for want of memory, nor where the raise was refused.
     pub fn due(&self) -> bool
-        ensures { result ≡ init_due self.now }
+        ensures due { result ≡ init_due self.now }
+        ensures open { result ≡ true → init_open self.now ≡ true }
     {
         match self {
             InitMachine::Committing(commit, _, _) => commit.due(),
@@ -111,6 +113,7 @@ impl<T: Drop, C: ObjectCodec<T> + Drop, R: Rules<T> + Drop, E: Epochs<T> + Drop>
     ) -> Step<Fenced<T, C, R, E>>
         requires open { init_open self.now ≡ true }
         ensures steps { InitSteps E.epoch (S.told store.old) (S.told store.new) moment self.old self.new result }
+        ensures open { init_due self.old ≡ true → StillDue result (init_open self.new) }
         ensures fault { init_due self.old ≡ true → FaultRose (S.told store.old) (S.told store.new) result }
     {
         match mem::replace(self, InitMachine::Over) {

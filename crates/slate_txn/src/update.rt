@@ -82,7 +82,8 @@ impl<T: Drop, C: ObjectCodec<T> + Drop, R: Rules<T> + Drop> Stored<T, C, R> {
         dirty: DirtyObject<T>,
         right: &Right,
     ) -> Result<UpdateMachine<T>, OutOfMemory>
-        ensures { IfOk result (λ machine. machine ≡ update_of (started R.refusal C.encoded self.now dirty right.now)) }
+        ensures open { IfOk result (λ machine. update_open machine ≡ true) }
+        ensures machine { IfOk result (λ machine. machine ≡ update_of (started R.refusal C.encoded self.now dirty right.now)) }
     {
         match self.start_commit(alloc, dirty, right) {
             Ok(commit) => Ok(UpdateMachine::Committing(commit)),
@@ -132,7 +133,8 @@ fn hold_step<T: Drop, C: Drop, R: Drop>(
 impl<T: Drop> UpdateMachine<T> {
     /// Whether a call is due. None is after an end, but for want of memory, nor where the update was refused.
     pub fn due(&self) -> bool
-        ensures { result ≡ update_due self.now }
+        ensures due { result ≡ update_due self.now }
+        ensures open { result ≡ true → update_open self.now ≡ true }
     {
         match self {
             UpdateMachine::Refused(_) => false,
@@ -151,6 +153,7 @@ impl<T: Drop> UpdateMachine<T> {
     ) -> Step<()>
         requires open { update_open self.now ≡ true }
         ensures steps { UpdateSteps (S.told store.old) (S.told store.new) moment (self.old, holder.old) (self.new, holder.new) result }
+        ensures open { update_due self.old ≡ true → StillDue result (update_open self.new) }
         ensures fault { update_due self.old ≡ true → FaultRose (S.told store.old) (S.told store.new) result }
     {
         match self {
