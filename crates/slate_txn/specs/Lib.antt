@@ -21,3 +21,4 @@ pub mod FencedHolder
 pub mod Fence
 pub mod Initing
 pub mod ApplyFaults
+pub mod Numbers

@@ -10,6 +10,8 @@ mod fenced;
 mod init;
 mod load;
 mod log_kind;
+#[cfg(test)]
+mod log_tests;
 mod raise;
 mod ran_out;
 mod read;

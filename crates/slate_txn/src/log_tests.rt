@@ -1,0 +1,304 @@
+//! Logs of small numbers over a store in memory.
+ghost use Rattle.std.specs.Prelude.{◌≡◌, refl};
+ghost use Rattle.slate_txn.specs.Numbers.{encoded, decoded, refusal, round_trip};
+
+use crate::{Fenced, LogKind, Right, Rules, Sequenced, Stored};
+use slate_ids::{
+    DbPath, Epochs, FormatName, NumberRange, ObjectCodec, ObjectPath, OutOfMemory, SlateDBError,
+    UpdateRule,
+};
+use slate_store::{MemoryStore, ObjectStore, Step};
+use std::alloc::Global;
+use std::ops::Bound;
+use std::process::Abort;
+use std::test::Fail;
+
+#[derive(Clone, Copy, Debug)]
+struct Codec;
+
+impl ObjectCodec<(u64, u64)> for Codec {
+    ghost encoded = { λ _ v. encoded v };
+
+    ghost decoded = { λ _ bytes. decoded bytes };
+
+    ghost normal = { λ _ v. v };
+
+    fn encode(&self, alloc: Global, value: &(u64, u64)) -> Result<Vec<u8>, SlateDBError> {
+        if value.0 < 256 && value.1 < 256 {
+            Ok(Vec::from_slice(alloc, &[value.0 as u8, value.1 as u8])?)
+        } else {
+            Err(SlateDBError::Corrupt(FormatName::Info))
+        }
+    }
+
+    fn decode(&self, _alloc: Global, bytes: &[u8]) -> Result<(u64, u64), SlateDBError> {
+        match bytes {
+            [epoch, value] => Ok((*epoch as u64, *value as u64)),
+            _ => Err(SlateDBError::Corrupt(FormatName::Info)),
+        }
+    }
+
+    fn copy(&self, _alloc: Global, value: &(u64, u64)) -> Result<(u64, u64), OutOfMemory> {
+        Ok(*value)
+    }
+
+    ghost round_trip = { λ _ value bytes h. round_trip value bytes h };
+}
+
+#[derive(Clone, Copy, Debug)]
+struct First;
+
+impl Epochs<(u64, u64)> for First {
+    ghost epoch = { λ _ v. v.0 };
+
+    ghost with_epoch = { λ _ v n. (n, v.1) };
+
+    fn get(&self, value: &(u64, u64)) -> u64 {
+        value.0
+    }
+
+    fn set(&self, value: &mut (u64, u64), number: u64) {
+        *value = (number, value.1);
+    }
+
+    ghost epoch_set = { λ _ v n. refl };
+}
+
+#[derive(Clone, Copy, Debug)]
+struct Rising;
+
+impl Rules<(u64, u64)> for Rising {
+    ghost refusal = { λ _ _ old new _. refusal old new };
+
+    fn check(
+        &self,
+        _alloc: Global,
+        _old_id: u64,
+        old: &(u64, u64),
+        new: &(u64, u64),
+        _right: &Right,
+    ) -> Result<(), SlateDBError> {
+        if new.1 < old.1 {
+            Err(SlateDBError::UpdateRefused(UpdateRule::U1))
+        } else {
+            Ok(())
+        }
+    }
+}
+
+type Log = Sequenced<(u64, u64), Codec>;
+
+fn log() -> Result<Log, Fail> {
+    let db = DbPath::from_text("db")?.ok_or("no path of a database")?;
+    Ok(Sequenced::new(db, LogKind::Manifest, Codec))
+}
+
+// A store with these versions, and the boundary where there is one.
+fn store_with(
+    alloc: Global,
+    log: &Log,
+    versions: &[(u64, [u8; 2])],
+    boundary: Option<&str>,
+) -> Result<MemoryStore, Fail> {
+    let mut store = MemoryStore::new(alloc, Vec::new(alloc));
+    for (n, bytes) in versions {
+        store.put(alloc, &ObjectPath::Manifest(log.db, *n), bytes, 7)?;
+    }
+    if let Some(text) = boundary {
+        store.put(
+            alloc,
+            &ObjectPath::ManifestBoundary(log.db),
+            text.as_bytes(),
+            7,
+        )?;
+    }
+    Ok(store)
+}
+
+fn code<T>(reply: &Result<T, SlateDBError>) -> u8 {
+    match reply {
+        Ok(_) => 0,
+        Err(e) => e.code(),
+    }
+}
+
+#[test]
+fn reads_the_latest(rt: HostRuntime) -> Result<(), Fail> {
+    let alloc = rt.alloc();
+    let log = log()?;
+    let mut store = store_with(alloc, &log, &[], None)?;
+    assert_eq!(rt; log.read_latest(alloc, &mut store, 1)?, None);
+    let mut store = store_with(alloc, &log, &[(1, [0, 5]), (2, [0, 6])], Some("1"))?;
+    assert_eq!(rt; log.read_latest(alloc, &mut store, 1)?, Some((2, (0, 6))));
+    assert_eq!(rt; log.try_read(alloc, &mut store, 1)?, Some((0, 5)));
+    assert_eq!(rt; log.try_read(alloc, &mut store, 3)?, None);
+    let mut store = store_with(alloc, &log, &[(1, [0, 5]), (2, [0, 6])], Some("2"))?;
+    assert_eq!(rt; code(&log.read_latest(alloc, &mut store, 2)), 21);
+    let mut store = store_with(alloc, &log, &[(2, [0, 6])], Some("01"))?;
+    assert_eq!(rt; code(&log.read_latest(alloc, &mut store, 2)), 13);
+    Ok(())
+}
+
+#[test]
+fn reads_by_steps(rt: HostRuntime) -> Result<(), Fail> {
+    let alloc = rt.alloc();
+    let log = log()?;
+    let mut store = store_with(alloc, &log, &[(1, [0, 5])], None)?;
+    let mut read = log.start_read_latest();
+    let mut steps = 0;
+    while read.due() && steps < 9 {
+        steps += 1;
+        if let Step::Done(reply) = read.next(alloc, &log, &mut store, 0) {
+            assert_eq!(rt; reply?, Some((1, (0, 5))));
+        }
+    }
+    assert_eq!(rt; steps, 3);
+    Ok(())
+}
+
+#[test]
+fn lists_a_range(rt: HostRuntime) -> Result<(), Fail> {
+    let alloc = rt.alloc();
+    let log = log()?;
+    let mut store = store_with(alloc, &log, &[(10, [0, 1]), (9, [0, 2]), (1, [0, 3])], None)?;
+    let range = NumberRange {
+        start: Bound::Excluded(1),
+        end: Bound::Unbounded,
+    };
+    let versions = log.list(alloc, &mut store, range)?;
+    assert_eq!(rt; versions.len(), 2);
+    assert_eq!(rt; versions[0].0, 9);
+    assert_eq!(rt; versions[1].0, 10);
+    Ok(())
+}
+
+#[test]
+fn updates(rt: HostRuntime) -> Result<(), Fail> {
+    let alloc = rt.alloc();
+    let first = log()?;
+    let mut store = store_with(alloc, &first, &[(1, [0, 5])], None)?;
+    let mut one = Stored::load(alloc, &mut store, first, Rising, 1)?;
+    let mut two = Stored::load(alloc, &mut store, log()?, Rising, 1)?;
+    let mut dirty = one.prepare_dirty(alloc)?;
+    dirty.value = (0, 6);
+    one.update(alloc, &mut store, dirty, &Right::Plain, 8)?;
+    assert_eq!(rt; one.id(), 2);
+    assert_eq!(rt; *one.object(), (0, 6));
+    let mut dirty = one.prepare_dirty(alloc)?;
+    dirty.id = 1;
+    assert_eq!(rt;
+        code(&one.update(alloc, &mut store, dirty, &Right::Plain, 8)),
+        1
+    );
+    let mut dirty = one.prepare_dirty(alloc)?;
+    dirty.value = (0, 5);
+    assert_eq!(rt;
+        code(&one.update(alloc, &mut store, dirty, &Right::Plain, 8)),
+        7
+    );
+    let dirty = two.prepare_dirty(alloc)?;
+    assert_eq!(rt;
+        code(&two.update(alloc, &mut store, dirty, &Right::Plain, 8)),
+        1
+    );
+    assert_eq!(rt; two.id(), 1);
+    Ok(())
+}
+
+#[test]
+fn fences(rt: HostRuntime) -> Result<(), Fail> {
+    let alloc = rt.alloc();
+    let first = log()?;
+    let mut store = store_with(alloc, &first, &[(1, [3, 5])], None)?;
+    let one = Stored::load(alloc, &mut store, first, Rising, 1)?;
+    let two = Stored::load(alloc, &mut store, log()?, Rising, 1)?;
+    let three = Stored::load(alloc, &mut store, log()?, Rising, 1)?;
+    let one = Fenced::init(alloc, one, First, &mut store, 8, 1)?;
+    assert_eq!(rt; one.local_epoch(), 4);
+    assert_eq!(rt; one.id(), 2);
+    assert_eq!(rt;
+        code(&Fenced::init(alloc, two, First, &mut store, 8, 1)),
+        21
+    );
+    let three = Fenced::init(alloc, three, First, &mut store, 8, 2)?;
+    assert_eq!(rt; three.local_epoch(), 5);
+    assert_eq!(rt; *three.object(), (5, 5));
+    Ok(())
+}
+
+#[test]
+fn loads_and_updates_by_steps(rt: HostRuntime) -> Result<(), Fail> {
+    let alloc = rt.alloc();
+    let first = log()?;
+    let mut store = store_with(alloc, &first, &[(1, [0, 5])], None)?;
+    let mut load = Stored::start_load(first, Rising);
+    let _ = load.next(alloc, &mut store, 0);
+    let _ = load.next(alloc, &mut store, 0);
+    let Step::Done(loaded) = load.next(alloc, &mut store, 0) else {
+        return Err("the load goes on".into());
+    };
+    assert_eq!(rt; load.due(), false);
+    let mut holder = loaded?;
+    let mut dirty = holder.prepare_dirty(alloc)?;
+    dirty.value = (0, 9);
+    let mut update = holder.start_update(alloc, dirty, &Right::Plain)?;
+    assert_eq!(rt; update.due(), true);
+    let _ = update.next(alloc, &mut holder, &mut store, 8);
+    assert_eq!(rt; *holder.object(), (0, 5));
+    let _ = update.next(alloc, &mut holder, &mut store, 8);
+    assert_eq!(rt; update.due(), false);
+    assert_eq!(rt; *holder.object(), (0, 9));
+    let mut dirty = holder.prepare_dirty(alloc)?;
+    dirty.id = 7;
+    let mut update = holder.start_update(alloc, dirty, &Right::Plain)?;
+    assert_eq!(rt; update.due(), false);
+    let Step::Done(refused) = update.next(alloc, &mut holder, &mut store, 8) else {
+        return Err("the update goes on".into());
+    };
+    assert_eq!(rt; code(&refused), 1);
+    Ok(())
+}
+
+#[test]
+fn fences_by_steps(rt: HostRuntime) -> Result<(), Fail> {
+    let alloc = rt.alloc();
+    let first = log()?;
+    let mut store = store_with(alloc, &first, &[(1, [3, 5])], None)?;
+    let one = Stored::load(alloc, &mut store, first, Rising, 1)?;
+    let two = Stored::load(alloc, &mut store, log()?, Rising, 1)?;
+    let mut init = Fenced::start_init(alloc, one, First)?;
+    let _ = init.next(alloc, &mut store, 8);
+    let Step::Done(fenced) = init.next(alloc, &mut store, 8) else {
+        return Err("the fence goes on".into());
+    };
+    assert_eq!(rt; fenced?.local_epoch(), 4);
+    let mut init = Fenced::start_init(alloc, two, First)?;
+    let Step::Done(fenced) = init.next(alloc, &mut store, 8) else {
+        return Err("the fence goes on".into());
+    };
+    assert_eq!(rt; code(&fenced), 1);
+    assert_eq!(rt; init.due(), false);
+    Ok(())
+}
+
+#[test]
+fn reads_and_lists_in_one_step(rt: HostRuntime) -> Result<(), Fail> {
+    let alloc = rt.alloc();
+    let log = log()?;
+    let mut store = store_with(alloc, &log, &[(1, [0, 5])], None)?;
+    let mut read = log.start_try_read(1);
+    let Step::Done(value) = read.next(alloc, &log, &mut store, 0) else {
+        return Err("the read goes on".into());
+    };
+    assert_eq!(rt; value?, Some((0, 5)));
+    let mut list = log.start_list(NumberRange {
+        start: Bound::Included(1),
+        end: Bound::Unbounded,
+    });
+    let Step::Done(versions) = list.next(alloc, &log, &mut store, 0) else {
+        return Err("the list goes on".into());
+    };
+    assert_eq!(rt; versions?.as_slice().len(), 1);
+    assert_eq!(rt; list.due(), false);
+    Ok(())
+}
