@@ -300,9 +300,7 @@ impl SlateDBError {
                     extractor: Text::copy_of(alloc, extractor.as_str())?,
                 }
             }
-            Self::WalStoreReconfigurationError => {
-                Self::WalStoreReconfigurationError
-            }
+            Self::WalStoreReconfigurationError => { Self::WalStoreReconfigurationError }
             Self::StoreFault => Self::StoreFault,
             Self::Contended => Self::Contended,
             Self::Exhausted(n) => Self::Exhausted(*n),

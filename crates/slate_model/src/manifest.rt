@@ -21,7 +21,7 @@ pub struct Manifest {
     pub last_l0_seq: u64,
     /// Moments of sequence numbers.
     pub sequence_tracker: SequenceTracker,
-    /// The number below which versions may be deleted.
+    /// The moment, in milliseconds since the Unix epoch, that no new table may be older than.
     pub floor: u64,
 }
 

@@ -191,11 +191,7 @@ impl MemoryStore {
     }
 
     /// What a list of a folder would find now. It is no store call: it takes no mark.
-    pub fn listed(
-        &self,
-        alloc: Global,
-        dir: &ListDir,
-    ) -> Result<Vec<ObjectMetadata>, OutOfMemory>
+    pub fn listed(&self, alloc: Global, dir: &ListDir) -> Result<Vec<ObjectMetadata>, OutOfMemory>
         ensures { IfOk result (λ found. found.items ≡ listed dir.now self.now.store) }
     {
         listing(alloc, &self.objects, dir)

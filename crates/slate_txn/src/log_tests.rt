@@ -232,8 +232,17 @@ fn loads_and_updates_by_steps(rt: HostRuntime) -> Result<(), Fail> {
     let first = log()?;
     let mut store = store_with(alloc, &first, &[(1, [0, 5])], None)?;
     let mut load = Stored::start_load(first, Rising);
+    if !load.due() {
+        return Err("no call is due".into());
+    }
     let _ = load.next(alloc, &mut store, 0);
+    if !load.due() {
+        return Err("no call is due".into());
+    }
     let _ = load.next(alloc, &mut store, 0);
+    if !load.due() {
+        return Err("no call is due".into());
+    }
     let Step::Done(loaded) = load.next(alloc, &mut store, 0) else {
         return Err("the load goes on".into());
     };
@@ -243,8 +252,14 @@ fn loads_and_updates_by_steps(rt: HostRuntime) -> Result<(), Fail> {
     dirty.value = (0, 9);
     let mut update = holder.start_update(alloc, dirty, &Right::Plain)?;
     assert_eq!(rt; update.due(), true);
+    if !update.due() {
+        return Err("no call is due".into());
+    }
     let _ = update.next(alloc, &mut holder, &mut store, 8);
     assert_eq!(rt; *holder.object(), (0, 5));
+    if !update.due() {
+        return Err("no call is due".into());
+    }
     let _ = update.next(alloc, &mut holder, &mut store, 8);
     assert_eq!(rt; update.due(), false);
     assert_eq!(rt; *holder.object(), (0, 9));
@@ -267,6 +282,9 @@ fn fences_by_steps(rt: HostRuntime) -> Result<(), Fail> {
     let one = Stored::load(alloc, &mut store, first, Rising, 1)?;
     let two = Stored::load(alloc, &mut store, log()?, Rising, 1)?;
     let mut init = Fenced::start_init(alloc, one, First)?;
+    if !init.due() {
+        return Err("no call is due".into());
+    }
     let _ = init.next(alloc, &mut store, 8);
     let Step::Done(fenced) = init.next(alloc, &mut store, 8) else {
         return Err("the fence goes on".into());

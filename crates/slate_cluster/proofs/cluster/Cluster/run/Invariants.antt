@@ -1,0 +1,7 @@
+use Rattle.std.proofs.Common.{◌≤◌, length, vec_len}
+use Rattle.slate_cluster.proofs.Events.{Goes}
+use Rattle.slate_cluster.proofs.cluster.Cluster.run.Given as goal
+
+-- the events so far were done, and their entries are in the trail
+abbrev pub invariant-loop-i : goal.invariant-loop-i
+invariant-loop-i l = Goes l.events l.i l.fn.self (record { trail = l.self-inside.trail.items; world = l.self-inside.state })

@@ -1,0 +1,32 @@
+-- What one step of a phrase does.
+use Rattle.std.specs.Prelude.{◌≡◌, ℕ, ℤ, List, Option, Some, None, Result, Ok, Err}
+use Rattle.slate_model.specs.declared.manifest.Manifest.{Manifest}
+use Rattle.slate_model.specs.Codec.{decoded}
+use Rattle.slate_store.specs.Calls.{Told}
+use Rattle.slate_store.specs.Machines.{Steps}
+use Rattle.slate_store.specs.declared.step.Step.{Step}
+use Rattle.slate_store.specs.declared.step.Step.TheVariants.{Again, Done}
+use Rattle.slate_txn.specs.declared.read.ReadPhase.{ReadPhase}
+use Rattle.slate_txn.specs.declared.read.ReadPhase.TheVariants.{Bounding}
+use Rattle.slate_txn.specs.declared.commit.CommitPhase.{CommitPhase}
+use Rattle.slate_protocol.specs.Phrases.{asks, goes, at_read, at_commit}
+use Rattle.slate_protocol.specs.declared.position.Position.{Position}
+use Rattle.slate_protocol.specs.declared.position.Ended.{Ended}
+use Rattle.slate_protocol.specs.declared.position.Ended.TheVariants.{NoVersion, Version, Committed}
+
+-- a step of a read, as one of the position
+abbrev pub ReadSteps : List ℕ → ReadPhase Manifest → ReadPhase Manifest → ℤ → Told → Told → Step Ended → Type 0
+ReadSteps db from to moment old new step = Steps old new (asks (at_read db from)) moment (goes (at_read db from)) (at_read db from) (at_read db to) step
+
+-- a step of a commit, as one of the position
+abbrev pub CommitSteps : List ℕ → CommitPhase Manifest → CommitPhase Manifest → ℤ → Told → Told → Step Ended → Type 0
+CommitSteps db from to moment old new step = Steps old new (asks (at_commit db from)) moment (goes (at_commit db from)) (at_commit db from) (at_commit db to) step
+
+-- a version is given where its boundary was read
+abbrev pub ReadAtEnd : ReadPhase Manifest → Step Ended → Type 0
+ReadAtEnd from (Done (Ok (Version n m))) = from ≡ Bounding n m
+ReadAtEnd from _ = Unit {0}
+
+abbrev pub AtEnd : Position → Step Ended → Type 0
+AtEnd from (Done (Ok (Version n m))) = from ≡ at_read from.db (Bounding n m)
+AtEnd from _ = Unit {0}

@@ -1,0 +1,32 @@
+-- What a step did to a party.
+use Rattle.std.specs.Prelude.{◌≡◌, ℤ, Bool, false, Option}
+use Rattle.slate_store.specs.Store.{Store, effect}
+use Rattle.slate_store.specs.declared.mark.Mark.{Mark}
+use Rattle.slate_store.specs.declared.made.Made.{Made}
+use Rattle.slate_script.specs.declared.reply.Reply.{Reply}
+use Rattle.slate_protocol.specs.Phrases.{asks, goes, is_due}
+use Rattle.slate_protocol.specs.Calls.{follow}
+use Rattle.slate_protocol.specs.World.{settled, reply_of}
+use Rattle.slate_protocol.specs.declared.party.Facts.{Facts}
+use Rattle.slate_protocol.specs.declared.party.Party.{Party}
+use Rattle.slate_protocol.specs.declared.party.Purpose.{Purpose}
+use Rattle.slate_protocol.specs.declared.party.State.{State}
+use Rattle.slate_protocol.specs.declared.party.State.TheVariants.{Resting, Busy}
+use Rattle.slate_protocol.specs.declared.position.Position.{Position}
+
+-- whether a store call is due in a party's call
+abbrev pub is_busy : State → Bool
+is_busy Resting = false
+is_busy (Busy purpose position) = is_due position
+
+-- the one store call was made, with the store's answer, and the party stands where its row says
+pub record Moves (facts : Facts) (purpose : Purpose) (position : Position) (moment : ℤ) (mark : Mark) (old new : Store) (made : Made) (reply : Option Reply) (party : Party) : Type 0 where
+  pub call : made.call ≡ asks position
+  pub answer : made.answer ≡ (effect mark (asks position) moment old).answer
+  pub store : new ≡ (effect mark (asks position) moment old).store
+  pub replied : reply ≡ reply_of (follow facts purpose (goes position (effect mark (asks position) moment old).answer))
+  pub stands : party ≡ settled facts (follow facts purpose (goes position (effect mark (asks position) moment old).answer))
+
+abbrev pub PartyStepped : Facts → State → ℤ → Mark → Store → Store → Made → Option Reply → Party → Type 0
+PartyStepped facts Resting moment mark old new made reply party = ⊥
+PartyStepped facts (Busy purpose position) moment mark old new made reply party = Moves facts purpose position moment mark old new made reply party

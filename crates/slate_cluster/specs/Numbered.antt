@@ -1,0 +1,42 @@
+-- What an event did to the parties, by number.
+use Rattle.std.specs.Prelude.{◌≡◌, ℕ, ℤ, List, Bool, true, Option, Some, None, if◌then◌else◌}
+use Rattle.slate_store.specs.Store.{Store}
+use Rattle.slate_store.specs.declared.mark.Mark.{Mark}
+use Rattle.slate_store.specs.declared.made.Made.{Made}
+use Rattle.slate_script.specs.declared.call.Call.{Call}
+use Rattle.slate_script.specs.declared.reply.Reply.{Reply}
+use Rattle.slate_script.specs.declared.entry.Entry.{Entry}
+use Rattle.slate_script.specs.declared.entry.Entry.TheVariants.{Started, Idle}
+use Rattle.slate_protocol.specs.Calls.{has_call, begin}
+use Rattle.slate_protocol.specs.World.{with_party, settled, reply_of}
+use Rattle.slate_protocol.specs.declared.party.Party.{Party}
+use Rattle.slate_protocol.specs.declared.party.Facts.{Facts}
+use Rattle.slate_protocol.specs.declared.party.State.{State}
+use Rattle.slate_protocol.specs.declared.party.State.TheVariants.{Resting, Busy}
+use Rattle.slate_cluster.specs.Moved.{is_busy, PartyStepped}
+
+-- the party is there, and a store call is due in its call
+abbrev pub IsBusyAt : Option Party → Type 0
+IsBusyAt None = ⊥
+IsBusyAt (Some party) = is_busy party.state ≡ true
+
+-- a step of the party that is there
+abbrev pub NumberStepped : ℕ → ℤ → Mark → List (ℕ × Party) → Option Party → Store → Store → Made → Option Reply → List (ℕ × Party) → Type 0
+NumberStepped n moment mark old None before now made reply new = ⊥
+NumberStepped n moment mark old (Some party) before now made reply new = (to : Party) × PartyStepped party.facts party.state moment mark before now made reply to × (new ≡ with_party n to old)
+
+-- the entry of a start, and the parties after it
+abbrev pub start_entry : ℕ → Facts → State → Call → Entry
+start_entry n facts Resting call = Started n (reply_of (begin facts call))
+start_entry n facts (Busy purpose position) call = Idle n
+
+abbrev pub start_parties : ℕ → Facts → State → Call → List (ℕ × Party) → List (ℕ × Party)
+start_parties n facts Resting call parties = with_party n (settled facts (begin facts call)) parties
+start_parties n facts (Busy purpose position) call parties = parties
+
+-- a start: bad where the number is unknown or its kind lacks the call
+abbrev pub NumberStarted : ℕ → Call → List (ℕ × Party) → Option Party → Option Entry → List (ℕ × Party) → Type 0
+NumberStarted n call old None entry new = (entry ≡ None) × (new ≡ old)
+NumberStarted n call old (Some party) entry new =
+    (entry ≡ (if has_call party.facts.kind call then Some (start_entry n party.facts party.state call) else None))
+    × (new ≡ (if has_call party.facts.kind call then start_parties n party.facts party.state call old else old))

@@ -1,0 +1,27 @@
+-- What a call of the cluster says of its run.
+use Rattle.std.specs.Prelude.{◌≡◌, ℕ, List, [], ◌∷◌, ◌++◌, take, Option, Some, None, Result, Ok, Err}
+use Rattle.slate_script.specs.declared.db_spec.DbSpec.{DbSpec}
+use Rattle.slate_script.specs.declared.event.Event.{Event}
+use Rattle.slate_script.specs.declared.entry.Entry.{Entry}
+use Rattle.slate_protocol.specs.World.{World, happens}
+use Rattle.slate_protocol.specs.Runs.{Course, opening_of, run}
+use Rattle.slate_cluster.specs.declared.cluster.Report.{Report}
+use Rattle.slate_cluster.specs.declared.cluster.ClusterError.{ClusterError}
+use Rattle.slate_cluster.specs.declared.cluster.ClusterError.TheVariants.{BadEvent, OutOfMemory}
+
+-- the state as a run of one database begins
+abbrev pub Begins : List DbSpec → World → Type 0
+Begins (spec ∷ []) w = w ≡ opening_of spec
+Begins _ w = ⊥
+
+-- what an event did: nothing where it was bad
+abbrev pub Happened : World → Event → Option Entry → World → Type 0
+Happened old e None new = (happens old e ≡ None) × (new ≡ old)
+Happened old e (Some entry) new = happens old e ≡ Some (record { entry = entry; world = new })
+
+-- all events were done, and the report has their entries; or the first bad event ended the run; or memory ran out, and
+-- what was done before its place stands
+abbrev pub HasRun : Course → List Event → Result Report ClusterError → Course → Type 0
+HasRun old es (Ok report) new = (run es 0 old ≡ record { course = new; bad = None }) × (new.trail ≡ old.trail ++ report.entries.items)
+HasRun old es (Err (BadEvent place)) new = run es 0 old ≡ record { course = new; bad = Some place }
+HasRun old es (Err (OutOfMemory place)) new = run (take place es) 0 old ≡ record { course = new; bad = None }

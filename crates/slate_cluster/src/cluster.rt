@@ -1,0 +1,138 @@
+//! The cluster: parties over one store, with the trail of what happened.
+ghost use Rattle.std.specs.Prelude.{◌≡◌, ◌++◌, ◌∷◌, [], ◌<◌, IfOk, OnOk, vec_len, vec_capacity, map};
+ghost use Rattle.slate_script.specs.Scripts.{IsOneNew};
+ghost use Rattle.slate_protocol.specs.Runs.{Opens};
+ghost use Rattle.slate_cluster.specs.Ran.{HasRun};
+
+use crate::state::ClusterState;
+use slate_ids::{DbPath, OutOfMemory};
+use slate_protocol::Tally;
+use slate_script::{DbSpec, Entry, Event};
+use slate_store::MemoryStore;
+use std::alloc::Global;
+use std::collections::BTreeMap;
+use std::marker::Model;
+
+/// Parties at one store. Contracts see what happened so far, and the state after it.
+#[derive(Drop)]
+pub struct Cluster {
+    state: ClusterState,
+    trail: Vec<Entry>,
+}
+
+impl Model for Cluster {
+    ghost use Rattle.slate_protocol.specs.Runs.{Course};
+
+    ghost Value = { Course };
+
+    ghost view = { λ a. record { trail = a.trail.items; world = a.state } };
+}
+
+/// Why a cluster was not made.
+#[derive(Clone, Copy, Debug, PartialEq, Eq)]
+pub enum NewError {
+    /// Memory ran out.
+    OutOfMemory,
+}
+
+/// How a run ended early. Places count the events of this run from 0.
+#[derive(Clone, Copy, Debug, PartialEq, Eq)]
+pub enum ClusterError {
+    /// The event at this place is the first bad one. The events before it stand, and the others did nothing.
+    BadEvent { place: u64 },
+    /// Memory ran out at this place. The events before it stand, and the others did nothing.
+    OutOfMemory { place: u64 },
+}
+
+/// What a run did: an entry for each of its events.
+#[derive(Debug, Drop)]
+pub struct Report {
+    pub entries: Vec<Entry>,
+}
+
+// Adds an entry for which there is room.
+fn keep(trail: &mut Vec<Entry>, entry: Entry)
+    requires { vec_len trail.old < vec_capacity trail.old }
+    ensures { trail.new.items ≡ trail.old.items ++ entry ∷ [] }
+{
+    let _ = trail.push(entry);
+}
+
+// Equal entries.
+fn copy_entries(alloc: Global, entries: &[Entry]) -> Result<Vec<Entry>, OutOfMemory>
+    ensures { IfOk result (λ copied. copied.items ≡ entries.now) }
+{
+    let mut copied = Vec::new(alloc);
+    for entry in entries {
+        copied.push(entry.copy(alloc)?)?;
+    }
+    Ok(copied)
+}
+
+impl Cluster {
+    /// A cluster over one new database, with no party.
+    pub fn new(alloc: Global, specs: Vec<DbSpec>) -> Result<Cluster, NewError>
+        requires { IsOneNew specs.items }
+        ensures { IfOk result (Opens specs.items) }
+    {
+        match ClusterState::new(alloc, specs.as_slice()) {
+            Ok(state) => Ok(Cluster {
+                state,
+                trail: Vec::new(alloc),
+            }),
+            Err(_) => Err(NewError::OutOfMemory),
+        }
+    }
+
+    /// Does the events in order, up to the first bad one.
+    pub fn run(&mut self, alloc: Global, events: &[Event]) -> Result<Report, ClusterError>
+        ensures { HasRun self.old events.now result self.new }
+    {
+        let before = self.trail.len();
+        for (i, event) in events.iter().enumerate() {
+            let place = i as u64;
+            if self.trail.reserve(1).is_err() {
+                return Err(ClusterError::OutOfMemory { place });
+            }
+            match self.state.event(alloc, event) {
+                Err(_) => return Err(ClusterError::OutOfMemory { place }),
+                Ok(None) => return Err(ClusterError::BadEvent { place }),
+                Ok(Some(entry)) => keep(&mut self.trail, entry),
+            }
+        }
+        match copy_entries(alloc, &self.trail[before..]) {
+            Ok(entries) => Ok(Report { entries }),
+            Err(_) => Err(ClusterError::OutOfMemory {
+                place: events.len() as u64,
+            }),
+        }
+    }
+
+    /// The entries of all events since the cluster was made.
+    pub fn trail(&self) -> &[Entry]
+        ensures { result.now ≡ self.now.trail }
+    {
+        self.trail.as_slice()
+    }
+
+    /// The store as it stands.
+    pub fn store(&self) -> &MemoryStore
+        ensures { result.now.store ≡ self.now.world.store }
+    {
+        self.state.store()
+    }
+
+    /// The databases by path, with their greatest committed numbers.
+    pub(crate) fn tallies(&self) -> &BTreeMap<DbPath, Tally>
+        ensures { result.now.entries ≡ self.now.world.tallies }
+    {
+        self.state.tallies()
+    }
+
+    /// How many deletes removed an object.
+    pub(crate) fn deleted(&self) -> u64
+        ensures { result ≡ self.now.world.deleted }
+    {
+        self.state.deleted()
+    }
+}

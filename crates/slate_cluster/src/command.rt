@@ -1,0 +1,36 @@
+//! Commands of the program.
+ghost use Rattle.std.specs.Prelude.{◌≡◌};
+ghost use Rattle.slate_cluster.specs.Commands.{command_of};
+
+/// What the words of the command line ask for.
+#[derive(Clone, Copy, Debug, Drop, PartialEq, Eq)]
+pub enum Command {
+    /// Runs the script of the input and writes its report.
+    Run,
+    /// Writes what the program does and how it is called.
+    Help,
+    /// Writes the name and the version of the program.
+    Version,
+}
+
+// The command of a word.
+fn word_command(word: &str) -> Option<Command>
+    ensures { result ≡ Rattle.slate_cluster.specs.Commands.word_command word.now }
+{
+    match word {
+        "run" => Some(Command::Run),
+        "--help" => Some(Command::Help),
+        "--version" => Some(Command::Version),
+        _ => None,
+    }
+}
+
+/// The command of the words of a command line, without the program's name. A command is one word.
+pub(crate) fn command_in(words: &[String]) -> Option<Command>
+    ensures { result ≡ command_of words.now }
+{
+    match words {
+        [word] => word_command(word.as_str()),
+        _ => None,
+    }
+}
