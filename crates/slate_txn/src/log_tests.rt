@@ -145,14 +145,22 @@ fn reads_by_steps(rt: HostRuntime) -> Result<(), Fail> {
     let log = log()?;
     let mut store = store_with(alloc, &log, &[(1, [0, 5])], None)?;
     let mut read = log.start_read_latest();
-    let mut steps = 0;
-    while read.due() && steps < 9 {
-        steps += 1;
-        if let Step::Done(reply) = read.next(alloc, &log, &mut store, 0) {
-            assert_eq!(rt; reply?, Some((1, (0, 5))));
-        }
+    if !read.due() {
+        return Err("no call is due".into());
     }
-    assert_eq!(rt; steps, 3);
+    let _ = read.next(alloc, &log, &mut store, 0);
+    if !read.due() {
+        return Err("no call is due".into());
+    }
+    let _ = read.next(alloc, &log, &mut store, 0);
+    if !read.due() {
+        return Err("no call is due".into());
+    }
+    let Step::Done(reply) = read.next(alloc, &log, &mut store, 0) else {
+        return Err("the read goes on".into());
+    };
+    assert_eq!(rt; reply?, Some((1, (0, 5))));
+    assert_eq!(rt; read.due(), false);
     Ok(())
 }
 
@@ -286,6 +294,9 @@ fn fences_by_steps(rt: HostRuntime) -> Result<(), Fail> {
         return Err("no call is due".into());
     }
     let _ = init.next(alloc, &mut store, 8);
+    if !init.due() {
+        return Err("no call is due".into());
+    }
     let Step::Done(fenced) = init.next(alloc, &mut store, 8) else {
         return Err("the fence goes on".into());
     };
