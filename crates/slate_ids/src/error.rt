@@ -251,10 +251,7 @@ impl SlateDBError {
                     boundary: *boundary,
                 }
             }
-            Self::Fenced { own, read } => Self::Fenced {
-                own: *own,
-                read: *read,
-            },
+            &Self::Fenced { own, read } => Self::Fenced { own, read },
             Self::LatestTransactionalObjectVersionMissing => {
                 Self::LatestTransactionalObjectVersionMissing
             }

@@ -120,16 +120,9 @@ impl<T: Drop> ApplyPhase<T> {
                         Step::Done(Err(SlateDBError::LatestTransactionalObjectVersionMissing))
                     }
                     Step::Done(Ok(Some((id, value)))) => {
-                        let held = &*holder;
-                        let renewed = renew(
-                            alloc,
-                            &held.sequenced.codec,
-                            &held.rules,
-                            change,
-                            right,
-                            id,
-                            &value,
-                        );
+                        let codec = &holder.sequenced.codec;
+                        let rules = &holder.rules;
+                        let renewed = renew(alloc, codec, rules, change, right, id, &value);
                         match renewed {
                             Err(e) => {
                                 if e.is_memory() {
