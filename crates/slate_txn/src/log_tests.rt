@@ -1,5 +1,5 @@
 //! Logs of small numbers over a store in memory.
-ghost use Rattle.std.specs.Prelude.{◌≡◌, refl};
+ghost use Rattle.std.specs.Prelude.{◌≡◌, refl, true, OnOk};
 ghost use Rattle.slate_txn.specs.Numbers.{encoded, decoded, refusal, round_trip};
 
 use crate::{Fenced, LogKind, Right, Rules, Sequenced, Stored};
@@ -115,10 +115,46 @@ fn store_with(
     Ok(store)
 }
 
-fn code<T>(reply: &Result<T, SlateDBError>) -> u8 {
+// The number of the refusal, or 0.
+fn code<T: Drop>(reply: Result<T, SlateDBError>) -> u8 {
     match reply {
         Ok(_) => 0,
         Err(e) => e.code(),
+    }
+}
+
+// What a machine answers that ends here.
+fn ended<T: Drop>(step: Step<T>) -> Result<T, Fail> {
+    match step {
+        Step::Done(Ok(reply)) => Ok(reply),
+        Step::Done(Err(_)) => Err("the machine refuses".into()),
+        Step::Again => Err("the machine goes on".into()),
+    }
+}
+
+// The number of the refusal of a machine that ends here, or 0.
+fn refused<T: Drop>(step: Step<T>) -> u8 {
+    match step {
+        Step::Done(reply) => code(reply),
+        Step::Again => 0,
+    }
+}
+
+// Nothing, of a machine that goes on.
+fn again<T: Drop>(step: Step<T>) -> Result<(), Fail> {
+    match step {
+        Step::Again => Ok(()),
+        Step::Done(_) => Err("the machine ends".into()),
+    }
+}
+
+// Nothing, where a call is due.
+fn expect_due(due: bool) -> Result<(), Fail>
+    ensures { OnOk result (due ≡ true) }
+{
+    match due {
+        true => Ok(()),
+        false => Err("no call is due".into()),
     }
 }
 
@@ -133,9 +169,9 @@ fn reads_the_latest(rt: HostRuntime) -> Result<(), Fail> {
     assert_eq!(rt; log.try_read(alloc, &mut store, 1)?, Some((0, 5)));
     assert_eq!(rt; log.try_read(alloc, &mut store, 3)?, None);
     let mut store = store_with(alloc, &log, &[(1, [0, 5]), (2, [0, 6])], Some("2"))?;
-    assert_eq!(rt; code(&log.read_latest(alloc, &mut store, 2)), 21);
+    assert_eq!(rt; code(log.read_latest(alloc, &mut store, 2)), 21);
     let mut store = store_with(alloc, &log, &[(2, [0, 6])], Some("01"))?;
-    assert_eq!(rt; code(&log.read_latest(alloc, &mut store, 2)), 13);
+    assert_eq!(rt; code(log.read_latest(alloc, &mut store, 2)), 13);
     Ok(())
 }
 
@@ -145,21 +181,13 @@ fn reads_by_steps(rt: HostRuntime) -> Result<(), Fail> {
     let log = log()?;
     let mut store = store_with(alloc, &log, &[(1, [0, 5])], None)?;
     let mut read = log.start_read_latest();
-    if !read.due() {
-        return Err("no call is due".into());
-    }
-    let _ = read.next(alloc, &log, &mut store, 0);
-    if !read.due() {
-        return Err("no call is due".into());
-    }
-    let _ = read.next(alloc, &log, &mut store, 0);
-    if !read.due() {
-        return Err("no call is due".into());
-    }
-    let Step::Done(reply) = read.next(alloc, &log, &mut store, 0) else {
-        return Err("the read goes on".into());
-    };
-    assert_eq!(rt; reply?, Some((1, (0, 5))));
+    expect_due(read.due())?;
+    again(read.next(alloc, &log, &mut store, 0))?;
+    expect_due(read.due())?;
+    again(read.next(alloc, &log, &mut store, 0))?;
+    expect_due(read.due())?;
+    let reply = ended(read.next(alloc, &log, &mut store, 0))?;
+    assert_eq!(rt; reply, Some((1, (0, 5))));
     assert_eq!(rt; read.due(), false);
     Ok(())
 }
@@ -195,18 +223,18 @@ fn updates(rt: HostRuntime) -> Result<(), Fail> {
     let mut dirty = one.prepare_dirty(alloc)?;
     dirty.id = 1;
     assert_eq!(rt;
-        code(&one.update(alloc, &mut store, dirty, &Right::Plain, 8)),
+        code(one.update(alloc, &mut store, dirty, &Right::Plain, 8)),
         1
     );
     let mut dirty = one.prepare_dirty(alloc)?;
     dirty.value = (0, 5);
     assert_eq!(rt;
-        code(&one.update(alloc, &mut store, dirty, &Right::Plain, 8)),
+        code(one.update(alloc, &mut store, dirty, &Right::Plain, 8)),
         7
     );
     let dirty = two.prepare_dirty(alloc)?;
     assert_eq!(rt;
-        code(&two.update(alloc, &mut store, dirty, &Right::Plain, 8)),
+        code(two.update(alloc, &mut store, dirty, &Right::Plain, 8)),
         1
     );
     assert_eq!(rt; two.id(), 1);
@@ -224,10 +252,7 @@ fn fences(rt: HostRuntime) -> Result<(), Fail> {
     let one = Fenced::init(alloc, one, First, &mut store, 8, 1)?;
     assert_eq!(rt; one.local_epoch(), 4);
     assert_eq!(rt; one.id(), 2);
-    assert_eq!(rt;
-        code(&Fenced::init(alloc, two, First, &mut store, 8, 1)),
-        21
-    );
+    assert_eq!(rt; code(Fenced::init(alloc, two, First, &mut store, 8, 1)), 21);
     let three = Fenced::init(alloc, three, First, &mut store, 8, 2)?;
     assert_eq!(rt; three.local_epoch(), 5);
     assert_eq!(rt; *three.object(), (5, 5));
@@ -240,45 +265,28 @@ fn loads_and_updates_by_steps(rt: HostRuntime) -> Result<(), Fail> {
     let first = log()?;
     let mut store = store_with(alloc, &first, &[(1, [0, 5])], None)?;
     let mut load = Stored::start_load(first, Rising);
-    if !load.due() {
-        return Err("no call is due".into());
-    }
-    let _ = load.next(alloc, &mut store, 0);
-    if !load.due() {
-        return Err("no call is due".into());
-    }
-    let _ = load.next(alloc, &mut store, 0);
-    if !load.due() {
-        return Err("no call is due".into());
-    }
-    let Step::Done(loaded) = load.next(alloc, &mut store, 0) else {
-        return Err("the load goes on".into());
-    };
+    expect_due(load.due())?;
+    again(load.next(alloc, &mut store, 0))?;
+    expect_due(load.due())?;
+    again(load.next(alloc, &mut store, 0))?;
+    expect_due(load.due())?;
+    let mut holder = ended(load.next(alloc, &mut store, 0))?;
     assert_eq!(rt; load.due(), false);
-    let mut holder = loaded?;
     let mut dirty = holder.prepare_dirty(alloc)?;
     dirty.value = (0, 9);
     let mut update = holder.start_update(alloc, dirty, &Right::Plain)?;
-    assert_eq!(rt; update.due(), true);
-    if !update.due() {
-        return Err("no call is due".into());
-    }
-    let _ = update.next(alloc, &mut holder, &mut store, 8);
+    expect_due(update.due())?;
+    again(update.next(alloc, &mut holder, &mut store, 8))?;
     assert_eq!(rt; *holder.object(), (0, 5));
-    if !update.due() {
-        return Err("no call is due".into());
-    }
-    let _ = update.next(alloc, &mut holder, &mut store, 8);
+    expect_due(update.due())?;
+    ended(update.next(alloc, &mut holder, &mut store, 8))?;
     assert_eq!(rt; update.due(), false);
     assert_eq!(rt; *holder.object(), (0, 9));
     let mut dirty = holder.prepare_dirty(alloc)?;
     dirty.id = 7;
     let mut update = holder.start_update(alloc, dirty, &Right::Plain)?;
     assert_eq!(rt; update.due(), false);
-    let Step::Done(refused) = update.next(alloc, &mut holder, &mut store, 8) else {
-        return Err("the update goes on".into());
-    };
-    assert_eq!(rt; code(&refused), 1);
+    assert_eq!(rt; refused(update.next(alloc, &mut holder, &mut store, 8)), 1);
     Ok(())
 }
 
@@ -290,22 +298,13 @@ fn fences_by_steps(rt: HostRuntime) -> Result<(), Fail> {
     let one = Stored::load(alloc, &mut store, first, Rising, 1)?;
     let two = Stored::load(alloc, &mut store, log()?, Rising, 1)?;
     let mut init = Fenced::start_init(alloc, one, First)?;
-    if !init.due() {
-        return Err("no call is due".into());
-    }
-    let _ = init.next(alloc, &mut store, 8);
-    if !init.due() {
-        return Err("no call is due".into());
-    }
-    let Step::Done(fenced) = init.next(alloc, &mut store, 8) else {
-        return Err("the fence goes on".into());
-    };
-    assert_eq!(rt; fenced?.local_epoch(), 4);
+    expect_due(init.due())?;
+    again(init.next(alloc, &mut store, 8))?;
+    expect_due(init.due())?;
+    let fenced = ended(init.next(alloc, &mut store, 8))?;
+    assert_eq!(rt; fenced.local_epoch(), 4);
     let mut init = Fenced::start_init(alloc, two, First)?;
-    let Step::Done(fenced) = init.next(alloc, &mut store, 8) else {
-        return Err("the fence goes on".into());
-    };
-    assert_eq!(rt; code(&fenced), 1);
+    assert_eq!(rt; refused(init.next(alloc, &mut store, 8)), 1);
     assert_eq!(rt; init.due(), false);
     Ok(())
 }
@@ -316,18 +315,14 @@ fn reads_and_lists_in_one_step(rt: HostRuntime) -> Result<(), Fail> {
     let log = log()?;
     let mut store = store_with(alloc, &log, &[(1, [0, 5])], None)?;
     let mut read = log.start_try_read(1);
-    let Step::Done(value) = read.next(alloc, &log, &mut store, 0) else {
-        return Err("the read goes on".into());
-    };
-    assert_eq!(rt; value?, Some((0, 5)));
+    let value = ended(read.next(alloc, &log, &mut store, 0))?;
+    assert_eq!(rt; value, Some((0, 5)));
     let mut list = log.start_list(NumberRange {
         start: Bound::Included(1),
         end: Bound::Unbounded,
     });
-    let Step::Done(versions) = list.next(alloc, &log, &mut store, 0) else {
-        return Err("the list goes on".into());
-    };
-    assert_eq!(rt; versions?.as_slice().len(), 1);
+    let versions = ended(list.next(alloc, &log, &mut store, 0))?;
+    assert_eq!(rt; versions.as_slice().len(), 1);
     assert_eq!(rt; list.due(), false);
     Ok(())
 }
