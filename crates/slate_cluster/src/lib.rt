@@ -2,6 +2,8 @@
 #![tactic(auto)]
 
 mod cluster;
+#[cfg(test)]
+mod cluster_tests;
 mod command;
 mod parties;
 mod party_calls;
