@@ -2,7 +2,7 @@
 ghost use Rattle.std.specs.Prelude.{◌≡◌, refl, true, OnOk};
 ghost use Rattle.slate_txn.specs.Numbers.{encoded, decoded, refusal, round_trip};
 
-use crate::{Fenced, LogKind, Right, Rules, Sequenced, Stored};
+use crate::{Fenced, InitMachine, LogKind, Right, Rules, Sequenced, Stored, UpdateMachine};
 use slate_ids::{
     DbPath, Epochs, FormatName, NumberRange, ObjectCodec, ObjectPath, OutOfMemory, SlateDBError,
     UpdateRule,
@@ -87,6 +87,8 @@ impl Rules<(u64, u64)> for Rising {
 }
 
 type Log = Sequenced<(u64, u64), Codec>;
+
+type Holder = Stored<(u64, u64), Codec, Rising>;
 
 fn log() -> Result<Log, Fail> {
     let db = DbPath::from_text("db")?.ok_or("no path of a database")?;
@@ -259,29 +261,59 @@ fn fences(rt: HostRuntime) -> Result<(), Fail> {
     Ok(())
 }
 
+// A load in three steps.
+fn load_by_steps(alloc: Global, store: &mut MemoryStore) -> Result<Holder, Fail> {
+    let mut load = Stored::start_load(log()?, Rising);
+    expect_due(load.due())?;
+    again(load.next(alloc, store, 0))?;
+    expect_due(load.due())?;
+    again(load.next(alloc, store, 0))?;
+    expect_due(load.due())?;
+    ended(load.next(alloc, store, 0))
+}
+
 #[test]
-fn loads_and_updates_by_steps(rt: HostRuntime) -> Result<(), Fail> {
+fn loads_by_steps(rt: HostRuntime) -> Result<(), Fail> {
     let alloc = rt.alloc();
-    let first = log()?;
-    let mut store = store_with(alloc, &first, &[(1, [0, 5])], None)?;
-    let mut load = Stored::start_load(first, Rising);
-    expect_due(load.due())?;
-    again(load.next(alloc, &mut store, 0))?;
-    expect_due(load.due())?;
-    again(load.next(alloc, &mut store, 0))?;
-    expect_due(load.due())?;
-    let mut holder = ended(load.next(alloc, &mut store, 0))?;
-    assert_eq!(rt; load.due(), false);
+    let mut store = store_with(alloc, &log()?, &[(1, [0, 5])], None)?;
+    let holder = load_by_steps(alloc, &mut store)?;
+    assert_eq!(rt; holder.id(), 1);
+    assert_eq!(rt; *holder.object(), (0, 5));
+    Ok(())
+}
+
+// An update in two steps.
+fn update_by_steps(
+    alloc: Global,
+    update: &mut UpdateMachine<(u64, u64)>,
+    holder: &mut Holder,
+    store: &mut MemoryStore,
+) -> Result<(), Fail> {
+    expect_due(update.due())?;
+    again(update.next(alloc, holder, store, 8))?;
+    expect_due(update.due())?;
+    ended(update.next(alloc, holder, store, 8))
+}
+
+#[test]
+fn updates_by_steps(rt: HostRuntime) -> Result<(), Fail> {
+    let alloc = rt.alloc();
+    let mut store = store_with(alloc, &log()?, &[(1, [0, 5])], None)?;
+    let mut holder = Stored::load(alloc, &mut store, log()?, Rising, 1)?;
     let mut dirty = holder.prepare_dirty(alloc)?;
     dirty.value = (0, 9);
     let mut update = holder.start_update(alloc, dirty, &Right::Plain)?;
-    expect_due(update.due())?;
-    again(update.next(alloc, &mut holder, &mut store, 8))?;
-    assert_eq!(rt; *holder.object(), (0, 5));
-    expect_due(update.due())?;
-    ended(update.next(alloc, &mut holder, &mut store, 8))?;
-    assert_eq!(rt; update.due(), false);
+    update_by_steps(alloc, &mut update, &mut holder, &mut store)?;
+    assert_eq!(rt; holder.id(), 2);
     assert_eq!(rt; *holder.object(), (0, 9));
+    Ok(())
+}
+
+#[test]
+fn refuses_an_update_at_once(rt: HostRuntime) -> Result<(), Fail> {
+    let alloc = rt.alloc();
+    let mut store = store_with(alloc, &log()?, &[(1, [0, 5])], None)?;
+    let mut holder = Stored::load(alloc, &mut store, log()?, Rising, 1)?;
     let mut dirty = holder.prepare_dirty(alloc)?;
     dirty.id = 7;
     let mut update = holder.start_update(alloc, dirty, &Right::Plain)?;
@@ -290,22 +322,26 @@ fn loads_and_updates_by_steps(rt: HostRuntime) -> Result<(), Fail> {
     Ok(())
 }
 
+// A raise in two steps.
+fn fence_by_steps(
+    alloc: Global,
+    init: &mut InitMachine<(u64, u64), Codec, Rising, First>,
+    store: &mut MemoryStore,
+) -> Result<Fenced<(u64, u64), Codec, Rising, First>, Fail> {
+    expect_due(init.due())?;
+    again(init.next(alloc, store, 8))?;
+    expect_due(init.due())?;
+    ended(init.next(alloc, store, 8))
+}
+
 #[test]
 fn fences_by_steps(rt: HostRuntime) -> Result<(), Fail> {
     let alloc = rt.alloc();
-    let first = log()?;
-    let mut store = store_with(alloc, &first, &[(1, [3, 5])], None)?;
-    let one = Stored::load(alloc, &mut store, first, Rising, 1)?;
-    let two = Stored::load(alloc, &mut store, log()?, Rising, 1)?;
-    let mut init = Fenced::start_init(alloc, one, First)?;
-    expect_due(init.due())?;
-    again(init.next(alloc, &mut store, 8))?;
-    expect_due(init.due())?;
-    let fenced = ended(init.next(alloc, &mut store, 8))?;
+    let mut store = store_with(alloc, &log()?, &[(1, [3, 5])], None)?;
+    let holder = Stored::load(alloc, &mut store, log()?, Rising, 1)?;
+    let mut init = Fenced::start_init(alloc, holder, First)?;
+    let fenced = fence_by_steps(alloc, &mut init, &mut store)?;
     assert_eq!(rt; fenced.local_epoch(), 4);
-    let mut init = Fenced::start_init(alloc, two, First)?;
-    assert_eq!(rt; refused(init.next(alloc, &mut store, 8)), 1);
-    assert_eq!(rt; init.due(), false);
     Ok(())
 }
 
