@@ -17,6 +17,7 @@ pub mod Updating
 pub mod Loading
 pub mod Apply
 pub mod ApplyRuns
+pub mod Fencing
 pub mod FencedHolder
 pub mod Fence
 pub mod Initing
