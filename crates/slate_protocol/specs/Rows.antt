@@ -9,10 +9,14 @@ use Rattle.slate_protocol.specs.Calls.{Next, Go, Finish, begin, follow}
 use Rattle.slate_protocol.specs.declared.party.Facts.{Facts}
 
 -- where a call stands after these answers more
-abbrev pub after_answers : Facts → Next → List StoreAnswer → Next
-after_answers facts next [] = next
-after_answers facts (Finish reply) (a ∷ answers) = Finish reply
-after_answers facts (Go purpose position) (a ∷ answers) = after_answers facts (follow facts purpose (goes position a)) answers
+abbrev pub after_answers : Facts → Call → Next → List StoreAnswer → Next
+after_answers facts call next [] = next
+after_answers facts call (Finish reply) (a ∷ answers) = Finish reply
+after_answers facts call (Go purpose position) (a ∷ answers) = after_answers facts call (follow facts call purpose (goes position a)) answers
+
+-- where a call stands after its answers so far
+abbrev pub stands_after : Facts → Call → List StoreAnswer → Next
+stands_after facts call answers = after_answers facts call (begin facts call) answers
 
 -- either the next store call, or the reply
 pub data Row : Type 0 where
@@ -25,4 +29,4 @@ row_of (Finish reply) = Replies reply
 
 -- the row of a call of a party with these facts, after these answers
 abbrev pub row : Facts → Call → List StoreAnswer → Row
-row facts call answers = row_of (after_answers facts (begin facts call) answers)
+row facts call answers = row_of (stands_after facts call answers)

@@ -1,5 +1,5 @@
 -- Runs of a list of events.
-use Rattle.std.specs.Prelude.{◌≡◌, ℕ, ◌+◌, List, [], ◌∷◌, ◌++◌, Option, Some, None}
+use Rattle.std.specs.Prelude.{ℕ, ◌+◌, List, [], ◌∷◌, ◌++◌, Option, Some, None}
 use Rattle.slate_ids.specs.declared.object_path.ObjectPath.TheVariants as paths
 use Rattle.slate_model.specs.Bytes.{manifest_bytes}
 use Rattle.slate_script.specs.declared.db_spec.DbSpec.{DbSpec}
@@ -19,14 +19,20 @@ opening_of spec = record {
   parties = [];
 }
 
--- the entries so far, and the state after them
+-- the databases as they were given, the entries so far, and the state after them
 pub record Course : Type 0 where
+  pub specs : List DbSpec
   pub trail : List Entry
   pub world : World
 
-abbrev pub Opens : List DbSpec → Course → Type 0
-Opens (spec ∷ []) course = course ≡ record { trail = []; world = opening_of spec }
-Opens _ course = ⊥
+-- the state as a run of these databases begins: there is one
+abbrev pub opening_world : List DbSpec → World
+opening_world (spec ∷ specs) = opening_of spec
+opening_world [] = record { tallies = []; deleted = 0; store = record { objects = []; last_tag = 0 }; parties = [] }
+
+-- the course as a run of these databases begins
+abbrev pub opening : List DbSpec → Course
+opening specs = record { specs = specs; trail = []; world = opening_world specs }
 
 -- a run: where it led, and the place of the first bad event
 pub record Ran : Type 0 where
@@ -34,7 +40,7 @@ pub record Ran : Type 0 where
   pub bad : Option ℕ
 
 abbrev pub going_on : Course → Done → Course
-going_on course done = record { trail = course.trail ++ done.entry ∷ []; world = done.world }
+going_on course done = record { specs = course.specs; trail = course.trail ++ done.entry ∷ []; world = done.world }
 
 -- the run of events, of which the first is at a place, up to the first bad one
 abbrev pub run : List Event → ℕ → Course → Ran

@@ -111,9 +111,9 @@ abbrev pub facts_after : Facts → Reply → Facts
 facts_after facts reply = record facts { epoch = epoch_after facts.epoch reply }
 
 -- the party where its call stands so
-abbrev pub settled : Facts → Next → Party
-settled facts (Go purpose position) = record { facts = facts; state = Busy purpose position }
-settled facts (Finish reply) = record { facts = facts_after facts reply; state = Resting }
+abbrev pub settled : Facts → Call → Next → Party
+settled facts call (Go purpose position) = record { facts = facts; state = Busy call purpose position }
+settled facts call (Finish reply) = record { facts = facts_after facts reply; state = Resting }
 
 abbrev pub reply_of : Next → Option Reply
 reply_of (Go purpose position) = None
@@ -124,32 +124,32 @@ abbrev pub newcomer : PartyKind → List ℕ → Party
 newcomer kind db = record { facts = record { kind = kind; db = db; epoch = None }; state = Resting }
 
 -- the one store call of a step, which the position asks
-abbrev pub stepped : World → ℕ → Facts → Purpose → Position → ℤ → Mark → Done
-stepped w n facts purpose position moment mark =
-    let call = asks position in
-    let outcome = effect mark call moment w.store in
-    let next = follow facts purpose (goes position outcome.answer) in
+abbrev pub stepped : World → ℕ → Facts → Call → Purpose → Position → ℤ → Mark → Done
+stepped w n facts call purpose position moment mark =
+    let asked = asks position in
+    let outcome = effect mark asked moment w.store in
+    let next = follow facts call purpose (goes position outcome.answer) in
     record {
-      entry = Called n call moment mark outcome.answer (reply_of next);
+      entry = Called n asked moment mark outcome.answer (reply_of next);
       world = record {
-        tallies = tallied call (wrote w.store outcome.store) w.tallies;
-        deleted = counted call (lost_one w.store outcome.store) w.deleted;
+        tallies = tallied asked (wrote w.store outcome.store) w.tallies;
+        deleted = counted asked (lost_one w.store outcome.store) w.deleted;
         store = outcome.store;
-        parties = with_party n (settled facts next) w.parties;
+        parties = with_party n (settled facts call next) w.parties;
       };
     }
 
 -- a step of a party with no call, or in whose call none is due, is noted idle
 abbrev pub step_state : World → ℕ → Facts → State → ℤ → Mark → Done
 step_state w n facts Resting moment mark = noted n w
-step_state w n facts (Busy purpose position) moment mark = if is_due position then stepped w n facts purpose position moment mark else noted n w
+step_state w n facts (Busy call purpose position) moment mark = if is_due position then stepped w n facts call purpose position moment mark else noted n w
 
 -- a start of a party that has a call is noted idle
 abbrev pub start_state : World → ℕ → Facts → State → Call → Done
 start_state w n facts Resting call =
     let next = begin facts call in
-    record { entry = Started n (reply_of next); world = record w { parties = with_party n (settled facts next) w.parties } }
-start_state w n facts (Busy purpose position) call = noted n w
+    record { entry = Started n (reply_of next); world = record w { parties = with_party n (settled facts call next) w.parties } }
+start_state w n facts (Busy under purpose position) call = noted n w
 
 abbrev pub open_at : World → ℕ → PartyKind → List ℕ → Option Party → Option Tally → Option Done
 open_at w n kind db None (Some tally) = Some (record { entry = Opened n; world = record w { parties = insert_entry nat_cmp w.parties n (newcomer kind db) } })

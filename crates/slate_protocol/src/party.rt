@@ -2,7 +2,7 @@
 
 use crate::position::Position;
 use slate_ids::DbPath;
-use slate_script::PartyKind;
+use slate_script::{Call, PartyKind};
 
 /// What is known of a party between its calls.
 #[derive(Clone, Copy, Debug)]
@@ -16,10 +16,10 @@ pub struct Facts {
 /// What the call does with the phrase under way.
 #[derive(Clone, Copy, Debug)]
 pub enum Purpose {
-    /// An open reads the latest manifest.
-    OpenRead,
-    /// An open commits the raise of its epoch.
-    OpenRaise,
+    /// The latest manifest is read, and the call goes on from it.
+    Reading,
+    /// What the call makes of the manifest read is committed.
+    Committing,
 }
 
 /// Whether a party has a call.
@@ -27,8 +27,8 @@ pub enum Purpose {
 pub enum State {
     /// It has none.
     Resting,
-    /// It has one, which stands here.
-    Busy(Purpose, Position),
+    /// It has this one, which stands here.
+    Busy(Call, Purpose, Position),
 }
 
 /// A party.

@@ -1,1 +1,2 @@
 pub mod OneNew
+pub mod NoItems

@@ -4,7 +4,8 @@ use Rattle.serde_json.specs.Data.{Data}
 use Rattle.serde_json.specs.Find.{get}
 use Rattle.slate_store.specs.declared.mark.Mark.TheVariants.{Good}
 use Rattle.slate_script.specs.Fields.{◌>>=◌, only, required, defaulted, u32_in, i64_in, db_path_in}
-use Rattle.slate_script.specs.Words.{kind_in, call_in}
+use Rattle.slate_script.specs.Words.{kind_in}
+use Rattle.slate_script.specs.Calls.{call_in}
 use Rattle.slate_script.specs.declared.event.Event.{Event}
 use Rattle.slate_script.specs.declared.event.Event.TheVariants.{Open, Start, Step}
 use Rattle.slate_script.specs.declared.read_event.Written.{Written}
@@ -20,9 +21,8 @@ open_in d = do
 
 unfoldable pub start_in : Data → Option Written
 start_in d = do
-  _ ← only (codes "start" ∷ codes "call" ∷ []) d
   party ← required u32_in (codes "start") d
-  call ← required call_in (codes "call") d
+  call ← call_in d
   Some (Once (Start party call))
 
 -- 1 to 1,000

@@ -46,6 +46,10 @@ default_to default reads (Some d) = reads d
 abbrev pub defaulted : {X : Type 0} → X → (Data → Option X) → List ℕ → Data → Option X
 defaulted default reads name d = default_to default reads (get name d)
 
+-- the items of an array that has to be there
+abbrev pub array_in : List ℕ → Data → Option Items
+array_in name d = required as_array name d
+
 -- ---- values
 
 abbrev pub below : ℕ → ℕ → Option ℕ

@@ -1,5 +1,6 @@
 pub mod Fields
 pub mod Words
+pub mod Calls
 pub mod Events
 pub mod Scripts
 pub mod Lines

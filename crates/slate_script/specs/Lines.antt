@@ -104,6 +104,7 @@ abbrev pub refusal_text : SlateDBError → List ℕ
 refusal_text e = decimal (code_of e) ++ codes " " ++ name_text e ++ detail_text e
 
 abbrev pub reply_text : Reply → List ℕ
+reply_text reply.Done = codes "done"
 reply_text (reply.Epoch n) = codes "epoch" ++ spaced n
 reply_text (reply.Refused e) = codes "refused " ++ refusal_text e
 

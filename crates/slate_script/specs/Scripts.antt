@@ -2,9 +2,8 @@
 use Rattle.std.specs.Prelude.{◌≡◌, ℕ, suc, ◌+◌, ℤ, pos, nat_lt, Bool, true, false, List, [], ◌∷◌, ◌++◌, Option, Some, None, Result, Ok, Err, codes, if◌then◌else◌}
 use Rattle.std.specs.Str.{is_utf8}
 use Rattle.serde_json.specs.Data.{Data, Items, no_items, item}
-use Rattle.serde_json.specs.Find.{as_array}
 use Rattle.serde_json.specs.Read.{read}
-use Rattle.slate_script.specs.Fields.{◌>>=◌, only, required, db_path_in}
+use Rattle.slate_script.specs.Fields.{◌>>=◌, only, required, array_in, db_path_in}
 use Rattle.slate_script.specs.declared.event.Event.{Event}
 use Rattle.slate_script.specs.declared.read_event.Written.{Written}
 use Rattle.slate_script.specs.declared.db_spec.DbSpec.{DbSpec}
@@ -84,9 +83,6 @@ events_from i no_items = Ok []
 events_from i (item d ds) = and_then (written_at i d) (λ w. with_front (expand w) (events_from (i + count_of w) ds))
 
 -- ---- the whole
-
-abbrev pub array_in : List ℕ → Data → Option Items
-array_in name d = required as_array name d
 
 unfoldable pub top_in : Data → Option (Items × Items)
 top_in d = do

@@ -5,8 +5,8 @@ use Rattle.serde_json.specs.Find.{as_str}
 use Rattle.slate_script.specs.Fields.{◌>>=◌}
 use Rattle.slate_script.specs.declared.party_kind.PartyKind.{PartyKind}
 use Rattle.slate_script.specs.declared.party_kind.PartyKind.TheVariants as kind
-use Rattle.slate_script.specs.declared.call.Call.{Call}
-use Rattle.slate_script.specs.declared.call.Call.TheVariants as call
+use Rattle.slate_script.specs.declared.call_name.CallName.{CallName}
+use Rattle.slate_script.specs.declared.call_name.CallName.TheVariants as name
 
 -- a word of a table of words
 abbrev pub word_in : {X : Type 0} → List (List ℕ × X) → List ℕ → Option X
@@ -19,8 +19,8 @@ kind_word s = word_in ((codes "writer", kind.Writer) ∷ []) s
 abbrev pub kind_in : Data → Option PartyKind
 kind_in d = as_str d >>= kind_word
 
-unfoldable pub call_word : List ℕ → Option Call
-call_word s = word_in ((codes "open_writer", call.OpenWriter) ∷ []) s
+unfoldable pub name_word : List ℕ → Option CallName
+name_word s = word_in ((codes "open_writer", name.OpenWriter) ∷ (codes "flush", name.Flush) ∷ []) s
 
-abbrev pub call_in : Data → Option Call
-call_in d = as_str d >>= call_word
+abbrev pub name_in : Data → Option CallName
+name_in d = as_str d >>= name_word

@@ -1,8 +1,8 @@
 //! Fields of JSON objects.
-ghost use Rattle.std.specs.Prelude.{◌≡◌, List, Option, Some, None, Bool, map, bytes_eq, string_bytes};
+ghost use Rattle.std.specs.Prelude.{◌≡◌, List, Option, Some, None, Bool, map, option_map, bytes_eq, string_bytes};
 ghost use Rattle.std.specs.List.{list_any, list_all};
-ghost use Rattle.serde_json.specs.View.{view, members_view};
-ghost use Rattle.slate_script.specs.Fields.{Gives, is_among, only_among, only as only_in, required as required_in, defaulted as defaulted_in};
+ghost use Rattle.serde_json.specs.View.{view, items_view, members_view};
+ghost use Rattle.slate_script.specs.Fields.{Gives, is_among, only_among, only as only_in, required as required_in, array_in, defaulted as defaulted_in};
 
 use crate::refusal::Refusal;
 use crate::values::FromJson;
@@ -46,6 +46,14 @@ pub(crate) fn required<T: FromJson>(alloc: Global, object: &Value, name: &str) -
         Some(value) => T::from_json(alloc, value),
         None => Err(Refusal::Malformed),
     }
+}
+
+/// The items of an array that has to be there.
+pub(crate) fn array_of<'a>(d: &'a Value, name: &str) -> Option<&'a Vec<Value>>
+    ensures { option_map (λ v. items_view v.now.items) result
+        ≡ array_in name.now (view d.now) }
+{
+    d.get(name)?.as_array()
 }
 
 /// A field that may be missing, which then means `default`.

@@ -2,11 +2,15 @@
 #![tactic(auto)]
 
 mod call;
+mod call_name;
 mod db_spec;
 mod entry;
 mod event;
 mod fields;
+#[cfg(test)]
+mod line_tests;
 mod party_kind;
+mod read_call;
 mod read_database;
 mod read_event;
 mod reading;

@@ -2,13 +2,13 @@
 ghost use Rattle.std.specs.Prelude.{◌≡◌, Some, None};
 ghost use Rattle.serde_json.specs.View.{view};
 ghost use Rattle.slate_script.specs.Fields.{Gives};
-ghost use Rattle.slate_script.specs.Words.{kind_word, call_word};
+ghost use Rattle.slate_script.specs.Words.{kind_word};
 ghost use Rattle.slate_script.specs.Events.{open_in, start_in, step_in, written_in};
 
-use crate::call::Call;
 use crate::event::Event;
 use crate::fields::{defaulted, only, required};
 use crate::party_kind::PartyKind;
+use crate::read_call::read_call;
 use crate::refusal::Refusal;
 use crate::values::FromJson;
 use serde_json::Value;
@@ -52,32 +52,6 @@ impl FromJson for PartyKind {
     }
 }
 
-#[tactic(auto, unfolding(crate::specs::Words::call_word))]
-fn call_of(text: &str) -> Option<Call>
-    ensures { result ≡ call_word text.now }
-{
-    match text {
-        "open_writer" => Some(Call::OpenWriter),
-        _ => None,
-    }
-}
-
-impl FromJson for Call {
-    ghost use Rattle.slate_script.specs.Words.{call_in};
-
-    ghost reads = { call_in };
-
-    fn from_json(_alloc: Global, d: &Value) -> Result<Call, Refusal> {
-        match d.as_str() {
-            Some(text) => match call_of(text) {
-                Some(call) => Ok(call),
-                None => Err(Refusal::Malformed),
-            },
-            None => Err(Refusal::Malformed),
-        }
-    }
-}
-
 #[tactic(auto, unfolding(crate::specs::Events::open_in))]
 fn open(alloc: Global, d: &Value) -> Result<Written, Refusal>
     ensures { Gives result (open_in (view d.now)) }
@@ -93,9 +67,8 @@ fn open(alloc: Global, d: &Value) -> Result<Written, Refusal>
 fn start(alloc: Global, d: &Value) -> Result<Written, Refusal>
     ensures { Gives result (start_in (view d.now)) }
 {
-    only(d, &["start", "call"])?;
     let party = required(alloc, d, "start")?;
-    let call = required(alloc, d, "call")?;
+    let call = read_call(alloc, d)?;
     Ok(Written::Once(Event::Start { party, call }))
 }
 

@@ -1,14 +1,14 @@
 //! The script that bytes stand for.
-ghost use Rattle.std.specs.Prelude.{◌≡◌, ◌≤◌, ◌<◌, ◌+◌, ◌++◌, IfOk, OnOk, OnErr, length, Option, Some, None, option_map};
+ghost use Rattle.std.specs.Prelude.{◌≡◌, ◌≤◌, ◌<◌, ◌+◌, ◌++◌, IfOk, OnOk, OnErr, length, Option, Some, None};
 ghost use Rattle.serde_json.specs.Read.{read};
 ghost use Rattle.serde_json.specs.View.{view, items_view};
 ghost use Rattle.slate_script.specs.Fields.{Gives};
 ghost use Rattle.slate_script.specs.Events.{expand, count_of};
-ghost use Rattle.slate_script.specs.Scripts.{Reads, at_place, database_in, databases_from, written_at, events_from, event_limit, array_in, top_in, parts_in, script_in, json_of, script_of, IsOneNew};
+ghost use Rattle.slate_script.specs.Scripts.{Reads, at_place, database_in, databases_from, written_at, events_from, event_limit, top_in, parts_in, script_in, json_of, script_of, IsOneNew};
 
 use crate::db_spec::DbSpec;
 use crate::event::Event;
-use crate::fields::only;
+use crate::fields::{array_of, only};
 use crate::read_database::read_database;
 use crate::read_event::{Written, read_event};
 use crate::refusal::Refusal;
@@ -121,13 +121,6 @@ fn events(alloc: Global, values: &[Value]) -> Result<Listed<Event>, ScriptError>
         push_written(&mut events, written)?;
     }
     Ok(events)
-}
-
-fn array_of<'a>(d: &'a Value, name: &str) -> Option<&'a Vec<Value>>
-    ensures { option_map (λ v. items_view v.now.items) result
-        ≡ array_in name.now (view d.now) }
-{
-    d.get(name)?.as_array()
 }
 
 #[tactic(auto, unfolding(crate::specs::Scripts::top_in, crate::specs::Scripts::script_in))]

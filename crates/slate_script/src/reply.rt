@@ -7,6 +7,8 @@ use std::alloc::Global;
 /// What a call of a party ends with.
 #[derive(Debug, Drop)]
 pub enum Reply {
+    /// The call was done, and there is nothing to tell.
+    Done,
     /// The epoch that an open committed.
     Epoch(u64),
     /// The call was refused.
@@ -19,6 +21,7 @@ impl Reply {
         ensures { IfOk result (λ copied. copied ≡ self.now) }
     {
         Ok(match self {
+            Reply::Done => Reply::Done,
             Reply::Epoch(n) => Reply::Epoch(*n),
             Reply::Refused(refusal) => Reply::Refused(refusal.copy(alloc)?),
         })

@@ -90,6 +90,7 @@ fn push_reply(out: &mut String, reply: &Reply) -> Result<(), AllocError>
     ensures { OnOk result (string_bytes out.new ≡ string_bytes out.old ++ reply_text reply.now) }
 {
     match reply {
+        Reply::Done => out.push_str("done"),
         Reply::Epoch(n) => write!(out, "epoch {n}"),
         Reply::Refused(refusal) => {
             out.push_str("refused ")?;

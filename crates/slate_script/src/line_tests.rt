@@ -1,0 +1,76 @@
+//! The lines of single entries.
+
+use crate::{Entry, Reply, entry_line};
+use slate_ids::{DbPath, ObjectPath, SlateDBError, StateCause};
+use slate_store::{Mark, StoreAnswer, StoreCall};
+use std::alloc::Global;
+use std::process::Abort;
+use std::test::Fail;
+
+fn check(
+    rt: &impl Abort,
+    alloc: Global,
+    place: u64,
+    entry: &Entry,
+    line: &str,
+) -> Result<(), Fail> {
+    let found = entry_line(alloc, place, entry)?;
+    assert_eq!(rt; found.as_str(), line);
+    Ok(())
+}
+
+#[test]
+fn entries_without_a_store_call(rt: HostRuntime) -> Result<(), Fail> {
+    let alloc = rt.alloc();
+    check(&rt, alloc, 0, &Entry::Opened { party: 7 }, "0 open 7\n")?;
+    check(&rt, alloc, 12, &Entry::Idle { party: 7 }, "12 idle 7\n")?;
+    let started = Entry::Started {
+        party: 1,
+        reply: None,
+    };
+    check(&rt, alloc, 1, &started, "1 start 1\n")?;
+    let refusal = SlateDBError::InvalidDBState(StateCause::NotOpen);
+    let refused = Entry::Started {
+        party: 1,
+        reply: Some(Reply::Refused(refusal)),
+    };
+    check(
+        &rt,
+        alloc,
+        2,
+        &refused,
+        "2 start 1 reply refused 8 InvalidDBState\n",
+    )
+}
+
+fn got_boundary(reply: Option<Reply>) -> Result<Entry, Fail> {
+    let db = DbPath::from_text("db")?.ok_or("no path of a database")?;
+    Ok(Entry::Called {
+        party: 1,
+        call: StoreCall::Get(ObjectPath::ManifestBoundary(db)),
+        moment: 5,
+        mark: Mark::Good,
+        answer: StoreAnswer::Got(None),
+        reply,
+    })
+}
+
+#[test]
+fn entries_with_a_store_call(rt: HostRuntime) -> Result<(), Fail> {
+    let alloc = rt.alloc();
+    check(
+        &rt,
+        alloc,
+        3,
+        &got_boundary(Some(Reply::Done))?,
+        "3 call 1 get db/gc/manifest.boundary -> none reply done\n",
+    )?;
+    let refusal = SlateDBError::Fenced { own: 1, read: 2 };
+    check(
+        &rt,
+        alloc,
+        4,
+        &got_boundary(Some(Reply::Refused(refusal)))?,
+        "4 call 1 get db/gc/manifest.boundary -> none reply refused 2 Fenced 1 2\n",
+    )
+}

@@ -1,0 +1,60 @@
+//! The call that an item with `start` stands for.
+ghost use Rattle.serde_json.specs.View.{view, items_view};
+ghost use Rattle.slate_script.specs.Fields.{Gives};
+ghost use Rattle.slate_script.specs.Calls.{open_writer_in, is_empty, no_tables_in, flush_in, call_in};
+
+use crate::call::Call;
+use crate::call_name::CallName;
+use crate::fields::{array_of, only, required};
+use crate::refusal::Refusal;
+use serde_json::Value;
+use std::alloc::Global;
+
+#[tactic(auto, unfolding(crate::specs::Calls::open_writer_in))]
+fn open_writer(d: &Value) -> Result<Call, Refusal>
+    ensures { Gives result (open_writer_in (view d.now)) }
+{
+    only(d, &["start", "call"])?;
+    Ok(Call::OpenWriter)
+}
+
+// No item.
+fn none_in(items: &[Value]) -> Result<(), Refusal>
+    ensures { Gives result (is_empty (items_view items.now)) }
+{
+    if items.is_empty() {
+        Ok(())
+    } else {
+        Err(Refusal::Malformed)
+    }
+}
+
+// A flush has no tables yet.
+fn no_tables(d: &Value) -> Result<(), Refusal>
+    ensures { Gives result (no_tables_in (view d.now)) }
+{
+    match array_of(d, "tables") {
+        Some(tables) => none_in(tables.as_slice()),
+        None => Err(Refusal::Malformed),
+    }
+}
+
+#[tactic(auto, unfolding(crate::specs::Calls::flush_in))]
+fn flush(d: &Value) -> Result<Call, Refusal>
+    ensures { Gives result (flush_in (view d.now)) }
+{
+    only(d, &["start", "call", "tables"])?;
+    no_tables(d)?;
+    Ok(Call::Flush { seq: 0, tick: 0 })
+}
+
+/// The call by its name and its fields.
+#[tactic(auto, unfolding(crate::specs::Calls::call_in))]
+pub(crate) fn read_call(alloc: Global, d: &Value) -> Result<Call, Refusal>
+    ensures { Gives result (call_in (view d.now)) }
+{
+    match required(alloc, d, "call")? {
+        CallName::OpenWriter => open_writer(d),
+        CallName::Flush => flush(d),
+    }
+}
