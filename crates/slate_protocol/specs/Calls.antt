@@ -51,10 +51,15 @@ abbrev pub fenced : Option ℕ → ℕ → Option SlateDBError
 fenced None read = Some (InvalidDBState NotOpen)
 fenced (Some own) read = fence own read
 
+-- the fence of a call at a manifest read: an open raises the epoch and has none
+abbrev pub fence_of : Facts → Call → Manifest → Option SlateDBError
+fence_of facts OpenWriter m = None
+fence_of facts (Flush seq tick) m = fenced facts.epoch m.writer_epoch
+
 -- the commit of what a call makes of the manifest read, or why there is none
 abbrev pub commit_of : Facts → Call → ℕ → Manifest → Result (CommitPhase Manifest) SlateDBError
 commit_of facts OpenWriter n m = raised_writer n m
-commit_of facts (Flush seq tick) n m = unless (fenced facts.epoch m.writer_epoch) (next_manifest n m (new_value (Flush seq tick) m) (right_of (Flush seq tick)))
+commit_of facts (Flush seq tick) n m = unless (fence_of facts (Flush seq tick) m) (next_manifest n m (new_value (Flush seq tick) m) (right_of (Flush seq tick)))
 
 -- the reply where the commit stood
 abbrev pub reply_to : Call → Manifest → Reply

@@ -5,3 +5,5 @@ pub mod Rows
 pub mod World
 pub mod Runs
 pub mod Reports
+pub mod Chains
+pub mod Logs

@@ -1,0 +1,102 @@
+-- What a run committed, by database: kept beside the state, event by event.
+use Rattle.std.specs.Prelude.{ℕ, ◌+◌, Bool, true, false, List, [], ◌∷◌, Option, Some, None, ℤ, bytes_eq, if◌then◌else◌}
+use Rattle.slate_ids.specs.declared.error.SlateDBError.{SlateDBError}
+use Rattle.slate_model.specs.declared.manifest.Manifest.{Manifest}
+use Rattle.slate_model.specs.Bytes.{manifest_bytes}
+use Rattle.slate_model.specs.Codec.{encoded, decoded}
+use Rattle.slate_store.specs.Store.{Store, effect}
+use Rattle.slate_store.specs.declared.mark.Mark.{Mark}
+use Rattle.slate_script.specs.declared.call.Call.{Call}
+use Rattle.slate_script.specs.declared.db_spec.DbSpec.{DbSpec}
+use Rattle.slate_script.specs.declared.event.Event.{Event}
+use Rattle.slate_script.specs.declared.event.Event.TheVariants.{Open, Start, Step}
+use Rattle.slate_txn.specs.declared.commit.CommitPhase.TheVariants.{Putting}
+use Rattle.slate_txn.specs.declared.log_kind.LogKind.TheVariants.{Manifest as ManifestLog}
+use Rattle.slate_protocol.specs.Calls.{new_value, right_of, fence_of}
+use Rattle.slate_protocol.specs.Chains.{Link, Log, with_link}
+use Rattle.slate_protocol.specs.Manifests.{manifest_refusal}
+use Rattle.slate_protocol.specs.Phrases.{asks, is_due}
+use Rattle.slate_protocol.specs.World.{World, Done, party_of, wrote, happens}
+use Rattle.slate_protocol.specs.declared.party.Facts.{Facts}
+use Rattle.slate_protocol.specs.declared.party.Party.{Party}
+use Rattle.slate_protocol.specs.declared.party.State.{State}
+use Rattle.slate_protocol.specs.declared.party.State.TheVariants.{Resting, Busy}
+use Rattle.slate_protocol.specs.declared.position.Phrase.{Phrase}
+use Rattle.slate_protocol.specs.declared.position.Phrase.TheVariants.{Commit}
+use Rattle.slate_protocol.specs.declared.position.Position.{Position}
+
+-- who put a version: a party, with its facts at that time, in this call
+pub record Author : Type 0 where
+  pub party : ℕ
+  pub facts : Facts
+  pub call : Call
+
+-- the log of manifests
+abbrev pub manifests : Log Manifest Author
+manifests = record {
+  kind = ManifestLog;
+  encoded = encoded;
+  decoded = decoded;
+  normal = λ m. m;
+  refusal = manifest_refusal;
+  makes = λ a m. new_value a.call m;
+  right = λ a. right_of a.call;
+  fence = λ a m. fence_of a.facts a.call m;
+}
+
+abbrev pub Chain : Type 0
+Chain = List (Link Manifest Author)
+
+-- the chain of each database, by its path
+abbrev pub Chains : Type 0
+Chains = List ℕ → Chain
+
+-- what the phrase puts, where it puts a version
+abbrev pub put_by : Author → Phrase → Option (Link Manifest Author)
+put_by author (Commit (Putting n bytes m)) = Some (record { number = n; bytes = bytes; value = manifests.normal m; by = Some author })
+put_by author _ = None
+
+abbrev pub with_put : Option (Link Manifest Author) → Chain → Chain
+with_put None c = c
+with_put (Some l) c = with_link l c
+
+-- the chains after a put of this database, where it wrote
+abbrev pub chains_put : Bool → List ℕ → Option (Link Manifest Author) → Chains → Chains
+chains_put false db link chains = chains
+chains_put true db link chains = λ d. if bytes_eq d db then with_put link (chains d) else chains d
+
+abbrev pub chains_stepped : World → ℕ → Facts → Call → Position → ℤ → Mark → Chains → Chains
+chains_stepped w n facts call position moment mark chains =
+    chains_put (wrote w.store (effect mark (asks position) moment w.store).store) position.db (put_by (record { party = n; facts = facts; call = call }) position.phrase) chains
+
+abbrev pub chains_state : World → ℕ → Facts → State → ℤ → Mark → Chains → Chains
+chains_state w n facts Resting moment mark chains = chains
+chains_state w n facts (Busy call purpose position) moment mark chains = if is_due position then chains_stepped w n facts call position moment mark chains else chains
+
+abbrev pub chains_at : World → ℕ → Option Party → ℤ → Mark → Chains → Chains
+chains_at w n None moment mark chains = chains
+chains_at w n (Some party) moment mark chains = chains_state w n party.facts party.state moment mark chains
+
+-- the chains after an event: a step alone puts
+abbrev pub chains_after : World → Event → Chains → Chains
+chains_after w (Open n kind db) chains = chains
+chains_after w (Start n call) chains = chains
+chains_after w (Step n moment mark) chains = chains_at w n (party_of n w.parties) moment mark chains
+
+-- the state after events, up to the first bad one
+abbrev pub world_after : List Event → World → World
+world_after [] w = w
+world_after (e ∷ es) w = elim (happens w e) [ None ↦ w | Some done ↦ world_after es done.world ]
+
+-- the chains after events, up to the first bad one
+abbrev pub chains_of : List Event → World → Chains → Chains
+chains_of [] w chains = chains
+chains_of (e ∷ es) w chains = elim (happens w e) [ None ↦ chains | Some done ↦ chains_of es done.world (chains_after w e chains) ]
+
+abbrev pub opening_link : DbSpec → Link Manifest Author
+opening_link spec = record { number = 1; bytes = manifest_bytes spec.manifest; value = spec.manifest; by = None }
+
+-- the chains as a run begins: the first manifest of each database
+abbrev pub opening_chains : List DbSpec → Chains
+opening_chains [] = λ d. []
+opening_chains (spec ∷ specs) = λ d. if bytes_eq d spec.path then opening_link spec ∷ [] else opening_chains specs d
