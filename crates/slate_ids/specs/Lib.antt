@@ -9,4 +9,5 @@ pub mod Twenty
 pub mod PathText
 pub mod PathKind
 pub mod PathOf
+pub mod FinePath
 pub mod Pieces

@@ -1,0 +1,9 @@
+//! What holds of every run, whatever happens in it: the laws of the definitions of `slate_protocol`, with no code of the
+//! product. Each law is what a function without a body ensures.
+#![tactic(auto)]
+
+ghost use Rattle.std.specs.Prelude.{◌≡◌};
+
+pub fn always()
+    ensures { 1 ≡ 1 }
+{}
