@@ -1,2 +1,12 @@
-pub mod Paths
 pub mod Stores
+pub mod Links
+pub mod Facts
+pub mod Frame
+pub mod Paths
+pub mod Puts
+pub mod Lists
+pub mod Turns
+pub mod Maps
+pub mod Manifests
+pub mod Steps
+pub mod Calls

@@ -1,37 +1,46 @@
--- Paths that are well formed have different texts where they differ.
-use Rattle.std.proofs.Common.{◌≡◌, ℕ, ◌<◌, ◌^◌, Bool, true, false, List, Option, Some, refl, sym, ap, ◌∙◌, subst}
-use Rattle.std.specs.Str.{bytes_eq}
+-- The paths of a log are apart from one another, and from those of other logs.
+use Rattle.std.proofs.Common.{◌≡◌, ◌≢◌, ℕ, ◌<◌, ◌^◌, List, true, refl, sym, ap, ◌∙◌}
+use Rattle.slate_ids.specs.FinePath.{IsFine}
 use Rattle.slate_ids.specs.Ids.{is_db_path}
-use Rattle.slate_ids.specs.PathKind.{is_rest}
-use Rattle.slate_ids.specs.PathOf.{path_of}
 use Rattle.slate_ids.specs.PathText.{path_text}
-use Rattle.slate_ids.specs.UlidText.{ulid_text, ulid_of}
 use Rattle.slate_ids.specs.declared.object_path.ObjectPath.{ObjectPath}
-use Rattle.slate_ids.specs.declared.object_path.ObjectPath.TheVariants.{Manifest, Record, ManifestBoundary, RecordBoundary, Table, Wal, Marker, Other}
-use Rattle.slate_ids.specs.declared.path_kind.PathKind.TheVariants as kind
-use Rattle.slate_ids.proofs.PathTexts.{named_read, other_read}
+use Rattle.slate_ids.specs.declared.object_path.ObjectPath.TheVariants as paths
+use Rattle.slate_ids.proofs.PathsApart.{same_path}
+use Rattle.slate_txn.specs.LogPaths.{version_path, boundary_path}
+use Rattle.slate_txn.specs.declared.log_kind.LogKind.{LogKind}
+use Rattle.slate_txn.specs.declared.log_kind.LogKind.TheVariants.{Manifest, Compactions}
 
--- a path as the code has them: its database has a name, and its number fits
-abbrev pub IsFine : ObjectPath → Type 0
-IsFine (Manifest db n) = (is_db_path db ≡ true) × (n < 2 ^ 64)
-IsFine (Record db n) = (is_db_path db ≡ true) × (n < 2 ^ 64)
-IsFine (ManifestBoundary db) = is_db_path db ≡ true
-IsFine (RecordBoundary db) = is_db_path db ≡ true
-IsFine (Table db id) = (is_db_path db ≡ true) × (ulid_of (ulid_text id) ≡ Some id)
-IsFine (Wal db n) = (is_db_path db ≡ true) × (n < 2 ^ 64)
-IsFine (Marker db) = is_db_path db ≡ true
-IsFine (Other db rest) = (is_db_path db ≡ true) × (is_rest rest ≡ true)
+-- neither a version of this log nor its boundary
+pub record IsElsewhere (kind : LogKind) (db : List ℕ) (p : ObjectPath) : Type 0 where
+  pub version : (n : ℕ) → n < 2 ^ 64 → path_text (version_path kind db n) ≢ path_text p
+  pub boundary : path_text (boundary_path kind db) ≢ path_text p
 
-fine_read : (p : ObjectPath) → IsFine p → path_of (path_text p) ≡ Some p
-fine_read (Manifest db n) h = named_read db (kind.Manifest n) h.0 h.1
-fine_read (Record db n) h = named_read db (kind.Record n) h.0 h.1
-fine_read (ManifestBoundary db) h = named_read db kind.ManifestBoundary h tt
-fine_read (RecordBoundary db) h = named_read db kind.RecordBoundary h tt
-fine_read (Table db id) h = named_read db (kind.Table id) h.0 h.1
-fine_read (Wal db n) h = named_read db (kind.Wal n) h.0 h.1
-fine_read (Marker db) h = named_read db kind.Marker h tt
-fine_read (Other db rest) h = other_read db rest h.0 h.1
+module _ (db : List ℕ) (named : is_db_path db ≡ true) where
+  pub version_fine : (kind : LogKind) (n : ℕ) → n < 2 ^ 64 → IsFine (version_path kind db n)
+  version_fine Manifest n small = (named, small)
+  version_fine Compactions n small = (named, small)
 
--- two of one text are one
-pub same_text : (p q : ObjectPath) → IsFine p → IsFine q → path_text p ≡ path_text q → p ≡ q
-same_text p q h k e = let s : Some p ≡ Some q = sym (fine_read p h) ∙ (ap path_of e ∙ fine_read q k) in cc
+  pub boundary_fine : (kind : LogKind) → IsFine (boundary_path kind db)
+  boundary_fine Manifest = named
+  boundary_fine Compactions = named
+
+  one_number : (kind : LogKind) (n k : ℕ) → version_path kind db n ≡ version_path kind db k → n ≡ k
+  one_number Manifest n k e = cc
+  one_number Compactions n k e = cc
+
+  no_boundary : (kind : LogKind) (n : ℕ) → version_path kind db n ≢ boundary_path kind db
+  no_boundary Manifest n = λ e. cc
+  no_boundary Compactions n = λ e. cc
+
+  pub versions_apart : (kind : LogKind) (n k : ℕ) → n < 2 ^ 64 → k < 2 ^ 64 → n ≢ k → path_text (version_path kind db n) ≢ path_text (version_path kind db k)
+  versions_apart kind n k a b ne = λ e. ne (one_number kind n k (same_path _ _ (version_fine kind n a) (version_fine kind k b) e))
+
+  pub boundary_apart : (kind : LogKind) (n : ℕ) → n < 2 ^ 64 → path_text (boundary_path kind db) ≢ path_text (version_path kind db n)
+  boundary_apart kind n a = λ e. no_boundary kind n (same_path _ _ (version_fine kind n a) (boundary_fine kind) (sym e))
+
+  -- a manifest of another database is elsewhere
+  pub manifest_elsewhere : (other : List ℕ) (k : ℕ) → is_db_path other ≡ true → k < 2 ^ 64 → db ≢ other → IsElsewhere Manifest db (paths.Manifest other k)
+  manifest_elsewhere other k other_named small ne = record {
+    version = λ n a e. let same : paths.Manifest db n ≡ paths.Manifest other k = same_path (paths.Manifest db n) (paths.Manifest other k) (named, a) (other_named, small) e in ne cc;
+    boundary = λ e. let same : paths.ManifestBoundary db ≡ paths.Manifest other k = same_path (paths.ManifestBoundary db) (paths.Manifest other k) named (other_named, small) e in absurd cc;
+  }

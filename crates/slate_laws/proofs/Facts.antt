@@ -1,0 +1,89 @@
+-- What holds of a log, and what a party knows while it is in a phrase: for any log.
+use Rattle.std.proofs.Common.{◌≡◌, ℕ, ◌+◌, ◌<◌, ◌≤◌, ◌^◌, List, [], ◌∷◌, Option, Some, None, Result, Ok, Err}
+use Rattle.slate_ids.specs.declared.error.SlateDBError.{SlateDBError}
+use Rattle.slate_store.specs.Machines.{Goes, Stay, End}
+use Rattle.slate_store.specs.Store.{Store, object_at}
+use Rattle.slate_txn.specs.Boundary.{boundary_got}
+use Rattle.slate_txn.specs.LogPaths.{version_path, boundary_path}
+use Rattle.slate_txn.specs.declared.commit.CommitPhase.{CommitPhase}
+use Rattle.slate_txn.specs.declared.commit.CommitPhase.TheVariants as committing
+use Rattle.slate_txn.specs.declared.read.ReadPhase.{ReadPhase}
+use Rattle.slate_txn.specs.declared.read.ReadPhase.TheVariants as reading
+use Rattle.slate_txn.specs.declared.right.Right.{Right}
+use Rattle.slate_protocol.specs.Chains.{Link, Log, link_at, top, IsChain, Stands}
+
+-- what is read back of a value, and the rules on it
+pub record IsLog {V A : Type 0} (log : Log V A) : Type 0 where
+  pub round : (v : V) (bytes : List ℕ) → log.encoded v ≡ Ok bytes → log.decoded bytes ≡ Ok (log.normal v)
+  pub plain : (n : ℕ) (old v : V) (right : Right) → log.refusal n old v right ≡ None → log.refusal n old (log.normal v) right ≡ None
+
+-- the boundary of a log, where it can be read
+abbrev pub bound_in : {V A : Type 0} → Log V A → List ℕ → Store → Option ℕ
+bound_in log db s = boundary_got (object_at (boundary_path log.kind db) s)
+
+-- what holds of a log at each moment
+pub record IsSound {V A : Type 0} (log : Log V A) (db : List ℕ) (s : Store) (c : List (Link V A)) : Type 0 where
+  pub chain : IsChain log c
+  pub some : 0 < top c
+  pub small : top c < 2 ^ 64
+  pub bound : ℕ
+  pub read : bound_in log db s ≡ Some bound
+  pub below : bound < top c
+  pub above : (k : ℕ) → bound < k → k < 2 ^ 64 → Stands log db s c k
+
+-- the committed value of a number
+pub record IsValue {V A : Type 0} (c : List (Link V A)) (n : ℕ) (v : V) : Type 0 where
+  pub link : Link V A
+  pub at : link_at n c ≡ Some link
+  pub value : link.value ≡ v
+
+-- a version that was got, or put, is the committed one unless the boundary has passed it
+pub record Holds {V A : Type 0} (log : Log V A) (db : List ℕ) (s : Store) (c : List (Link V A)) (n : ℕ) (v : V) : Type 0 where
+  pub same : (b : ℕ) → bound_in log db s ≡ Some b → b < n → IsValue c n v
+
+-- what an author puts at a number follows lawfully from the committed value before it
+pub record IsNext {V A : Type 0} (log : Log V A) (c : List (Link V A)) (author : A) (n : ℕ) (bytes : List ℕ) (v : V) : Type 0 where
+  pub old : Link V A
+  pub at : link_at old.number c ≡ Some old
+  pub number : n ≡ old.number + 1
+  pub small : n < 2 ^ 64
+  pub made : v ≡ log.makes author old.value
+  pub encodes : log.encoded v ≡ Ok bytes
+  pub lawful : log.refusal old.number old.value v (log.right author) ≡ None
+  pub passed : log.fence author old.value ≡ None
+
+-- what a reader knows
+abbrev pub ReadKnows : {V A : Type 0} → Log V A → List ℕ → Store → List (Link V A) → ReadPhase V → Type 0
+ReadKnows log db s c reading.Listing = Unit {0}
+ReadKnows log db s c (reading.Getting n) = n < 2 ^ 64
+ReadKnows log db s c (reading.Bounding n v) = Holds log db s c n v
+ReadKnows log db s c reading.Over = ⊥
+
+-- what a committer knows
+abbrev pub CommitKnows : {V A : Type 0} → Log V A → List ℕ → Store → List (Link V A) → A → CommitPhase V → Type 0
+CommitKnows log db s c author (committing.Putting n bytes v) = IsNext log c author n bytes v
+CommitKnows log db s c author (committing.Bounding n v) = Holds log db s c n (log.normal v)
+CommitKnows log db s c author committing.Over = ⊥
+
+-- what the end of a read may be relied on for: a version that it answers is a committed one
+abbrev pub ReadBrings : {V A : Type 0} → Log V A → List ℕ → Store → List (Link V A) → Goes (ReadPhase V) (Option (ℕ × V)) → Type 0
+ReadBrings log db s c (Stay phase) = ReadKnows log db s c phase
+ReadBrings log db s c (End phase (Ok (Some version))) = IsValue c version.0 version.1
+ReadBrings log db s c (End phase (Ok None)) = Unit {0}
+ReadBrings log db s c (End phase (Err e)) = Unit {0}
+
+-- and of a commit: what was put is the committed version of its number
+abbrev pub CommitBrings : {V A : Type 0} → Log V A → List ℕ → Store → List (Link V A) → A → Goes (CommitPhase V) (ℕ × V) → Type 0
+CommitBrings log db s c author (Stay phase) = CommitKnows log db s c author phase
+CommitBrings log db s c author (End phase (Ok version)) = IsValue c version.0 (log.normal version.1)
+CommitBrings log db s c author (End phase (Err e)) = Unit {0}
+
+-- what a step can do to a log, as far as the others can see: the boundary doesn't fall, and what was committed stays
+pub record Grows {V A : Type 0} (log : Log V A) (db : List ℕ) (s : Store) (c : List (Link V A)) (s' : Store) (c' : List (Link V A)) : Type 0 where
+  pub bound : (b' : ℕ) → bound_in log db s' ≡ Some b' → (b : ℕ) × (bound_in log db s ≡ Some b) × (b ≤ b')
+  pub kept : (k : ℕ) (l : Link V A) → link_at k c ≡ Some l → link_at k c' ≡ Some l
+
+-- the chain stays, or gets one version of this author on top
+pub data Changed {V A : Type 0} (author : A) (c c' : List (Link V A)) : Type 0 where
+  Stays : c' ≡ c → Changed author c c'
+  Gets : (l : Link V A) → l.by ≡ Some author → c' ≡ l ∷ c → Changed author c c'

@@ -1,0 +1,30 @@
+-- What a party knows stays true under whatever the others do.
+use Rattle.std.proofs.Common.{◌≡◌, ℕ, ◌<◌, ◌≤◌, List, Option, Some, None, refl, sym, ap, ◌∙◌, subst, arith}
+use Rattle.slate_store.specs.Store.{Store}
+use Rattle.slate_txn.specs.declared.commit.CommitPhase.{CommitPhase}
+use Rattle.slate_txn.specs.declared.commit.CommitPhase.TheVariants as committing
+use Rattle.slate_txn.specs.declared.read.ReadPhase.{ReadPhase}
+use Rattle.slate_txn.specs.declared.read.ReadPhase.TheVariants as reading
+use Rattle.slate_protocol.specs.Chains.{Link, Log, link_at}
+use Rattle.slate_laws.proofs.Facts.{bound_in, IsValue, Holds, IsNext, ReadKnows, CommitKnows, Grows}
+
+module _ {V A : Type 0} (log : Log V A) (db : List ℕ) (s : Store) (c : List (Link V A)) (s' : Store) (c' : List (Link V A)) (g : Grows log db s c s' c') where
+  pub kept_value : (n : ℕ) (v : V) → IsValue c n v → IsValue c' n v
+  kept_value n v h = record { link = h.link; at = g.kept n h.link h.at; value = h.value }
+
+  pub kept_holds : (n : ℕ) (v : V) → Holds log db s c n v → Holds log db s' c' n v
+  kept_holds n v h = record { same = λ b' read lt. let was = g.bound b' read in let le = was.2 in kept_value n v (h.same was.0 was.1 (omega arith)) }
+
+  pub kept_next : (author : A) (n : ℕ) (bytes : List ℕ) (v : V) → IsNext log c author n bytes v → IsNext log c' author n bytes v
+  kept_next author n bytes v h = record { old = h.old; at = g.kept h.old.number h.old h.at; number = h.number; small = h.small; made = h.made; encodes = h.encodes; lawful = h.lawful; passed = h.passed }
+
+  pub kept_read : (phase : ReadPhase V) → ReadKnows log db s c phase → ReadKnows log db s' c' phase
+  kept_read reading.Listing h = h
+  kept_read (reading.Getting n) h = h
+  kept_read (reading.Bounding n v) h = kept_holds n v h
+  kept_read reading.Over h = h
+
+  pub kept_commit : (author : A) (phase : CommitPhase V) → CommitKnows log db s c author phase → CommitKnows log db s' c' author phase
+  kept_commit author (committing.Putting n bytes v) h = kept_next author n bytes v h
+  kept_commit author (committing.Bounding n v) h = kept_holds n (log.normal v) h
+  kept_commit author committing.Over h = h

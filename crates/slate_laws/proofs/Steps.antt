@@ -1,0 +1,115 @@
+-- One step of a party's phrase: what it leaves of each log, of the store and of the tallies, and what its answer brings.
+use Rattle.std.proofs.Common.{◌≡◌, ◌≢◌, ℕ, ℤ, ◌+◌, ◌<◌, ◌≤◌, ◌^◌, max, nat_lt, Bool, true, false, List, [], ◌∷◌, Option, Some, None, is_some, Result, Ok, Err, ◌⊎◌, ⊎_elim, inl, inr, refl, sym, ap, ◌∙◌, subst, arith}
+use Rattle.std.specs.Prelude.{if◌then◌else◌, bytes_eq}
+use Rattle.slate_ids.specs.Ids.{is_db_path}
+use Rattle.slate_model.specs.declared.manifest.Manifest.{Manifest}
+use Rattle.slate_store.specs.Machines.{Goes, Stay, End}
+use Rattle.slate_store.specs.Store.{Store, effect}
+use Rattle.slate_store.specs.declared.mark.Mark.{Mark}
+use Rattle.slate_txn.specs.Commit.{commit_asks, commit_goes}
+use Rattle.slate_txn.specs.Read.{read_asks, read_goes}
+use Rattle.slate_txn.specs.declared.commit.CommitPhase.{CommitPhase}
+use Rattle.slate_txn.specs.declared.commit.CommitPhase.TheVariants.{Putting, Bounding, Over}
+use Rattle.slate_txn.specs.declared.log_kind.LogKind.TheVariants.{Manifest as ManifestLog}
+use Rattle.slate_txn.specs.declared.read.ReadPhase.{ReadPhase}
+use Rattle.slate_protocol.specs.Chains.{Link, Log, link_at, with_link}
+use Rattle.slate_protocol.specs.Logs.{Author, Chain, Chains, manifests, put_by, with_put, chains_put}
+use Rattle.slate_protocol.specs.Phrases.{asks, goes, phrase_asks, phrase_goes, read_on, commit_on}
+use Rattle.slate_protocol.specs.World.{wrote}
+use Rattle.slate_protocol.specs.declared.party.Purpose.{Purpose}
+use Rattle.slate_protocol.specs.declared.party.Purpose.TheVariants.{Reading, Committing}
+use Rattle.slate_protocol.specs.declared.position.Phrase.{Phrase}
+use Rattle.slate_protocol.specs.declared.position.Phrase.TheVariants.{Read, Commit}
+use Rattle.slate_protocol.specs.declared.position.Position.{Position}
+use Rattle.slate_protocol.specs.declared.position.Ended.{Ended}
+use Rattle.slate_protocol.specs.declared.position.Ended.TheVariants.{NoVersion, Version, Committed}
+use Rattle.slate_laws.proofs.Stores.{IsTidy, bytes_same, no_bytes}
+use Rattle.slate_laws.proofs.Facts.{IsSound, IsValue, ReadKnows, CommitKnows, ReadBrings, CommitBrings}
+use Rattle.slate_laws.proofs.Manifests.{manifests_log}
+use Rattle.slate_laws.proofs.Puts.{Leaves, leaves_not}
+use Rattle.slate_laws.proofs.Turns.{chain_if, read_step, bound_step, put_step}
+
+-- what a party knows while it is in a phrase with a purpose: it reads to go on, and commits what it made
+abbrev pub PhraseKnows : Store → Chain → List ℕ → Author → Purpose → Phrase → Type 0
+PhraseKnows s c db author Reading (Read phase) = ReadKnows manifests db s c phase
+PhraseKnows s c db author Committing (Commit phase) = CommitKnows manifests db s c author phase
+PhraseKnows s c db author Reading (Commit phase) = ⊥
+PhraseKnows s c db author Committing (Read phase) = ⊥
+
+abbrev pub EndBrings : Chain → Ended → Type 0
+EndBrings c NoVersion = Unit {0}
+EndBrings c (Version n m) = IsValue c n m
+EndBrings c (Committed n m) = IsValue c n m
+
+-- what a phrase's answer brings
+abbrev pub PhraseBrings : Store → Chain → List ℕ → Author → Purpose → Goes Position Ended → Type 0
+PhraseBrings s c db author purpose (Stay position) = (position.db ≡ db) × PhraseKnows s c db author purpose position.phrase
+PhraseBrings s c db author purpose (End position (Ok ended)) = EndBrings c ended
+PhraseBrings s c db author purpose (End position (Err e)) = Unit {0}
+
+read_around : (s : Store) (c : Chain) (db : List ℕ) (author : Author) (g : Goes (ReadPhase Manifest) (Option (ℕ × Manifest))) → ReadBrings manifests db s c g → PhraseBrings s c db author Reading (read_on db g)
+read_around s c db author (Stay phase) h = (refl, h)
+read_around s c db author (End phase (Ok (Some version))) h = h
+read_around s c db author (End phase (Ok None)) h = tt
+read_around s c db author (End phase (Err e)) h = tt
+
+commit_around : (s : Store) (c : Chain) (db : List ℕ) (author : Author) (g : Goes (CommitPhase Manifest) (ℕ × Manifest)) → CommitBrings manifests db s c author g → PhraseBrings s c db author Committing (commit_on db g)
+commit_around s c db author (Stay phase) h = (refl, h)
+commit_around s c db author (End phase (Ok version)) h = h
+commit_around s c db author (End phase (Err e)) h = tt
+
+-- ---- the chain of this database after a step, and those of the others
+
+none_put : (b : Bool) (db : List ℕ) (chains : Chains) (d : List ℕ) → chains_put b db None chains d ≡ chains d
+none_put false db chains d = refl
+none_put true db chains d = test (bytes_eq d db)
+  where
+    test : (b : Bool) → (if b then chains d else chains d) ≡ chains d
+    test true = refl
+    test false = refl
+
+own_put : (b : Bool) (db : List ℕ) (l : Link Manifest Author) (chains : Chains) → chains_put b db (Some l) chains db ≡ chain_if b l (chains db)
+own_put false db l chains = refl
+own_put true db l chains = ap (λ (b : Bool). if b then with_link l (chains db) else chains db) (bytes_same db)
+
+pub other_put : (b : Bool) (db : List ℕ) (l : Option (Link Manifest Author)) (chains : Chains) (d : List ℕ) → d ≢ db → chains_put b db l chains d ≡ chains d
+other_put false db l chains d ne = refl
+other_put true db l chains d ne = ap (λ (b : Bool). if b then with_put l (chains d) else chains d) (no_bytes d db ne)
+
+-- what a step leaves of its own log, and what its answer brings
+pub record AfterPhrase (s : Store) (chains : Chains) (db : List ℕ) (author : Author) (purpose : Purpose) (phrase : Phrase) (mark : Mark) (moment : ℤ) : Type 0 where
+  pub leaves : Leaves manifests db author s (chains db) (effect mark (phrase_asks db phrase) moment s).store (chains_put (wrote s (effect mark (phrase_asks db phrase) moment s).store) db (put_by author phrase) chains db)
+  pub brings : PhraseBrings (effect mark (phrase_asks db phrase) moment s).store (chains_put (wrote s (effect mark (phrase_asks db phrase) moment s).store) db (put_by author phrase) chains db) db author purpose (phrase_goes db phrase (effect mark (phrase_asks db phrase) moment s).answer)
+
+module _ (s : Store) (chains : Chains) (db : List ℕ) (author : Author) (named : is_db_path db ≡ true) (tidy : IsTidy s.objects) (i : IsSound manifests db s (chains db)) (mark : Mark) (moment : ℤ) where
+  -- a step that puts nothing
+  still : (purpose : Purpose) (phrase : Phrase) → put_by author phrase ≡ None → (effect mark (phrase_asks db phrase) moment s).store ≡ s
+      → PhraseBrings s (chains db) db author purpose (phrase_goes db phrase (effect mark (phrase_asks db phrase) moment s).answer) → AfterPhrase s chains db author purpose phrase mark moment
+  still purpose phrase none same brings =
+      let o = effect mark (phrase_asks db phrase) moment s in
+      let chain : chains_put (wrote s o.store) db (put_by author phrase) chains db ≡ chains db = ap (λ (l : Option (Link Manifest Author)). chains_put (wrote s o.store) db l chains db) none ∙ none_put (wrote s o.store) db chains db in
+      record {
+        leaves = subst (λ (c : Chain). Leaves manifests db author s (chains db) o.store c) (sym chain) (subst (λ (t : Store). Leaves manifests db author s (chains db) t (chains db)) (sym same) (leaves_not manifests db author s (chains db) i));
+        brings = subst (λ (c : Chain). PhraseBrings o.store c db author purpose (phrase_goes db phrase o.answer)) (sym chain) (subst (λ (t : Store). PhraseBrings t (chains db) db author purpose (phrase_goes db phrase o.answer)) (sym same) brings);
+      }
+
+  pub phrase_step : (purpose : Purpose) (phrase : Phrase) → PhraseKnows s (chains db) db author purpose phrase → AfterPhrase s chains db author purpose phrase mark moment
+  phrase_step Reading (Read phase) h =
+      let r = read_step manifests manifests_log db s (chains db) i tidy phase mark moment h in
+      still Reading (Read phase) refl r.same (read_around s (chains db) db author (read_goes ManifestLog manifests.decoded phase (effect mark (read_asks db ManifestLog phase) moment s).answer) r.brings)
+  phrase_step Committing (Commit (Bounding n m)) h =
+      let r = bound_step manifests manifests_log db s (chains db) i author n m mark moment h in
+      still Committing (Commit (Bounding n m)) refl r.same (commit_around s (chains db) db author (commit_goes (Bounding n m) (effect mark (commit_asks db ManifestLog (Bounding n m)) moment s).answer) r.brings)
+  phrase_step Committing (Commit (Putting n bytes m)) h =
+      let o = effect mark (commit_asks db ManifestLog (Putting n bytes m)) moment s in
+      let l : Link Manifest Author = record { number = n; bytes = bytes; value = m; by = Some author } in
+      let r = put_step manifests manifests_log db s (chains db) i author named n bytes m moment h mark in
+      let chain = own_put (wrote s o.store) db l chains in
+      record {
+        leaves = subst (λ (c : Chain). Leaves manifests db author s (chains db) o.store c) (sym chain) r.leaves;
+        brings = subst (λ (c : Chain). PhraseBrings o.store c db author Committing (commit_on db (commit_goes (Putting n bytes m) o.answer))) (sym chain)
+            (commit_around o.store (chain_if (wrote s o.store) l (chains db)) db author (commit_goes (Putting n bytes m) o.answer) r.brings);
+      }
+  phrase_step Committing (Commit Over) h = absurd h
+  phrase_step Reading (Commit phase) h = absurd h
+  phrase_step Committing (Read phase) h = absurd h
