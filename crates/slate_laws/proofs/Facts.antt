@@ -1,5 +1,5 @@
 -- What holds of a log, and what a party knows while it is in a phrase: for any log.
-use Rattle.std.proofs.Common.{◌≡◌, ℕ, ◌+◌, ◌<◌, ◌≤◌, ◌^◌, List, [], ◌∷◌, Option, Some, None, Result, Ok, Err}
+use Rattle.std.proofs.Common.{◌≡◌, ℕ, ◌+◌, ◌<◌, ◌≤◌, ◌^◌, List, Option, Some, None, Result, Ok, Err}
 use Rattle.slate_ids.specs.declared.error.SlateDBError.{SlateDBError}
 use Rattle.slate_store.specs.Machines.{Goes, Stay, End}
 use Rattle.slate_store.specs.Store.{Store, object_at}
@@ -82,8 +82,3 @@ CommitBrings log db s c author (End phase (Err e)) = Unit {0}
 pub record Grows {V A : Type 0} (log : Log V A) (db : List ℕ) (s : Store) (c : List (Link V A)) (s' : Store) (c' : List (Link V A)) : Type 0 where
   pub bound : (b' : ℕ) → bound_in log db s' ≡ Some b' → (b : ℕ) × (bound_in log db s ≡ Some b) × (b ≤ b')
   pub kept : (k : ℕ) (l : Link V A) → link_at k c ≡ Some l → link_at k c' ≡ Some l
-
--- the chain stays, or gets one version of this author on top
-pub data Changed {V A : Type 0} (author : A) (c c' : List (Link V A)) : Type 0 where
-  Stays : c' ≡ c → Changed author c c'
-  Gets : (l : Link V A) → l.by ≡ Some author → c' ≡ l ∷ c → Changed author c c'

@@ -10,3 +10,5 @@ pub mod Maps
 pub mod Manifests
 pub mod Steps
 pub mod Calls
+pub mod Tallies
+pub mod Epochs

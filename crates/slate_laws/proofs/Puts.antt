@@ -7,17 +7,18 @@ use Rattle.slate_store.specs.Store.{Store, object_at, stored}
 use Rattle.slate_store.specs.declared.object.StoredObject.{StoredObject}
 use Rattle.slate_txn.specs.Boundary.{boundary_got}
 use Rattle.slate_txn.specs.LogPaths.{version_path, boundary_path}
-use Rattle.slate_protocol.specs.Chains.{Link, Log, link_at, top, if_new, with_link, IsChain, Follows, bytes_of, link_bytes, Stands}
+use Rattle.slate_protocol.specs.Chains.{Link, Log, link_at, top, if_new, with_link, IsChain, Follows, bytes_of, link_bytes, Stands, Changed}
+use Rattle.slate_protocol.specs.Chains.Changed.{Stays, Gets}
 use Rattle.slate_laws.proofs.Stores.{at_put, at_else, put_object}
 use Rattle.slate_laws.proofs.Links.{link_here, link_there, link_number, same_or_not, next_is_top, at_most}
 use Rattle.slate_laws.proofs.Paths.{IsElsewhere, versions_apart, boundary_apart}
-use Rattle.slate_laws.proofs.Facts.{IsLog, bound_in, IsSound, IsValue, Holds, IsNext, Grows, Changed, Stays, Gets}
+use Rattle.slate_laws.proofs.Facts.{IsLog, bound_in, IsSound, IsValue, Holds, IsNext, Grows}
 
 -- what one effect leaves of a log, by an author
 pub record Leaves {V A : Type 0} (log : Log V A) (db : List ℕ) (author : A) (s : Store) (c : List (Link V A)) (s' : Store) (c' : List (Link V A)) : Type 0 where
   pub sound : IsSound log db s' c'
   pub grows : Grows log db s c s' c'
-  pub changed : Changed author c c'
+  pub changed : Changed (λ a. a ≡ author) c c'
 
 module _ {V A : Type 0} (log : Log V A) (db : List ℕ) where
   pub grows_not : (s : Store) (c : List (Link V A)) → Grows log db s c s c
@@ -114,7 +115,7 @@ module _ {V A : Type 0} (log : Log V A) (db : List ℕ) where
               bound = λ b read. (b, sym put_bound ∙ read, omega arith);
               kept = λ k l at. link_there k new c (λ (e' : n ≡ k). absurd (cc (fresh, at, e'))) ∙ at;
             };
-            changed = Gets new refl refl;
+            changed = Gets new author refl refl refl;
           }
 
     -- its number was committed, and collected since: a late put, which commits nothing

@@ -60,7 +60,7 @@ commit_around s c db author (End phase (Err e)) h = tt
 
 -- ---- the chain of this database after a step, and those of the others
 
-none_put : (b : Bool) (db : List ℕ) (chains : Chains) (d : List ℕ) → chains_put b db None chains d ≡ chains d
+pub none_put : (b : Bool) (db : List ℕ) (chains : Chains) (d : List ℕ) → chains_put b db None chains d ≡ chains d
 none_put false db chains d = refl
 none_put true db chains d = test (bytes_eq d db)
   where
@@ -68,7 +68,7 @@ none_put true db chains d = test (bytes_eq d db)
     test true = refl
     test false = refl
 
-own_put : (b : Bool) (db : List ℕ) (l : Link Manifest Author) (chains : Chains) → chains_put b db (Some l) chains db ≡ chain_if b l (chains db)
+pub own_put : (b : Bool) (db : List ℕ) (l : Link Manifest Author) (chains : Chains) → chains_put b db (Some l) chains db ≡ chain_if b l (chains db)
 own_put false db l chains = refl
 own_put true db l chains = ap (λ (b : Bool). if b then with_link l (chains db) else chains db) (bytes_same db)
 

@@ -77,3 +77,8 @@ link_bytes (Some l) = Some l.bytes
 -- the store has at a number what was committed there
 abbrev pub Stands : {V A : Type 0} → Log V A → List ℕ → Store → List (Link V A) → ℕ → Type 0
 Stands log db s c n = bytes_of (object_at (version_path log.kind db n) s) ≡ link_bytes (link_at n c)
+
+-- the chain stays, or gets one version on top, by an author of this kind
+pub data Changed {V A : Type 0} (P : A → Type 0) (c c' : List (Link V A)) : Type 0 where
+  Stays : c' ≡ c → Changed P c c'
+  Gets : (l : Link V A) → (author : A) → l.by ≡ Some author → P author → c' ≡ l ∷ c → Changed P c c'

@@ -7,3 +7,7 @@ pub mod Runs
 pub mod Reports
 pub mod Chains
 pub mod Logs
+pub mod ByRows
+pub mod Trails
+pub mod Fenced
+pub mod Lawful

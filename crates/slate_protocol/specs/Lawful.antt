@@ -1,0 +1,54 @@
+-- What holds of every run: one chain, fenced epochs, and the rows.
+use Rattle.std.specs.Prelude.{◌≡◌, ℕ, ◌≤◌, true, List, [], ◌∷◌, map, Option, Some, None, is_some}
+use Rattle.slate_ids.specs.Ids.{is_db_path}
+use Rattle.slate_script.specs.Scripts.{IsNew}
+use Rattle.slate_script.specs.declared.db_spec.DbSpec.{DbSpec}
+use Rattle.slate_script.specs.declared.event.Event.{Event}
+use Rattle.slate_protocol.specs.ByRows.{nobody, trail_by}
+use Rattle.slate_protocol.specs.Chains.{top, IsChain, Stands}
+use Rattle.slate_protocol.specs.Fenced.{IsFenced}
+use Rattle.slate_protocol.specs.Logs.{Chain, Chains, manifests, chains_of, opening_chains}
+use Rattle.slate_protocol.specs.Runs.{Course, opening, opening_world, run}
+use Rattle.slate_protocol.specs.Trails.{numbered, store_of, told}
+use Rattle.slate_protocol.specs.World.{World, tally_of}
+
+-- accepted databases: one, which is new and has a name
+abbrev pub IsAccepted : List DbSpec → Type 0
+IsAccepted (spec ∷ []) = IsNew spec × (is_db_path spec.path ≡ true)
+IsAccepted _ = ⊥
+
+-- whether the cluster has a database
+abbrev pub HasDb : World → List ℕ → Type 0
+HasDb w db = is_some (tally_of db w.tallies) ≡ true
+
+-- the chains after events on these databases
+abbrev pub chains_at_end : List DbSpec → List Event → Chains
+chains_at_end specs events = chains_of events (opening_world specs) (opening_chains specs)
+
+-- a course that a run of some events led to
+pub record IsRun (course : Course) : Type 0 where
+  pub accepted : IsAccepted course.specs
+  pub events : List Event
+  pub run : run events 0 (opening course.specs) ≡ record { course = course; bad = None }
+
+-- what holds of the manifests of a database: the chain, the store and the report's number are one
+pub record IsLawful (course : Course) (db : List ℕ) (c : Chain) : Type 0 where
+  -- the committed numbers go from 1 up without a gap; each value is what its call makes of the one before, and the rules let it
+  pub chain : IsChain manifests c
+  -- the greatest of them is the one that the report tells
+  pub greatest : (t : _) → tally_of db course.world.tallies ≡ Some t → t.manifest ≡ top c
+  -- at each of them the store has the committed bytes
+  pub stands : (n : ℕ) → 1 ≤ n → n ≤ top c → Stands manifests db course.world.store c n
+  -- no writer committed below the writer epoch of an earlier version
+  pub fenced : IsFenced c
+
+-- what holds of a course, whatever happened in it
+pub record Lawful (course : Course) : Type 0 where
+  pub past : IsRun course
+  -- each step of a party made the one store call that its row names, and each reply is the row's
+  pub rows : course.trail ≡ trail_by past.events nobody (opening_world course.specs).store
+  -- the store is what the calls of the trail left
+  pub store : course.world.store ≡ store_of course.trail (opening_world course.specs).store
+  -- what is committed is what the trail alone tells: the first put of each number
+  pub told : (db : List ℕ) → told course.trail (opening_world course.specs).store (λ d. map numbered (opening_chains course.specs d)) db ≡ map numbered (chains_at_end course.specs past.events db)
+  pub manifests : (db : List ℕ) → HasDb course.world db → IsLawful course db (chains_at_end course.specs past.events db)
