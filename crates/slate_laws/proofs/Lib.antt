@@ -12,3 +12,4 @@ pub mod Steps
 pub mod Calls
 pub mod Tallies
 pub mod Epochs
+pub mod Runs
