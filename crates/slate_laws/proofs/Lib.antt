@@ -13,3 +13,5 @@ pub mod Calls
 pub mod Tallies
 pub mod Epochs
 pub mod Runs
+pub mod Due
+pub mod Rows
