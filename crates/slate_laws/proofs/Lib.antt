@@ -15,3 +15,7 @@ pub mod Epochs
 pub mod Runs
 pub mod Due
 pub mod Rows
+pub mod Trails
+pub mod Courses
+pub mod Opening
+pub mod EveryRun

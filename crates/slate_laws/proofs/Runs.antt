@@ -6,12 +6,14 @@ use Rattle.std.specs.Ordering.{nat_cmp}
 use Rattle.std.specs.BTreeMap.{insert_entry}
 use Rattle.slate_ids.specs.Ids.{is_db_path}
 use Rattle.slate_store.specs.Machines.{Goes, Stay, End}
-use Rattle.slate_store.specs.Store.{Store, effect}
+use Rattle.slate_ids.specs.PathText.{path_text}
+use Rattle.slate_store.specs.Store.{Store, object_at, effect}
 use Rattle.slate_store.specs.declared.mark.Mark.{Mark}
 use Rattle.slate_script.specs.declared.call.Call.{Call}
 use Rattle.slate_script.specs.declared.event.Event.{Event}
 use Rattle.slate_script.specs.declared.event.Event.TheVariants.{Open, Start, Step}
 use Rattle.slate_script.specs.declared.party_kind.PartyKind.{PartyKind}
+use Rattle.slate_txn.specs.LogPaths.{version_path, boundary_path}
 use Rattle.slate_txn.specs.declared.log_kind.LogKind.TheVariants.{Manifest as ManifestLog}
 use Rattle.slate_protocol.specs.Calls.{Next, Go, Finish, has_call, follow, begin}
 use Rattle.slate_protocol.specs.Chains.{Changed}
@@ -29,12 +31,12 @@ use Rattle.slate_protocol.specs.declared.position.Ended.{Ended}
 use Rattle.slate_protocol.specs.declared.position.Phrase.{Phrase}
 use Rattle.slate_protocol.specs.declared.position.Position.{Position}
 use Rattle.slate_protocol.specs.declared.tally.Tally.{Tally}
-use Rattle.slate_laws.proofs.Stores.{IsTidy, same_bytes, bytes_same}
+use Rattle.slate_laws.proofs.Stores.{IsTidy, same_bytes, bytes_same, at_else}
 use Rattle.slate_laws.proofs.Maps.{number_order, set_here, set_else, insert_here, insert_else}
 use Rattle.slate_laws.proofs.Links.{same_or_not}
 use Rattle.slate_laws.proofs.Facts.{IsSound, Grows}
 use Rattle.slate_laws.proofs.Frame.{kept_read, kept_commit}
-use Rattle.slate_laws.proofs.Paths.{manifest_elsewhere}
+use Rattle.slate_laws.proofs.Paths.{manifest_elsewhere, boundary_apart}
 use Rattle.slate_laws.proofs.Puts.{Leaves, grows_not, elsewhere_grows, elsewhere_sound}
 use Rattle.slate_laws.proofs.Steps.{PhraseKnows, PhraseBrings, AfterPhrase, other_put, phrase_step}
 use Rattle.slate_laws.proofs.Calls.{NextKnows, follow_reaches, begin_reaches}
@@ -58,6 +60,7 @@ pub record Inv (w : World) (chains : Chains) : Type 0 where
   pub named : (d : List ℕ) → HasDb w d → is_db_path d ≡ true
   pub logs : (d : List ℕ) → HasDb w d → IsSound manifests d w.store (chains d)
   pub told : (d : List ℕ) → Told w.tallies chains d
+  pub unmoved : (d : List ℕ) → HasDb w d → object_at (boundary_path ManifestLog d) w.store ≡ None
   pub parties : (n : ℕ) (p : Party) → party_of n w.parties ≡ Some p → PartyKnows w chains n p
 
 -- ---- the frame
@@ -114,6 +117,7 @@ moved_inv w chains n p q i at own =
       named = i.named;
       logs = i.logs;
       told = i.told;
+      unmoved = i.unmoved;
       parties = each_knows w w' chains chains n q (party_in_place n p q w.parties at) (λ k ne. others_stay n k q w.parties ne) (λ d h. h) (λ d h. grows_not manifests d w.store (chains d))
           (record { has = own.has; knows = own.knows }) i.parties;
     }
@@ -188,6 +192,21 @@ module _ (w : World) (chains : Chains) (i : Inv w chains) (n : ℕ) (p : Party) 
       subst (λ (c : Chain). LogAfter w.store (chains d) s' c d author) (sym same) (record { sound = k; grows = g; changed = Stays refl }))
       (same_name d position.db)
 
+  -- a put of a version moves no boundary
+  no_move : (d : List ℕ) → HasDb w d → object_at (boundary_path ManifestLog d) s' ≡ None
+  no_move d h = by_store stored
+    where
+      by_store : StoreAfter position.db w.store s' → object_at (boundary_path ManifestLog d) s' ≡ None
+      by_store (Same e) = subst (λ (t : Store). object_at (boundary_path ManifestLog d) t ≡ None) (sym e) (i.unmoved d h)
+      by_store (Put k bytes at small e) =
+          subst (λ (t : Store). object_at (boundary_path ManifestLog d) t ≡ None) (sym e)
+          (at_else (version_path ManifestLog position.db k) (boundary_path ManifestLog d) bytes at w.store
+          (⊎_elim
+          (λ (same : d ≡ position.db). subst (λ x. path_text (boundary_path ManifestLog x) ≢ path_text (version_path ManifestLog position.db k)) (sym same) (boundary_apart position.db (i.named position.db has) ManifestLog k small))
+          (λ (ne : d ≢ position.db). (manifest_elsewhere d (i.named d h) position.db k (i.named position.db has) small ne).boundary)
+          (same_name d position.db))
+          ∙ i.unmoved d h)
+
   own_next : NextKnows s' (chains' facts.db) n facts call next
   own_next =
       let b = subst (λ d. PhraseBrings s' (chains' d) d author purpose (goes position (effect mark (asks position) moment w.store).answer)) knows.0 after.brings in
@@ -214,6 +233,7 @@ module _ (w : World) (chains : Chains) (i : Inv w chains) (n : ℕ) (p : Party) 
     named = λ d h. i.named d (was_db d h);
     logs = λ d h. (log_after d (was_db d h)).sound;
     told = tallies.told;
+    unmoved = λ d h. no_move d (was_db d h);
     parties = each_knows w w' chains chains' n (settled facts call next) (party_in_place n p (settled facts call next) w.parties at) (λ k ne. others_stay n k (settled facts call next) w.parties ne)
         same_db (λ d h. (log_after d h).grows) own_knows i.parties;
   }
@@ -248,6 +268,7 @@ open_inv w chains n kind db t i none found =
       named = i.named;
       logs = i.logs;
       told = i.told;
+      unmoved = i.unmoved;
       parties = each_knows w w' chains chains n (newcomer kind db) (insert_here nat_cmp number_order n (newcomer kind db) w.parties) (λ k ne. insert_else nat_cmp number_order n k (newcomer kind db) w.parties ne)
           (λ d h. h) (λ d h. grows_not manifests d w.store (chains d)) (record { has = ap is_some found; knows = tt }) i.parties;
     }

@@ -34,10 +34,10 @@ no_bytes xs ys ne = test (bytes_eq xs ys) (same_bytes xs ys)
 test_is : (p q : ObjectPath) → is_at (path_cmp p) q ≡ bytes_eq (path_text p) (path_text q)
 test_is p q = is_eq-slice_cmp (path_text p) (path_text q)
 
-finds : (p : ObjectPath) → is_at (path_cmp p) p ≡ true
+pub finds : (p : ObjectPath) → is_at (path_cmp p) p ≡ true
 finds p = test_is p p ∙ bytes_same (path_text p)
 
-passes_by : (p q : ObjectPath) → path_text p ≢ path_text q → is_at (path_cmp p) q ≡ false
+pub passes_by : (p q : ObjectPath) → path_text p ≢ path_text q → is_at (path_cmp p) q ≡ false
 passes_by p q ne = test_is p q ∙ no_bytes (path_text p) (path_text q) ne
 
 one_text : (p q : ObjectPath) → path_cmp p q ≡ Equal → path_text p ≡ path_text q

@@ -1,0 +1,60 @@
+-- What holds of every run.
+use Rattle.std.proofs.Common.{◌≡◌, ℕ, ◌<◌, ◌≤◌, ◌^◌, true, List, [], ◌∷◌, ◌++◌, map, Option, Some, None, refl, sym, ap, ◌∙◌, subst, arith}
+use Rattle.slate_script.specs.declared.db_spec.DbSpec.{DbSpec}
+use Rattle.slate_script.specs.declared.event.Event.{Event}
+use Rattle.slate_store.specs.Store.{Store, object_at}
+use Rattle.slate_txn.specs.Boundary.{boundary_got}
+use Rattle.slate_txn.specs.LogPaths.{boundary_path}
+use Rattle.slate_txn.specs.declared.log_kind.LogKind.TheVariants.{Manifest as ManifestLog}
+use Rattle.slate_protocol.specs.ByRows.{nobody, trail_by}
+use Rattle.slate_protocol.specs.Chains.{top, Stands}
+use Rattle.slate_protocol.specs.Lawful.{IsAccepted, HasDb, chains_at_end, IsRun, IsLawful, Lawful}
+use Rattle.slate_protocol.specs.Logs.{Chain, Chains, manifests, world_after, chains_of, opening_chains}
+use Rattle.slate_protocol.specs.Runs.{Course, opening, opening_world, run}
+use Rattle.slate_protocol.specs.Trails.{numbered, store_of, told}
+use Rattle.slate_protocol.specs.World.{World, party_of}
+use Rattle.slate_laws.proofs.Facts.{bound_in, IsSound}
+use Rattle.slate_laws.proofs.Courses.{run_world}
+use Rattle.slate_laws.proofs.Epochs.{chain_fenced}
+use Rattle.slate_laws.proofs.Opening.{opening_inv}
+use Rattle.slate_laws.proofs.Rows.{AllMatch, rows_run}
+use Rattle.slate_laws.proofs.Runs.{Inv, run_inv}
+use Rattle.slate_laws.proofs.Trails.{Tells, RunTells, run_tells}
+
+-- the state after events on accepted databases
+pub after_inv : (specs : List DbSpec) (events : List Event) → IsAccepted specs → Inv (world_after events (opening_world specs)) (chains_at_end specs events)
+after_inv specs events accepted = run_inv events (opening_world specs) (opening_chains specs) (opening_inv specs accepted)
+
+none_come : (specs : List DbSpec) → IsAccepted specs → AllMatch nobody (opening_world specs)
+none_come [] h n = absurd h
+none_come (spec ∷ []) h n = tt
+none_come (spec ∷ other ∷ specs) h n = absurd h
+
+pub course_inv : (course : Course) (past : IsRun course) → Inv course.world (chains_at_end course.specs past.events)
+course_inv course past =
+    subst (λ (w : World). Inv w (chains_at_end course.specs past.events)) (sym (run_world past.events 0 (opening course.specs) course past.run)) (after_inv course.specs past.events past.accepted)
+
+-- no boundary has moved at this stage, so that each committed version stands
+log_lawful : (course : Course) (db : List ℕ) (chains : Chains) → Inv course.world chains → HasDb course.world db → IsLawful course db (chains db)
+log_lawful course db chains i has =
+    let log = i.logs db has in
+    let none : bound_in manifests db course.world.store ≡ Some 0 = ap boundary_got (i.unmoved db has) in
+    let zero : log.bound ≡ 0 = cc (log.read, none) in
+    record {
+      chain = log.chain;
+      greatest = i.told db;
+      stands = λ n one le. let small = log.small in log.above n (omega arith) (omega arith);
+      fenced = chain_fenced (chains db) log.chain;
+    }
+
+pub lawful : (course : Course) → IsRun course → Lawful course
+lawful course past =
+    let rows = rows_run past.events 0 (opening course.specs) course nobody (none_come course.specs past.accepted) past.run in
+    let tells = run_tells past.events 0 (opening course.specs) course nobody (λ d. map numbered (opening_chains course.specs d)) (opening_chains course.specs) (none_come course.specs past.accepted) (λ d. refl) past.run in
+    record {
+      past = past;
+      rows = rows;
+      store = tells.store ∙ ap (λ xs. store_of xs (opening_world course.specs).store) (sym rows);
+      told = λ d. ap (λ xs. told xs (opening_world course.specs).store (λ e. map numbered (opening_chains course.specs e)) d) rows ∙ tells.told d;
+      manifests = λ db has. log_lawful course db (chains_at_end course.specs past.events) (course_inv course past) has;
+    }
