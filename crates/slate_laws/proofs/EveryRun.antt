@@ -14,7 +14,7 @@ use Rattle.slate_protocol.specs.Runs.{Course, opening, opening_world, run}
 use Rattle.slate_protocol.specs.Trails.{numbered, store_of, told}
 use Rattle.slate_protocol.specs.World.{World, party_of}
 use Rattle.slate_laws.proofs.Facts.{bound_in, IsSound}
-use Rattle.slate_laws.proofs.Courses.{run_world}
+use Rattle.slate_laws.proofs.GoingOn.{run_world}
 use Rattle.slate_laws.proofs.Epochs.{chain_fenced}
 use Rattle.slate_laws.proofs.Opening.{opening_inv}
 use Rattle.slate_laws.proofs.Rows.{AllMatch, rows_run}

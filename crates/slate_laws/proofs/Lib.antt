@@ -16,6 +16,8 @@ pub mod Runs
 pub mod Due
 pub mod Rows
 pub mod Trails
-pub mod Courses
+pub mod GoingOn
 pub mod Opening
 pub mod EveryRun
+pub mod Listed
+pub mod Changes

@@ -40,8 +40,11 @@ finds p = test_is p p ∙ bytes_same (path_text p)
 pub passes_by : (p q : ObjectPath) → path_text p ≢ path_text q → is_at (path_cmp p) q ≡ false
 passes_by p q ne = test_is p q ∙ no_bytes (path_text p) (path_text q) ne
 
+pub same_found : (p q : ObjectPath) → is_at (path_cmp p) q ≡ true → path_text p ≡ path_text q
+same_found p q h = same_bytes (path_text p) (path_text q) (sym (test_is p q) ∙ h)
+
 one_text : (p q : ObjectPath) → path_cmp p q ≡ Equal → path_text p ≡ path_text q
-one_text p q e = same_bytes (path_text p) (path_text q) (sym (test_is p q) ∙ ap is_eq e)
+one_text p q e = same_found p q (ap is_eq e)
 
 abbrev look : ObjectPath → Entries → Option StoredObject
 look q es = lookup (is_at (path_cmp q)) es

@@ -1,0 +1,37 @@
+//! Chains: what one event changes of them, and what a list tells.
+ghost use Rattle.std.specs.Prelude.{◌≡◌, ℕ, ℤ, List, Some, true};
+ghost use Rattle.slate_ids.specs.declared.object_path.ObjectPath.{ObjectPath};
+ghost use Rattle.slate_store.specs.Store.{Store, stands_at, listed, effect};
+ghost use Rattle.slate_store.specs.declared.list_dir.ListDir.TheVariants.{Manifests};
+ghost use Rattle.slate_store.specs.declared.mark.Mark.{Mark};
+ghost use Rattle.slate_store.specs.declared.store_call.StoreCall.TheVariants.{PutNew};
+ghost use Rattle.slate_txn.specs.Boundary.{greatest};
+ghost use Rattle.slate_txn.specs.declared.log_kind.LogKind.TheVariants.{Manifest as ManifestLog};
+ghost use Rattle.slate_script.specs.declared.db_spec.DbSpec.{DbSpec};
+ghost use Rattle.slate_script.specs.declared.event.Event.{Event};
+ghost use Rattle.slate_protocol.specs.ByRows.{party_in};
+ghost use Rattle.slate_protocol.specs.Chains.{Changed, top};
+ghost use Rattle.slate_protocol.specs.Lawful.{IsAccepted, HasDb, chains_at_end};
+ghost use Rattle.slate_protocol.specs.Logs.{chains_after, world_after};
+ghost use Rattle.slate_protocol.specs.Runs.{opening_world};
+
+/// An event leaves the chain of a database, or puts one version on top, by the party of the event.
+pub fn changed()
+    ensures { (specs : List DbSpec) (events : List Event) (event : Event) (db : List ℕ)
+        → IsAccepted specs → HasDb (world_after events (opening_world specs)) db
+        → Changed (λ author. author.party ≡ party_in event) (chains_at_end specs events db)
+        (chains_after (world_after events (opening_world specs)) event (chains_at_end specs events) db) }
+{}
+
+/// The greatest number that a list of a database's manifests gives is the greatest committed one.
+pub fn list_top()
+    ensures { (specs : List DbSpec) (events : List Event) (db : List ℕ)
+        → IsAccepted specs → HasDb (world_after events (opening_world specs)) db
+        → greatest ManifestLog (listed (Manifests db) (world_after events (opening_world specs)).store) ≡ Some (top (chains_at_end specs events db)) }
+{}
+
+/// A put at a path that is taken changes nothing.
+pub fn taken_path()
+    ensures { (path : ObjectPath) (bytes : List ℕ) (moment : ℤ) (mark : Mark) (store : Store)
+        → stands_at path store ≡ true → (effect mark (PutNew path bytes) moment store).store ≡ store }
+{}
