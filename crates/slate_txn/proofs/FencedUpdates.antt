@@ -4,15 +4,17 @@ use Rattle.slate_ids.specs.Answers.{OrMemory, ran_out}
 use Rattle.slate_ids.specs.declared.error.SlateDBError.{SlateDBError}
 use Rattle.slate_ids.specs.declared.error.SlateDBError.TheVariants.{Fenced}
 use Rattle.slate_store.specs.Calls.{Told}
+use Rattle.slate_store.specs.Machines.{Goes, Stay, End}
 use Rattle.slate_store.specs.declared.step.Step.{Step}
 use Rattle.slate_store.specs.declared.step.Step.TheVariants.{Again, Done}
-use Rattle.slate_txn.proofs.Fences.{ran_free, commit_free}
+use Rattle.slate_txn.proofs.Fences.{Free, ran_free, commit_free}
+use Rattle.slate_txn.specs.Commit.{commit_goes}
 use Rattle.slate_txn.specs.Committing.{Committed}
 use Rattle.slate_txn.specs.FencedHolder.{FencedHolder}
 use Rattle.slate_txn.specs.FencedUpdating.{FencedUpdateSteps, FencedUpdateState, state_within, goes_within}
-use Rattle.slate_txn.specs.Fencing.{FencedOnly, NotFenced}
+use Rattle.slate_txn.specs.Fencing.{FencedOnly, NotFenced, NotFencedStep}
 use Rattle.slate_txn.specs.Holder.{Holder}
-use Rattle.slate_txn.specs.Updating.{Updated, UpdateBegan, UpdateSteps, done_of}
+use Rattle.slate_txn.specs.Updating.{Updated, UpdateBegan, UpdateState, UpdateSteps, done_of, held_goes, update_due}
 use Rattle.slate_txn.specs.declared.commit.CommitPhase.{CommitPhase}
 use Rattle.slate_txn.specs.declared.update.UpdateMachine.{UpdateMachine}
 use Rattle.slate_txn.specs.declared.update.UpdateMachine.TheVariants.{Refused, Committing}
@@ -49,3 +51,20 @@ fenced_next old new moment inside fenced update machine to held step same phase 
     subst (λ (f : FencedHolder _ _ _ _). FencedUpdateSteps old new moment (machine, f) (to, record inside { holder = held }) step) same
     (subst (λ (m : UpdateMachine _). FencedUpdateSteps old new moment (m, inside) (to, record inside { holder = held }) step) phase
     (fenced_steps old new moment inside update to held step steps))
+
+held_free : {T C R : Type 0} (holder : Holder T C R) (out : Goes (CommitPhase T) (ℕ × T)) (state : UpdateState T C R) (own read : ℕ) → Free out → held_goes holder out ≢ End state (Err (Fenced own read))
+held_free holder (Stay commit) state own read free = λ same. absurd cc
+held_free holder (End commit (Ok version)) state own read free = λ same. absurd cc
+held_free holder (End commit (Err e)) state own read free = λ same.
+    let is : e ≡ Fenced own read = cc in absurd (free.ends own read commit (ap (λ (k : SlateDBError). End commit (Err k)) is))
+
+-- a step of an update in which a call is due doesn't answer Fenced
+pub update_step_free : {T C R : Type 0} (old new : Told) (moment : ℤ) (holder held : Holder T C R) (machine to : UpdateMachine T) (step : Step (Unit {0})) → update_due machine ≡ true → UpdateSteps old new moment (machine, holder) (to, held) step → NotFencedStep step
+update_step_free old new moment holder held (Refused e) to step due steps = absurd cc
+update_step_free old new moment holder held (Committing commit) to Again due stepped = λ own read same. absurd cc
+update_step_free old new moment holder held (Committing commit) to (Done r) due (inl stepped) = λ own read same.
+    let is : r ≡ Err (Fenced own read) = cc in
+    let never = commit_free holder.sequenced.db holder.sequenced.log in
+    held_free holder (commit_goes commit stepped.answer) (to, held) own read (never.free commit stepped.answer stepped.makes.kind) (stepped.gives ∙ ap (λ (k : Result _ SlateDBError). End (to, held) k) is)
+update_step_free old new moment holder held (Committing commit) to (Done r) due (inr m) = λ own read same.
+    absurd (let is : r ≡ Err (Fenced own read) = cc in let not : ran_out r ≡ false = ap ran_out is in let out : ran_out r ≡ true = m.0 in cc)

@@ -6,17 +6,19 @@ use Rattle.slate_ids.specs.declared.error.FormatName.TheVariants.{Boundary as Bo
 use Rattle.slate_ids.specs.declared.error.SlateDBError.{SlateDBError}
 use Rattle.slate_ids.specs.declared.error.SlateDBError.TheVariants.{Contended, Corrupt, Fenced, StoreFault, TransactionalObjectVersionExists}
 use Rattle.slate_store.specs.Calls.{Told, Makes, IsAnswerTo, moment_of}
-use Rattle.slate_store.specs.Machines.{Goes, Stay, End}
+use Rattle.slate_store.specs.Machines.{Goes, Stay, End, Steps}
 use Rattle.slate_store.specs.Runs.{Run, Ran}
 use Rattle.slate_store.specs.declared.made.Made.{Made}
 use Rattle.slate_store.specs.declared.object.StoredObject.{StoredObject}
+use Rattle.slate_store.specs.declared.step.Step.{Step}
+use Rattle.slate_store.specs.declared.step.Step.TheVariants.{Again, Done}
 use Rattle.slate_store.specs.declared.store_answer.StoreAnswer.{StoreAnswer}
 use Rattle.slate_store.specs.declared.store_answer.StoreAnswer.TheVariants.{Found, Got, Created, Fault}
 use Rattle.slate_store.specs.declared.store_call.StoreCall.{StoreCall}
 use Rattle.slate_txn.specs.Boundary.{boundary_got, greatest}
 use Rattle.slate_txn.specs.Commit.{commit_asks, commit_goes, created_goes, bounded_goes}
 use Rattle.slate_txn.specs.Faults.{list_answers, get_answers, create_answers}
-use Rattle.slate_txn.specs.Fencing.{NoFence, NotFenced}
+use Rattle.slate_txn.specs.Fencing.{NoFence, NotFenced, NotFencedStep}
 use Rattle.slate_txn.specs.LogPaths.{version_path, boundary_path, folder}
 use Rattle.slate_txn.specs.Read.{read_asks, read_goes, listed_goes, decoded_goes, got_goes, boundary_goes}
 use Rattle.slate_txn.specs.declared.commit.CommitPhase.{CommitPhase}
@@ -55,6 +57,16 @@ ran_free {asks = asks} {goes = goes} {moment = moment} {old = old} {new = new} {
   | inl e ↦ run_free never moment old new ran.made start to own read (subst (λ (out : Goes _ _). Run asks goes moment old new ran.made (Stay start) out) (e.0 ∙ ap (λ (r : Result _ SlateDBError). End to r) same) ran.run)
   | inr e ↦ absurd (let both : Err Contended ≡ Err (Fenced own read) = sym e.1 ∙ same in cc)
 ]
+
+-- nor does a step
+pub step_free : {P R : Type 0} {asks : P → StoreCall} {goes : P → StoreAnswer → Goes P R} (old new : Told) (moment : ℤ) (p q : P) (step : Step R) → NeverFences asks goes → Steps old new (asks p) moment (goes p) p q step → NotFencedStep step
+step_free old new moment p q Again never stepped = λ own read same. absurd cc
+step_free old new moment p q (Done r) never (inl stepped) = λ own read same.
+    let is : r ≡ Err (Fenced own read) = cc in
+    let free = never.free p stepped.answer stepped.makes.kind in
+    free.ends own read q (stepped.gives ∙ ap (λ (k : Result _ SlateDBError). End q k) is)
+step_free old new moment p q (Done r) never (inr m) = λ own read same.
+    absurd (let is : r ≡ Err (Fenced own read) = cc in let not : ran_out r ≡ false = ap ran_out is in let out : ran_out r ≡ true = m.0 in cc)
 
 free_at : {P R X : Type 0} (goes : StoreAnswer → Goes P R) (made : X → StoreAnswer) (answer : StoreAnswer) → (answer ≡ Fault) ⊎ ((x : X) × (answer ≡ made x)) → Free (goes Fault) → ((x : X) → Free (goes (made x))) → Free (goes answer)
 free_at goes made answer (inl e) fault free = subst (λ (a : StoreAnswer). Free (goes a)) (sym e) fault

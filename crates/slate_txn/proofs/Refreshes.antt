@@ -8,10 +8,10 @@ use Rattle.slate_store.specs.Calls.{Told}
 use Rattle.slate_store.specs.Machines.{Steps}
 use Rattle.slate_store.specs.declared.step.Step.{Step}
 use Rattle.slate_store.specs.declared.step.Step.TheVariants.{Again, Done}
-use Rattle.slate_txn.proofs.Fences.{ran_free, read_free}
+use Rattle.slate_txn.proofs.Fences.{ran_free, step_free, read_free}
 use Rattle.slate_txn.specs.Due.{FaultOf, FaultRose, NoFault}
 use Rattle.slate_txn.specs.FencedHolder.{FencedHolder}
-use Rattle.slate_txn.specs.Fencing.{fence, held_fence, FencedOnly, NoFence, NotFenced}
+use Rattle.slate_txn.specs.Fencing.{fence, held_fence, FencedOnly, FencedStep, NoFence, NotFenced, NotFencedStep}
 use Rattle.slate_txn.specs.Read.{read_asks, read_goes}
 use Rattle.slate_txn.specs.Reading.{Read, ReadBegan}
 use Rattle.slate_txn.specs.Refreshing.{Refreshes, RefreshState, held_after, held_after_step, refreshed, refreshed_step, refresh_asks, refresh_on, refresh_goes}
@@ -77,6 +77,23 @@ pub refresh_fenced : {T C R E : Type 0} (decoded : C → List ℕ → Result T S
     → NoFence (decoded from.holder.sequenced.codec) → FencedOnly (held_fence epoch to) result
 refresh_fenced decoded epoch tries old new from to sequenced reply result log ran held answers good =
     reply_fenced epoch from to reply result held answers (read_not_fenced decoded sequenced tries old new reply ran (subst (λ (s : Sequenced _ _). NoFence (decoded s.codec)) (sym log) good))
+
+step_fenced : {T C R E : Type 0} (epoch : E → T → ℕ) (from to : FencedHolder T C R E) (step : Step (Option (ℕ × T))) (result : Step (Unit {0}))
+    → to ≡ held_after_step from step → result ≡ refreshed_step (epoch from.epochs) from.epoch step → NotFencedStep step → FencedStep (held_fence epoch to) result
+step_fenced epoch from to Again result held answers free = λ own read same. absurd (let both = sym answers ∙ same in cc)
+step_fenced epoch from to (Done reply) result held answers free = λ own read same.
+    let both : Done (refreshed (epoch from.epochs) from.epoch reply) ≡ Done (Err (Fenced own read)) = sym answers ∙ same in
+    let is : refreshed (epoch from.epochs) from.epoch reply ≡ Err (Fenced own read) = cc in
+    reply_fenced epoch from to reply (refreshed (epoch from.epochs) from.epoch reply) held refl (λ m n h. free m n (ap (λ (r : Result _ SlateDBError). Done r) h)) own read is
+
+-- nor does a step of it
+pub next_fenced : {T C R E : Type 0} (decoded : C → List ℕ → Result T SlateDBError) (epoch : E → T → ℕ) (old new : Told) (moment : ℤ) (from to : FencedHolder T C R E) (sequenced : Sequenced T C) (p q : ReadPhase T) (step : Step (Option (ℕ × T))) (result : Step (Unit {0}))
+    → sequenced ≡ from.holder.sequenced → to ≡ held_after_step from step → result ≡ refreshed_step (epoch from.epochs) from.epoch step
+    → Steps old new (read_asks sequenced.db sequenced.log p) moment (read_goes sequenced.log (decoded sequenced.codec) p) p q step
+    → NoFence (decoded from.holder.sequenced.codec) → FencedStep (held_fence epoch to) result
+next_fenced decoded epoch old new moment from to sequenced p q step result log held answers steps good =
+    let here = subst (λ (s : Sequenced _ _). NoFence (decoded s.codec)) (sym log) good in
+    step_fenced epoch from to step result held answers (step_free old new moment p q step (read_free sequenced.db sequenced.log (decoded sequenced.codec) here) steps)
 
 -- a step of the read is one of the refresh
 refresh_steps : {T C R E : Type 0} (decoded : C → List ℕ → Result T SlateDBError) (epoch : E → T → ℕ) (old new : Told) (moment : ℤ) (fenced : FencedHolder T C R E) (p q : ReadPhase T) (step : Step (Option (ℕ × T)))

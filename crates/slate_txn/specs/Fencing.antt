@@ -3,6 +3,8 @@ use Rattle.std.specs.Prelude.{◌≡◌, ◌≢◌, ℕ, nat_lt, Option, Some, N
 use Rattle.slate_ids.specs.declared.error.SlateDBError.{SlateDBError}
 use Rattle.slate_ids.specs.declared.error.SlateDBError.TheVariants.{Fenced}
 use Rattle.slate_store.specs.Calls.{Told}
+use Rattle.slate_store.specs.declared.step.Step.{Step}
+use Rattle.slate_store.specs.declared.step.Step.TheVariants.{Done}
 use Rattle.slate_txn.specs.FencedHolder.{FencedHolder}
 
 -- a version with an epoch above the own one refuses, and no other does
@@ -22,9 +24,17 @@ UnlessFenced None old new result P = P
 abbrev pub FencedOnly : {X : Type 0} → Option SlateDBError → Result X SlateDBError → Type 0
 FencedOnly refusal result = (own read : ℕ) → result ≡ Err (Fenced own read) → refusal ≡ Some (Fenced own read)
 
+-- the same of a step
+abbrev pub FencedStep : {X : Type 0} → Option SlateDBError → Step X → Type 0
+FencedStep refusal step = (own read : ℕ) → step ≡ Done (Err (Fenced own read)) → refusal ≡ Some (Fenced own read)
+
 -- this result is never Fenced
 abbrev pub NotFenced : {X : Type 0} → Result X SlateDBError → Type 0
 NotFenced result = (own read : ℕ) → result ≢ Err (Fenced own read)
+
+-- nor is this step
+abbrev pub NotFencedStep : {X : Type 0} → Step X → Type 0
+NotFencedStep step = (own read : ℕ) → step ≢ Done (Err (Fenced own read))
 
 -- bytes are refused for what they are, never by a fence
 abbrev pub NoFence : {X Y : Type 0} → (X → Result Y SlateDBError) → Type 0

@@ -3,7 +3,7 @@ ghost use Rattle.std.specs.Prelude.{◌≡◌, ◌≢◌, ◌+◌, IfOk, OnOk, O
 ghost use Rattle.slate_ids.specs.declared.error.SlateDBError.TheVariants.{StoreFault};
 ghost use Rattle.slate_txn.specs.Due.{FaultOf, FaultRose, StillDue};
 ghost use Rattle.slate_txn.specs.FencedUpdating.{unless, FencedUpdateSteps};
-ghost use Rattle.slate_txn.specs.Fencing.{held_fence, UnlessFenced, FencedOnly, NotFenced};
+ghost use Rattle.slate_txn.specs.Fencing.{held_fence, UnlessFenced, FencedOnly, NotFenced, NotFencedStep};
 ghost use Rattle.slate_txn.specs.Refreshing.{fenced_version};
 ghost use Rattle.slate_txn.specs.Updating.{started, Updates, update_of, update_due, update_open};
 
@@ -104,6 +104,7 @@ impl<T: Drop> FencedUpdateMachine<T> {
         ensures open { update_due self.old ≡ true → StillDue result (update_open self.new) }
         ensures epoch { holder.new.epoch ≡ holder.old.epoch }
         ensures fault { update_due self.old ≡ true → FaultRose (S.told store.old) (S.told store.new) result }
+        ensures fenced { update_due self.old ≡ true → NotFencedStep result }
     {
         self.update.next(alloc, &mut holder.stored, store, moment)
     }

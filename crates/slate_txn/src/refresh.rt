@@ -2,7 +2,7 @@
 ghost use Rattle.std.specs.Prelude.{◌≡◌, ◌<◌, None, OnOk, true};
 ghost use Rattle.slate_store.specs.Machines.{Steps};
 ghost use Rattle.slate_txn.specs.Due.{FaultOf, FaultRose, NoFault, StillDue};
-ghost use Rattle.slate_txn.specs.Fencing.{held_fence, FencedOnly, NoFence};
+ghost use Rattle.slate_txn.specs.Fencing.{held_fence, FencedOnly, FencedStep, NoFence};
 ghost use Rattle.slate_txn.specs.Read.{read_due};
 ghost use Rattle.slate_txn.specs.Refreshing.{Refreshes, refreshed, held_after, refreshed_step, held_after_step, refresh_asks, refresh_goes};
 ghost use Rattle.slate_txn.specs.declared.read.ReadPhase.TheVariants.{Listing};
@@ -127,6 +127,7 @@ impl<T: Drop> RefreshMachine<T> {
         ensures due { StillDue result (read_due self.new) }
         ensures epoch { holder.new.epoch ≡ holder.old.epoch }
         ensures fault { NoFault (C.decoded holder.old.holder.sequenced.codec) → FaultRose (S.told store.old) (S.told store.new) result }
+        ensures fenced { NoFence (C.decoded holder.old.holder.sequenced.codec) → FencedStep (held_fence E.epoch holder.new) result }
     {
         let sequenced = holder.stored.sequenced();
         let step = self.read.next(alloc, sequenced, store, moment);
