@@ -6,6 +6,8 @@ mod boundary;
 mod change;
 mod commit;
 mod committing;
+#[cfg(test)]
+mod fence_tests;
 mod fenced;
 mod fenced_update;
 mod fencing;
@@ -14,6 +16,8 @@ mod load;
 mod log_kind;
 #[cfg(test)]
 mod log_tests;
+#[cfg(test)]
+mod number_logs;
 mod raise;
 mod ran_out;
 mod read;
