@@ -47,6 +47,16 @@ only_fault : {P R : Type 0} {due : P → Bool} (goes : P → StoreAnswer → Goe
 only_fault goes p q answer (inl f) e = f.0
 only_fault goes p q answer (inr fine) e = absurd (fine.ends q e)
 
+-- a step that ends in a fault made a call that faulted
+pub step_rose : {P R : Type 0} {due : P → Bool} {asks : P → StoreCall} {goes : P → StoreAnswer → Goes P R} (old new : Told) (moment : ℤ) (p q : P) (step : Step R)
+    → OnlyFaults due asks goes → due p ≡ true → Steps old new (asks p) moment (goes p) p q step → FaultRose old new step
+step_rose old new moment p q Again only due stepped = λ fault. absurd cc
+step_rose {goes = goes} old new moment p q (Done r) only due (inl stepped) = λ fault.
+    let is : r ≡ Err StoreFault = cc in
+    fault_rose stepped.makes refl (λ kind. only_fault goes p q stepped.answer (only.sound p stepped.answer due kind) (stepped.gives ∙ ap (λ (k : Result _ SlateDBError). End q k) is))
+step_rose old new moment p q (Done r) only due (inr m) = λ fault.
+    absurd (let is : r ≡ Err StoreFault = cc in let not : ran_out r ≡ false = ap ran_out is in let out : ran_out r ≡ true = m.0 in cc)
+
 rose_later : (a b c : ℕ) → a ≤ b → min (b + 1) (2 ^ 64 - 1) ≤ c → min (a + 1) (2 ^ 64 - 1) ≤ c
 rose_later a b c less h = grind (arith, nat_tests)
 

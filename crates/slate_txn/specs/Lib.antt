@@ -17,9 +17,11 @@ pub mod Updating
 pub mod Loading
 pub mod Apply
 pub mod ApplyRuns
-pub mod Fencing
 pub mod FencedHolder
+pub mod Fencing
 pub mod Fence
+pub mod Refreshing
+pub mod FencedUpdating
 pub mod Initing
 pub mod ApplyFaults
 pub mod Numbers

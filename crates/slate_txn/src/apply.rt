@@ -3,7 +3,7 @@ ghost use Rattle.std.specs.Prelude.{◌≡◌, ◌<◌, IfOk, IfSome, true};
 ghost use Rattle.slate_ids.specs.Answers.{Gives, OrMemory};
 ghost use Rattle.slate_store.specs.Machines.{Steps, GoesOn, IsAgain};
 ghost use Rattle.slate_txn.specs.Commit.{is_putting};
-ghost use Rattle.slate_txn.specs.Due.{StillDue, WhereOut, FaultOf};
+ghost use Rattle.slate_txn.specs.Due.{StillDue, WhereOut, FaultOf, FaultRose};
 ghost use Rattle.slate_txn.specs.Apply.{renewed, apply_goes, apply_asks, apply_due, ApplyFalls, is_start, is_reading_phase, Applied, ApplyBegan, Applies, FaultFree};
 
 use crate::change::Change;
@@ -167,6 +167,7 @@ impl<T: Drop> ApplyPhase<T> {
             (self.old, holder.old) (self.new, holder.new) result }
         ensures falls { IsAgain result → ApplyFalls self.old self.new }
         ensures due { StillDue result (apply_due self.new) }
+        ensures fault { FaultFree (record { decoded = C.decoded; encoded = C.encoded; refusal = R.refusal; changed = X.changed change.now; right = right.now }) → FaultRose (S.told store.old) (S.told store.new) result }
     {
         match self.asks(alloc, holder) {
             Ok(call) => match perform(alloc, store, &call, moment) {

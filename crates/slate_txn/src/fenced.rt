@@ -1,13 +1,16 @@
 //! A fenced holder.
-ghost use Rattle.std.specs.Prelude.{◌≡◌, ◌<◌};
+ghost use Rattle.std.specs.Prelude.{◌≡◌, ◌<◌, ◌⊎◌, IfOk, IfErr, IfSome, Some, Err, true};
+ghost use Rattle.slate_ids.specs.Answers.{is_memory};
 ghost use Rattle.slate_txn.specs.Apply.{FaultFree};
 ghost use Rattle.slate_txn.specs.Due.{FaultOf};
 ghost use Rattle.slate_txn.specs.Fence.{FencedBy, raising};
+ghost use Rattle.slate_txn.specs.Fencing.{held_fence};
 
 use crate::change::NextEpoch;
+use crate::fencing::fence;
 use crate::right::Right;
 use crate::rules::Rules;
-use crate::stored::Stored;
+use crate::stored::{DirtyObject, Stored};
 use slate_ids::{Epochs, Millis, ObjectCodec, SlateDBError};
 use slate_store::ObjectStore;
 use std::alloc::Global;
@@ -85,5 +88,26 @@ impl<T: Drop, C: ObjectCodec<T> + Drop, R: Rules<T> + Drop, E: Epochs<T> + Drop>
         ensures { result.now ≡ self.now.holder.object }
     {
         self.stored.object()
+    }
+
+    // Why the version held refuses this holder, or none.
+    pub(crate) fn fence_held(&self) -> Option<SlateDBError>
+        ensures { result ≡ held_fence E.epoch self.now }
+    {
+        fence(self.epoch, self.epochs.get(self.stored.object()))
+    }
+
+    /// The number held and a copy of the value held, to be changed and put by an update. Refused with `Fenced` where the
+    /// epoch of the version held is above the own one.
+    pub fn prepare_dirty(&self, alloc: Global) -> Result<DirtyObject<T>, SlateDBError>
+        ensures fenced { IfSome (held_fence E.epoch self.now) (λ e. result ≡ Err e) }
+        ensures id { IfOk result (λ dirty. dirty.id ≡ self.now.holder.id) }
+        ensures value { IfOk result (λ dirty. dirty.value ≡ self.now.holder.object) }
+        ensures refused { IfErr result (λ e. (held_fence E.epoch self.now ≡ Some e) ⊎ (is_memory e ≡ true)) }
+    {
+        match self.fence_held() {
+            Some(e) => Err(e),
+            None => self.stored.prepare_dirty(alloc),
+        }
     }
 }

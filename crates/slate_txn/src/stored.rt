@@ -1,6 +1,7 @@
 //! A holder of a version.
 ghost use Rattle.std.specs.Prelude.{◌≡◌, IfOk, IfErr, true};
 ghost use Rattle.slate_ids.specs.Answers.{is_memory};
+ghost use Rattle.slate_txn.specs.Holder.{at_version};
 
 use crate::rules::Rules;
 use crate::sequenced::Sequenced;
@@ -30,6 +31,23 @@ impl<T, C, R> Model for Stored<T, C, R> {
 pub struct DirtyObject<T> {
     pub id: u64,
     pub value: T,
+}
+
+impl<T: Drop, C: Drop, R: Drop> Stored<T, C, R> {
+    // The log.
+    pub(crate) fn sequenced(&self) -> &Sequenced<T, C>
+        ensures { result.now ≡ self.now.sequenced }
+    {
+        &self.sequenced
+    }
+
+    // Holds this version.
+    pub(crate) fn hold(&mut self, id: u64, object: T)
+        ensures { self.new ≡ at_version self.old id object }
+    {
+        self.id = id;
+        self.object = object;
+    }
 }
 
 impl<T: Drop, C: ObjectCodec<T> + Drop, R: Rules<T> + Drop> Stored<T, C, R> {
