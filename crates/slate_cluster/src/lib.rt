@@ -5,6 +5,8 @@ mod cluster;
 #[cfg(test)]
 mod cluster_tests;
 mod command;
+mod commits;
+mod flushing;
 mod parties;
 mod party_calls;
 mod party_steps;
