@@ -68,9 +68,9 @@ goes_wrong es i d old now lt g h =
 
 -- one more event, as the loop's code has it
 pub goes_further : (es : List Event) (i : ℕ) (d : Event) (old now : Course) (entry : Entry) (world : World) (trail : List Entry) → i < length es → Goes es i old now → Happened now.world (get_or es i d) (Some entry) world → trail ≡ now.trail ++ entry ∷ []
-    → Goes es (i + 1) old (record { trail = trail; world = world })
+    → Goes es (i + 1) old (record { specs = now.specs; trail = trail; world = world })
 goes_further es i d old now entry world trail lt g h same =
-    subst (λ (t : List Entry). Goes es (i + 1) old (record { trail = t; world = world })) (sym same)
+    subst (λ (t : List Entry). Goes es (i + 1) old (record { specs = now.specs; trail = t; world = world })) (sym same)
     (goes_on es i (get_or es i d) old now (record { entry = entry; world = world }) lt (same_event es i d (get_or es i d) lt) g h)
 
 drop_front : (xs ys : List Entry) → drop (length xs) (xs ++ ys) ≡ ys

@@ -12,6 +12,7 @@ use Rattle.slate_store.specs.Calls.{Told}
 use Rattle.slate_store.specs.Machines.{Goes, Stay, End, Stepped, Held}
 use Rattle.slate_store.specs.declared.store_answer.StoreAnswer.{StoreAnswer}
 use Rattle.slate_store.specs.declared.store_answer.StoreAnswer.TheVariants.{Found, Got, Created}
+use Rattle.slate_script.specs.declared.call.Call.{Call}
 use Rattle.slate_script.specs.declared.reply.Reply.TheVariants.{Refused}
 use Rattle.slate_txn.specs.Boundary.{boundary_got, greatest}
 use Rattle.slate_txn.specs.Read.{read_goes, listed_goes, decoded_goes, boundary_goes}
@@ -111,8 +112,8 @@ kept_by purpose from to e h (inl step) = absurd (true≢false (sym h ∙ never_m
 kept_by purpose from to e h (inr held) = record { same_purpose = refl; same_position = held.1.kept; contents = held.1.made.contents }
 
 -- any other refusal is the reply
-pub refused_by : (facts : Facts) (purpose : Purpose) (from to : Position) {old new : Told} {moment : ℤ} (e : SlateDBError) → is_memory e ≡ false
+pub refused_by : (facts : Facts) (call : Call) (purpose : Purpose) (from to : Position) {old new : Told} {moment : ℤ} (e : SlateDBError) → is_memory e ≡ false
     → OrMemory {X = Ended} (Err e) (Held old new (asks from) moment from to) (Stepped old new (asks from) moment (goes from) (End to (Err e)))
-    → Followed facts purpose from old new moment purpose to (Some (Refused e))
-refused_by facts purpose from to e h (inl step) = record { answer = step.answer; makes = step.makes; next = ap (follow facts purpose) step.gives }
-refused_by facts purpose from to e h (inr held) = absurd (true≢false (sym held.0 ∙ h))
+    → Followed facts call purpose from old new moment purpose to (Some (Refused e))
+refused_by facts call purpose from to e h (inl step) = record { answer = step.answer; makes = step.makes; next = ap (follow facts call purpose) step.gives }
+refused_by facts call purpose from to e h (inr held) = absurd (true≢false (sym held.0 ∙ h))

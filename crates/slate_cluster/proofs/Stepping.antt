@@ -5,11 +5,12 @@ use Rattle.slate_store.specs.declared.mark.Mark.{Mark}
 use Rattle.slate_store.specs.declared.made.Made.{Made}
 use Rattle.slate_store.specs.declared.store_call.StoreCall.{StoreCall}
 use Rattle.slate_store.specs.declared.store_answer.StoreAnswer.{StoreAnswer}
+use Rattle.slate_script.specs.declared.call.Call.{Call}
 use Rattle.slate_script.specs.declared.reply.Reply.{Reply}
 use Rattle.slate_script.specs.declared.entry.Entry.{Entry}
 use Rattle.slate_script.specs.declared.entry.Entry.TheVariants.{Called}
 use Rattle.slate_protocol.specs.Phrases.{asks, goes}
-use Rattle.slate_protocol.specs.Calls.{follow}
+use Rattle.slate_protocol.specs.Calls.{Next, follow}
 use Rattle.slate_protocol.specs.World.{World, Done, tallied, counted, with_party, stepped, step_state, step_at, settled, reply_of}
 use Rattle.slate_protocol.specs.declared.party.Facts.{Facts}
 use Rattle.slate_protocol.specs.declared.party.Party.{Party}
@@ -18,7 +19,7 @@ use Rattle.slate_protocol.specs.declared.party.State.{State}
 use Rattle.slate_protocol.specs.declared.party.State.TheVariants.{Resting, Busy}
 use Rattle.slate_protocol.specs.declared.position.Position.{Position}
 use Rattle.slate_protocol.specs.declared.tally.Tally.{Tally}
-use Rattle.slate_cluster.specs.Moved.{is_busy, Moves, PartyStepped}
+use Rattle.slate_cluster.specs.Stepped.{is_busy, Moves, PartyStepped}
 use Rattle.slate_cluster.specs.Numbered.{NumberStepped}
 
 -- the parts of the state after a step: the numbers, the count, the store and the parties
@@ -52,29 +53,30 @@ built_left w after n moment mark made reply to l =
     ∙ (ap (λ (d : ℕ). left_over entry after.store after.tallies d (with_party n to w.parties)) (sym l.deleted)
     ∙ ap (λ (ps : List (ℕ × Party)). left_over entry after.store after.tallies after.deleted ps) (sym l.parties))
 
-moves_built : (w after : World) (n : ℕ) (facts : Facts) (purpose : Purpose) (position : Position) (moment : ℤ) (mark : Mark) (made : Made) (reply : Option Reply) (to : Party)
-    → Moves facts purpose position moment mark w.store after.store made reply to
-    → stepped w n facts purpose position moment mark ≡ built w n moment mark made.call made.answer after.store reply to
-moves_built w after n facts purpose position moment mark made reply to m =
+moves_built : (w after : World) (n : ℕ) (facts : Facts) (call : Call) (purpose : Purpose) (position : Position) (moment : ℤ) (mark : Mark) (made : Made) (reply : Option Reply) (to : Party)
+    → Moves facts call purpose position moment mark w.store after.store made reply to
+    → stepped w n facts call purpose position moment mark ≡ built w n moment mark made.call made.answer after.store reply to
+moves_built w after n facts call purpose position moment mark made reply to m =
     let o = effect mark (asks position) moment w.store in
-    let next = follow facts purpose (goes position o.answer) in
-    ap (λ (c : StoreCall). built w n moment mark c o.answer o.store (reply_of next) (settled facts next)) (sym m.call)
-    ∙ (ap (λ (a : StoreAnswer). built w n moment mark made.call a o.store (reply_of next) (settled facts next)) (sym m.answer)
-    ∙ (ap (λ (s : Store). built w n moment mark made.call made.answer s (reply_of next) (settled facts next)) (sym m.store)
-    ∙ (ap (λ (r : Option Reply). built w n moment mark made.call made.answer after.store r (settled facts next)) (sym m.replied)
-    ∙ ap (λ (p : Party). built w n moment mark made.call made.answer after.store reply p) (sym m.stands))))
+    let next = follow facts call purpose (goes position o.answer) in
+    ap (λ (c : StoreCall). built w n moment mark c o.answer o.store (reply_of next) (settled facts call next)) (sym m.stepped.call)
+    ∙ (ap (λ (a : StoreAnswer). built w n moment mark made.call a o.store (reply_of next) (settled facts call next)) (sym m.stepped.answer)
+    ∙ (ap (λ (s : Store). built w n moment mark made.call made.answer s (reply_of next) (settled facts call next)) (sym m.stepped.store)
+    ∙ (ap (λ (x : Next). built w n moment mark made.call made.answer after.store (reply_of x) (settled facts call x)) m.stepped.next
+    ∙ (ap (λ (r : Option Reply). built w n moment mark made.call made.answer after.store r (settled facts call m.to)) (sym m.replied)
+    ∙ ap (λ (p : Party). built w n moment mark made.call made.answer after.store reply p) (sym m.stands)))))
 
-moves_happen : (w after : World) (n : ℕ) (facts : Facts) (purpose : Purpose) (position : Position) (moment : ℤ) (mark : Mark) (made : Made) (reply : Option Reply) (to : Party)
-    → Moves facts purpose position moment mark w.store after.store made reply to → Left w n made to after
-    → stepped w n facts purpose position moment mark ≡ record { entry = Called n made.call moment mark made.answer reply; world = after }
-moves_happen w after n facts purpose position moment mark made reply to m l =
-    moves_built w after n facts purpose position moment mark made reply to m ∙ built_left w after n moment mark made reply to l
+moves_happen : (w after : World) (n : ℕ) (facts : Facts) (call : Call) (purpose : Purpose) (position : Position) (moment : ℤ) (mark : Mark) (made : Made) (reply : Option Reply) (to : Party)
+    → Moves facts call purpose position moment mark w.store after.store made reply to → Left w n made to after
+    → stepped w n facts call purpose position moment mark ≡ record { entry = Called n made.call moment mark made.answer reply; world = after }
+moves_happen w after n facts call purpose position moment mark made reply to m l =
+    moves_built w after n facts call purpose position moment mark made reply to m ∙ built_left w after n moment mark made reply to l
 
 by_state : (w after : World) (n : ℕ) (facts : Facts) (state : State) (moment : ℤ) (mark : Mark) (made : Made) (reply : Option Reply) (to : Party)
     → is_busy state ≡ true → PartyStepped facts state moment mark w.store after.store made reply to → Left w n made to after
     → step_state w n facts state moment mark ≡ record { entry = Called n made.call moment mark made.answer reply; world = after }
 by_state w after n facts Resting moment mark made reply to h m l = absurd m
-by_state w after n facts (Busy purpose position) moment mark made reply to h m l = rw h (moves_happen w after n facts purpose position moment mark made reply to m l)
+by_state w after n facts (Busy call purpose position) moment mark made reply to h m l = rw h (moves_happen w after n facts call purpose position moment mark made reply to m l)
 
 abbrev IsBusyIf : Option Party → Type 0
 IsBusyIf None = Unit {0}

@@ -3,11 +3,10 @@ use Rattle.std.specs.Prelude.{◌≡◌, ◌⊎◌, ℕ, ◌+◌, ◌≤◌, Lis
 use Rattle.std.specs.Io.KnownBytes.{Keeps, Appends, Consumes, IsAtEnd}
 use Rattle.slate_store.specs.Counts.{Rose}
 use Rattle.slate_script.specs.Scripts.{script_of}
-use Rattle.slate_script.specs.declared.db_spec.DbSpec.{DbSpec}
 use Rattle.slate_script.specs.declared.script.Script.{Script}
 use Rattle.slate_script.specs.declared.script.ScriptPlace.{ScriptPlace}
 use Rattle.slate_script.specs.declared.script.ScriptPlace.TheVariants as place
-use Rattle.slate_protocol.specs.Runs.{Course, Ran, opening_of, run}
+use Rattle.slate_protocol.specs.Runs.{Ran, opening, run}
 use Rattle.slate_protocol.specs.Reports.{report_text}
 use Rattle.slate_cluster.specs.Commands.{help_text, version_text}
 use Rattle.slate_cluster.specs.declared.command.Command.{Command}
@@ -17,14 +16,9 @@ use Rattle.slate_cluster.specs.declared.status.Status.TheVariants as status
 
 -- ---- the text and the status of an input
 
--- the course as a run begins: a script has one database
-abbrev pub opening_course : List DbSpec → Course
-opening_course (spec ∷ specs) = record { trail = []; world = opening_of spec }
-opening_course [] = record { trail = []; world = record { tallies = []; deleted = 0; store = record { objects = []; last_tag = 0 }; parties = [] } }
-
 -- the run of a script
 abbrev pub ran_of : Script → Ran
-ran_of script = run script.events 0 (opening_course script.databases)
+ran_of script = run script.events 0 (opening script.databases)
 
 -- the name of a place
 abbrev pub place_text : ScriptPlace → List ℕ

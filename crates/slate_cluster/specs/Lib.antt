@@ -2,7 +2,6 @@ pub mod Advanced
 pub mod Recorded
 pub mod Followed
 pub mod Stepped
-pub mod Moved
 pub mod Numbered
 pub mod Ran
 pub mod Commands

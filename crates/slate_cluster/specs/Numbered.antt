@@ -13,7 +13,7 @@ use Rattle.slate_protocol.specs.declared.party.Party.{Party}
 use Rattle.slate_protocol.specs.declared.party.Facts.{Facts}
 use Rattle.slate_protocol.specs.declared.party.State.{State}
 use Rattle.slate_protocol.specs.declared.party.State.TheVariants.{Resting, Busy}
-use Rattle.slate_cluster.specs.Moved.{is_busy, PartyStepped}
+use Rattle.slate_cluster.specs.Stepped.{is_busy, PartyStepped}
 
 -- the party is there, and a store call is due in its call
 abbrev pub IsBusyAt : Option Party → Type 0
@@ -28,11 +28,11 @@ NumberStepped n moment mark old (Some party) before now made reply new = (to : P
 -- the entry of a start, and the parties after it
 abbrev pub start_entry : ℕ → Facts → State → Call → Entry
 start_entry n facts Resting call = Started n (reply_of (begin facts call))
-start_entry n facts (Busy purpose position) call = Idle n
+start_entry n facts (Busy under purpose position) call = Idle n
 
 abbrev pub start_parties : ℕ → Facts → State → Call → List (ℕ × Party) → List (ℕ × Party)
-start_parties n facts Resting call parties = with_party n (settled facts (begin facts call)) parties
-start_parties n facts (Busy purpose position) call parties = parties
+start_parties n facts Resting call parties = with_party n (settled facts call (begin facts call)) parties
+start_parties n facts (Busy under purpose position) call parties = parties
 
 -- a start: bad where the number is unknown or its kind lacks the call
 abbrev pub NumberStarted : ℕ → Call → List (ℕ × Party) → Option Party → Option Entry → List (ℕ × Party) → Type 0

@@ -1,18 +1,12 @@
 -- What a call of the cluster says of its run.
-use Rattle.std.specs.Prelude.{◌≡◌, ℕ, List, [], ◌∷◌, ◌++◌, take, Option, Some, None, Result, Ok, Err}
-use Rattle.slate_script.specs.declared.db_spec.DbSpec.{DbSpec}
+use Rattle.std.specs.Prelude.{◌≡◌, List, ◌++◌, take, Option, Some, None, Result, Ok, Err}
 use Rattle.slate_script.specs.declared.event.Event.{Event}
 use Rattle.slate_script.specs.declared.entry.Entry.{Entry}
 use Rattle.slate_protocol.specs.World.{World, happens}
-use Rattle.slate_protocol.specs.Runs.{Course, opening_of, run}
+use Rattle.slate_protocol.specs.Runs.{Course, run}
 use Rattle.slate_cluster.specs.declared.cluster.Report.{Report}
 use Rattle.slate_cluster.specs.declared.cluster.ClusterError.{ClusterError}
 use Rattle.slate_cluster.specs.declared.cluster.ClusterError.TheVariants.{BadEvent, OutOfMemory}
-
--- the state as a run of one database begins
-abbrev pub Begins : List DbSpec → World → Type 0
-Begins (spec ∷ []) w = w ≡ opening_of spec
-Begins _ w = ⊥
 
 -- what an event did: nothing where it was bad
 abbrev pub Happened : World → Event → Option Entry → World → Type 0

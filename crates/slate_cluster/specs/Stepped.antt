@@ -1,19 +1,40 @@
 -- What a step of a party did.
-use Rattle.std.specs.Prelude.{◌≡◌, ℕ, ℤ, Option, Some, None}
+use Rattle.std.specs.Prelude.{◌≡◌, ℤ, Bool, false, Option}
 use Rattle.slate_store.specs.Store.{Store, effect}
 use Rattle.slate_store.specs.declared.mark.Mark.{Mark}
 use Rattle.slate_store.specs.declared.made.Made.{Made}
+use Rattle.slate_script.specs.declared.call.Call.{Call}
 use Rattle.slate_script.specs.declared.reply.Reply.{Reply}
-use Rattle.slate_protocol.specs.Phrases.{asks, goes}
-use Rattle.slate_protocol.specs.Calls.{follow}
+use Rattle.slate_protocol.specs.Phrases.{asks, goes, is_due}
+use Rattle.slate_protocol.specs.Calls.{Next, follow}
+use Rattle.slate_protocol.specs.World.{settled, reply_of}
 use Rattle.slate_protocol.specs.declared.party.Facts.{Facts}
+use Rattle.slate_protocol.specs.declared.party.Party.{Party}
 use Rattle.slate_protocol.specs.declared.party.Purpose.{Purpose}
+use Rattle.slate_protocol.specs.declared.party.State.{State}
+use Rattle.slate_protocol.specs.declared.party.State.TheVariants.{Resting, Busy}
 use Rattle.slate_protocol.specs.declared.position.Position.{Position}
-use Rattle.slate_cluster.specs.Followed.{next_by}
 
 -- the one store call was made under a mark, its answer is the store's, and the call goes on as its row says
-pub record IsStepped (facts : Facts) (purpose : Purpose) (position : Position) (moment : ℤ) (mark : Mark) (old new : Store) (to : Purpose) (at : Position) (made : Made) (reply : Option Reply) : Type 0 where
+pub record IsStepped (facts : Facts) (under : Call) (purpose : Purpose) (position : Position) (moment : ℤ) (mark : Mark) (old new : Store) (made : Made) (to : Next) : Type 0 where
   pub call : made.call ≡ asks position
   pub answer : made.answer ≡ (effect mark (asks position) moment old).answer
   pub store : new ≡ (effect mark (asks position) moment old).store
-  pub next : follow facts purpose (goes position (effect mark (asks position) moment old).answer) ≡ next_by to at reply
+  pub next : follow facts under purpose (goes position (effect mark (asks position) moment old).answer) ≡ to
+
+-- whether a store call is due in a party's call
+abbrev pub is_busy : State → Bool
+is_busy Resting = false
+is_busy (Busy call purpose position) = is_due position
+
+-- a party's call went one step, and the party stands there
+pub record Moves (facts : Facts) (under : Call) (purpose : Purpose) (position : Position) (moment : ℤ) (mark : Mark) (old new : Store) (made : Made) (reply : Option Reply) (party : Party) : Type 0 where
+  pub to : Next
+  pub stepped : IsStepped facts under purpose position moment mark old new made to
+  pub replied : reply ≡ reply_of to
+  pub stands : party ≡ settled facts under to
+
+-- a step of a party, which has a call
+abbrev pub PartyStepped : Facts → State → ℤ → Mark → Store → Store → Made → Option Reply → Party → Type 0
+PartyStepped facts Resting moment mark old new made reply party = ⊥
+PartyStepped facts (Busy call purpose position) moment mark old new made reply party = Moves facts call purpose position moment mark old new made reply party

@@ -1,7 +1,7 @@
 //! The cluster: parties over one store, with the trail of what happened.
 ghost use Rattle.std.specs.Prelude.{◌≡◌, ◌++◌, ◌∷◌, [], ◌<◌, IfOk, OnOk, vec_len, vec_capacity, map};
 ghost use Rattle.slate_script.specs.Scripts.{IsOneNew};
-ghost use Rattle.slate_protocol.specs.Runs.{Opens};
+ghost use Rattle.slate_protocol.specs.Runs.{opening, opening_world};
 ghost use Rattle.slate_cluster.specs.Ran.{HasRun};
 
 use crate::state::ClusterState;
@@ -13,11 +13,12 @@ use std::alloc::Global;
 use std::collections::BTreeMap;
 use std::marker::Model;
 
-/// Parties at one store. Contracts see what happened so far, and the state after it.
+/// Parties at one store. Contracts see the databases as they were given, what happened so far, and the state after it.
 #[derive(Drop)]
 pub struct Cluster {
-    state: ClusterState,
+    specs: Vec<DbSpec>,
     trail: Vec<Entry>,
+    state: ClusterState,
 }
 
 impl Model for Cluster {
@@ -25,7 +26,7 @@ impl Model for Cluster {
 
     ghost Value = { Course };
 
-    ghost view = { λ a. record { trail = a.trail.items; world = a.state } };
+    ghost view = { λ a. record { specs = a.specs.items; trail = a.trail.items; world = a.state } };
 }
 
 /// Why a cluster was not made.
@@ -58,6 +59,17 @@ fn keep(trail: &mut Vec<Entry>, entry: Entry)
     let _ = trail.push(entry);
 }
 
+// The state as a run of one new database begins.
+fn opening_state(alloc: Global, specs: &[DbSpec]) -> Result<ClusterState, OutOfMemory>
+    requires { IsOneNew specs.now }
+    ensures { IfOk result (λ state. state ≡ opening_world specs.now) }
+{
+    match specs {
+        [spec] => ClusterState::new(alloc, spec),
+        _ => unreachable!(),
+    }
+}
+
 // Equal entries.
 fn copy_entries(alloc: Global, entries: &[Entry]) -> Result<Vec<Entry>, OutOfMemory>
     ensures { IfOk result (λ copied. copied.items ≡ entries.now) }
@@ -73,12 +85,13 @@ impl Cluster {
     /// A cluster over one new database, with no party.
     pub fn new(alloc: Global, specs: Vec<DbSpec>) -> Result<Cluster, NewError>
         requires { IsOneNew specs.items }
-        ensures { IfOk result (Opens specs.items) }
+        ensures { IfOk result (λ cluster. cluster ≡ opening specs.items) }
     {
-        match ClusterState::new(alloc, specs.as_slice()) {
+        match opening_state(alloc, specs.as_slice()) {
             Ok(state) => Ok(Cluster {
-                state,
+                specs,
                 trail: Vec::new(alloc),
+                state,
             }),
             Err(_) => Err(NewError::OutOfMemory),
         }

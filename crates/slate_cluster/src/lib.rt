@@ -1,23 +1,33 @@
 //! A cluster of parties over one store, and the program over it.
 #![tactic(auto)]
 
+#[cfg(test)]
+mod checking;
 mod cluster;
 #[cfg(test)]
 mod cluster_tests;
 mod command;
+mod commits;
+#[cfg(test)]
+mod flush_tests;
+mod flushing;
+#[cfg(test)]
+mod open_tests;
 mod parties;
 mod party_calls;
 mod party_steps;
 mod phrases;
+#[cfg(test)]
+mod program_tests;
 mod recorder;
 mod report;
 mod rules;
+#[cfg(test)]
+mod script_tests;
 mod state;
 mod status;
 mod steps;
 mod tallies;
-#[cfg(test)]
-mod tests;
 mod top_call;
 
 pub use cluster::{Cluster, ClusterError, NewError, Report};

@@ -22,7 +22,7 @@ fn has_call(kind: PartyKind, call: Call) -> bool
     ensures { result ≡ offers kind call }
 {
     match (kind, call) {
-        (PartyKind::Writer, Call::OpenWriter) => true,
+        (PartyKind::Writer, Call::OpenWriter | Call::Flush { .. }) => true,
     }
 }
 
@@ -80,7 +80,7 @@ pub(crate) fn start(parties: &mut Parties, number: u32, call: Call) -> Option<En
                 return None;
             }
             match &party.state {
-                State::Busy(_, _) => Some(Entry::Idle { party: number }),
+                State::Busy(_, _, _) => Some(Entry::Idle { party: number }),
                 State::Resting => {
                     let begun = begin_call(&party.facts, call);
                     put_back(parties, number, begun.party);

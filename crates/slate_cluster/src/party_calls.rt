@@ -1,12 +1,12 @@
 //! The calls of a party: how they start, and their steps.
 ghost use Rattle.std.specs.Prelude.{◌≡◌, true, IfOk, OnErr};
-ghost use Rattle.slate_protocol.specs.Calls.{begin};
+ghost use Rattle.slate_protocol.specs.Calls.{begin, read_next, once_open};
 ghost use Rattle.slate_protocol.specs.World.{facts_after, settled, reply_of};
-ghost use Rattle.slate_cluster.specs.Moved.{is_busy, PartyStepped};
+ghost use Rattle.slate_cluster.specs.Stepped.{is_busy, PartyStepped};
 
 use crate::party_steps::{Stepped, step_party};
 use crate::phrases::is_due;
-use slate_ids::{Millis, OutOfMemory};
+use slate_ids::{Millis, OutOfMemory, SlateDBError, StateCause};
 use slate_protocol::{Facts, Party, Phrase, Position, Purpose, State};
 use slate_script::{Call, Reply};
 use slate_store::{Mark, MemoryStore};
@@ -19,7 +19,7 @@ fn take_reply(facts: &mut Facts, reply: &Reply)
 {
     match reply {
         Reply::Epoch(epoch) => facts.epoch = Some(*epoch),
-        Reply::Refused(_) => {}
+        Reply::Done | Reply::Refused(_) => {}
     }
 }
 
@@ -30,25 +30,57 @@ pub(crate) struct Begun {
     pub reply: Option<Reply>,
 }
 
+// A call that reads the latest manifest first.
+fn begin_read(facts: &Facts, call: Call) -> Begun
+    ensures party { result.party ≡ settled facts.now call (read_next facts.now) }
+    ensures reply { result.reply ≡ reply_of (read_next facts.now) }
+{
+    let position = Position {
+        db: facts.db,
+        phrase: Phrase::Read(ReadPhase::Listing),
+    };
+    Begun {
+        party: Party {
+            facts: *facts,
+            state: State::Busy(call, Purpose::Reading, position),
+        },
+        reply: None,
+    }
+}
+
+// A call that is refused at its start.
+fn refuse_start(facts: &Facts, refusal: SlateDBError) -> Begun
+    ensures party { result.party ≡ record { facts = facts.now; state = State.Resting } }
+    ensures reply { result.reply ≡ Some (Reply.Refused refusal) }
+{
+    Begun {
+        party: Party {
+            facts: *facts,
+            state: State::Resting,
+        },
+        reply: Some(Reply::Refused(refusal)),
+    }
+}
+
+// A flush is refused before the party's open succeeded.
+fn begin_flush(facts: &Facts, call: Call) -> Begun
+    ensures party { result.party ≡ settled facts.now call (once_open facts.now.epoch (read_next facts.now)) }
+    ensures reply { result.reply ≡ reply_of (once_open facts.now.epoch (read_next facts.now)) }
+{
+    match facts.epoch {
+        None => refuse_start(facts, SlateDBError::InvalidDBState(StateCause::NotOpen)),
+        Some(_) => begin_read(facts, call),
+    }
+}
+
 /// Begins a call. Takes no memory.
 pub(crate) fn begin_call(facts: &Facts, call: Call) -> Begun
-    ensures party { result.party ≡ settled facts.now (begin facts.now call) }
+    ensures party { result.party ≡ settled facts.now call (begin facts.now call) }
     ensures reply { result.reply ≡ reply_of (begin facts.now call) }
 {
     match call {
-        Call::OpenWriter => Begun {
-            party: Party {
-                facts: *facts,
-                state: State::Busy(
-                    Purpose::OpenRead,
-                    Position {
-                        db: facts.db,
-                        phrase: Phrase::Read(ReadPhase::Listing),
-                    },
-                ),
-            },
-            reply: None,
-        },
+        Call::OpenWriter => begin_read(facts, call),
+        Call::Flush { .. } => begin_flush(facts, call),
     }
 }
 
@@ -58,7 +90,7 @@ pub(crate) fn has_due_call(state: &State) -> bool
 {
     match state {
         State::Resting => false,
-        State::Busy(_, position) => is_due(position),
+        State::Busy(_, _, position) => is_due(position),
     }
 }
 
@@ -78,8 +110,9 @@ pub(crate) fn step_busy(
     let facts = party.facts;
     match &mut party.state {
         State::Resting => unreachable!(),
-        State::Busy(purpose, position) => {
-            let stepped = step_party(alloc, &facts, purpose, position, store, moment, mark)?;
+        State::Busy(call, purpose, position) => {
+            let call = *call;
+            let stepped = step_party(alloc, &facts, call, purpose, position, store, moment, mark)?;
             if let Some(reply) = &stepped.reply {
                 take_reply(&mut party.facts, reply);
                 party.state = State::Resting;

@@ -2,13 +2,14 @@
 ghost use Rattle.std.specs.Prelude.{◌≡◌, ◌∷◌, [], true, IfOk, OnErr};
 ghost use Rattle.slate_store.specs.Calls.{next_mark};
 ghost use Rattle.slate_protocol.specs.Phrases.{is_due as due_at};
+ghost use Rattle.slate_cluster.specs.Followed.{next_by};
 ghost use Rattle.slate_cluster.specs.Stepped.{IsStepped};
 
 use crate::recorder::Recorder;
 use crate::steps::step_call;
 use slate_ids::{Millis, OutOfMemory};
 use slate_protocol::{Facts, Position, Purpose};
-use slate_script::Reply;
+use slate_script::{Call, Reply};
 use slate_store::{Made, Mark, MemoryStore};
 use std::alloc::Global;
 use std::mem;
@@ -24,6 +25,7 @@ pub(crate) struct Stepped {
 fn step_over(
     alloc: Global,
     facts: &Facts,
+    call: Call,
     purpose: &mut Purpose,
     position: &mut Position,
     recorder: &mut Recorder,
@@ -31,12 +33,12 @@ fn step_over(
 ) -> Result<Stepped, OutOfMemory>
     requires due { due_at position.old ≡ true }
     requires fresh { recorder.old.made.items ≡ [] }
-    ensures ok { IfOk result (λ s. IsStepped facts.now purpose.old position.old moment (next_mark recorder.old.store.marks) recorder.old.store.store recorder.new.store.store purpose.new position.new s.made s.reply) }
+    ensures ok { IfOk result (λ s. IsStepped facts.now call purpose.old position.old moment (next_mark recorder.old.store.marks) recorder.old.store.store recorder.new.store.store s.made (next_by purpose.new position.new s.reply)) }
     ensures kept_purpose { OnErr result (purpose.new ≡ purpose.old) }
     ensures kept_position { OnErr result (position.new ≡ position.old) }
     ensures kept_store { OnErr result (recorder.new.store.store ≡ recorder.old.store.store) }
 {
-    let reply = step_call(alloc, facts, purpose, position, recorder, moment)?;
+    let reply = step_call(alloc, facts, call, purpose, position, recorder, moment)?;
     match recorder.made.pop() {
         Some(made) => Ok(Stepped { made, reply }),
         None => unreachable!(),
@@ -48,6 +50,7 @@ fn step_over(
 pub(crate) fn step_party(
     alloc: Global,
     facts: &Facts,
+    call: Call,
     purpose: &mut Purpose,
     position: &mut Position,
     store: &mut MemoryStore,
@@ -55,7 +58,7 @@ pub(crate) fn step_party(
     mark: Mark,
 ) -> Result<Stepped, OutOfMemory>
     requires { due_at position.old ≡ true }
-    ensures ok { IfOk result (λ s. IsStepped facts.now purpose.old position.old moment mark store.old.store store.new.store purpose.new position.new s.made s.reply) }
+    ensures ok { IfOk result (λ s. IsStepped facts.now call purpose.old position.old moment mark store.old.store store.new.store s.made (next_by purpose.new position.new s.reply)) }
     ensures kept_purpose { OnErr result (purpose.new ≡ purpose.old) }
     ensures kept_position { OnErr result (position.new ≡ position.old) }
     ensures kept_store { OnErr result (store.new.store ≡ store.old.store) }
@@ -63,7 +66,7 @@ pub(crate) fn step_party(
     store.set_mark(mark);
     let empty = MemoryStore::new(alloc, Vec::new(alloc));
     let mut recorder = Recorder::new(alloc, mem::replace(store, empty));
-    let stepped = step_over(alloc, facts, purpose, position, &mut recorder, moment);
+    let stepped = step_over(alloc, facts, call, purpose, position, &mut recorder, moment);
     *store = recorder.into_store();
     stepped
 }

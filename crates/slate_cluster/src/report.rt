@@ -2,9 +2,9 @@
 ghost use Rattle.std.specs.Prelude.{◌≡◌, ◌++◌, Ok, IfOk, OnOk, string_bytes};
 ghost use Rattle.std.specs.List.{flat_map};
 ghost use Rattle.slate_script.specs.Scripts.{script_of, IsOneNew};
-ghost use Rattle.slate_protocol.specs.Runs.{run};
+ghost use Rattle.slate_protocol.specs.Runs.{opening, run};
 ghost use Rattle.slate_protocol.specs.Reports.{commits_line, state_text, end_line, report_text};
-ghost use Rattle.slate_cluster.specs.Endings.{opening_course, bad_script_line, text_for, run_status, status_for};
+ghost use Rattle.slate_cluster.specs.Endings.{bad_script_line, text_for, run_status, status_for};
 
 use crate::cluster::{Cluster, ClusterError};
 use crate::status::Status;
@@ -82,7 +82,7 @@ fn report(alloc: Global, cluster: &Cluster, bad: Option<u64>) -> Result<String, 
 // A cluster over the one database of a script.
 fn opened(alloc: Global, databases: Vec<DbSpec>) -> Result<Cluster, OutOfMemory>
     requires { IsOneNew databases.items }
-    ensures { IfOk result (λ cluster. cluster ≡ opening_course databases.items) }
+    ensures { IfOk result (λ cluster. cluster ≡ opening databases.items) }
 {
     match Cluster::new(alloc, databases) {
         Ok(cluster) => Ok(cluster),

@@ -1,10 +1,9 @@
 //! The state of a cluster, and what an event does to it.
 ghost use Rattle.std.specs.Prelude.{◌≡◌, ◌∷◌, [], Some, IfOk, OnErr};
 ghost use Rattle.slate_script.specs.declared.event.Event.TheVariants as events;
-ghost use Rattle.slate_script.specs.Scripts.{IsOneNew};
 ghost use Rattle.slate_model.specs.Bytes.{manifest_bytes};
 ghost use Rattle.slate_protocol.specs.Runs.{opening_of};
-ghost use Rattle.slate_cluster.specs.Ran.{Happened, Begins};
+ghost use Rattle.slate_cluster.specs.Ran.{Happened};
 
 use crate::parties::{Parties, add, find, start, step};
 use crate::party_calls::has_due_call;
@@ -72,20 +71,16 @@ fn opening_tallies(alloc: Global, path: DbPath) -> Result<Tallies, OutOfMemory>
 }
 
 impl ClusterState {
-    /// The state as a run of one new database begins.
-    pub fn new(alloc: Global, specs: &[DbSpec]) -> Result<ClusterState, OutOfMemory>
-        requires { IsOneNew specs.now }
-        ensures { IfOk result (Begins specs.now) }
+    /// The state as a run of this database begins.
+    pub fn new(alloc: Global, spec: &DbSpec) -> Result<ClusterState, OutOfMemory>
+        ensures { IfOk result (λ state. state ≡ opening_of spec.now) }
     {
-        match specs {
-            [spec] => Ok(ClusterState {
-                tallies: opening_tallies(alloc, spec.path)?,
-                deleted: 0,
-                store: opening_store(alloc, spec)?,
-                parties: Parties::new(alloc),
-            }),
-            _ => unreachable!(),
-        }
+        Ok(ClusterState {
+            tallies: opening_tallies(alloc, spec.path)?,
+            deleted: 0,
+            store: opening_store(alloc, spec)?,
+            parties: Parties::new(alloc),
+        })
     }
 
     /// The databases, with their greatest committed numbers.

@@ -4,4 +4,4 @@ use Rattle.slate_cluster.proofs.cluster.Cluster.run.Given as goal
 
 -- the events so far were done, and their entries are in the trail
 abbrev pub invariant-loop-i : goal.invariant-loop-i
-invariant-loop-i l = Goes l.events l.i l.fn.self (record { trail = l.self-inside.trail.items; world = l.self-inside.state })
+invariant-loop-i l = Goes l.events l.i l.fn.self (record { specs = l.self-inside.specs.items; trail = l.self-inside.trail.items; world = l.self-inside.state })
