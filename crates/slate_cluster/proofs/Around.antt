@@ -1,9 +1,9 @@
 -- A step of a machine, seen as one of a machine around it.
-use Rattle.std.proofs.Common.{◌≡◌, ℤ, Result, Err, inl, inr, ap, ◌∙◌}
+use Rattle.std.proofs.Common.{◌≡◌, ℤ, Err, inl, inr, ap, ◌∙◌}
 use Rattle.slate_ids.specs.declared.error.SlateDBError.{SlateDBError}
 use Rattle.slate_ids.specs.Answers.{OrMemory}
 use Rattle.slate_store.specs.Calls.{Told}
-use Rattle.slate_store.specs.Machines.{Goes, Stay, End, Stepped, Held}
+use Rattle.slate_store.specs.Machines.{Goes, End, Stepped, Held}
 use Rattle.slate_store.specs.declared.store_answer.StoreAnswer.{StoreAnswer}
 use Rattle.slate_store.specs.declared.store_call.StoreCall.{StoreCall}
 

@@ -4,3 +4,4 @@ pub mod Events
 pub mod Stepping
 pub mod Reports
 pub mod Outcomes
+pub mod Reached

@@ -6,7 +6,7 @@ use Rattle.slate_script.specs.Scripts.{script_of}
 use Rattle.slate_script.specs.declared.script.Script.{Script}
 use Rattle.slate_script.specs.declared.script.ScriptPlace.{ScriptPlace}
 use Rattle.slate_cluster.specs.Commands.{help_text, version_text}
-use Rattle.slate_cluster.specs.Endings.{End, GoesWell, Stays, Fails, ReadsWhole, ReadsTooLong, WritesWhole, WritesFront, Writes, after_fault, Delivers, Answers, Runs, Outcome, ExactlyEnds, EndsTooLong, text_for, status_for, run_status, ran_of, limit}
+use Rattle.slate_cluster.specs.Endings.{End, GoesWell, Stays, Fails, ReadsWhole, ReadsTooLong, WritesWhole, WritesFront, Writes, after_fault, Delivers, Answers, IfAnswered, Runs, Outcome, ExactlyEnds, EndsTooLong, text_for, status_for, run_status, ran_of, limit}
 use Rattle.slate_cluster.specs.declared.command.Command.{Command}
 use Rattle.slate_cluster.specs.declared.command.Command.TheVariants.{Run, Help, Version}
 use Rattle.slate_cluster.specs.declared.status.Status.{Status}
@@ -52,6 +52,17 @@ front-answers read old new status.OutOfMemory is e h = absurd is
 pub answers : (read : Result Script ScriptPlace) (old new : End) (st : Status) → Delivers (text_for read) (status_for read) old new st → Answers read old new st
 answers read old new st (inl h) = subst (Answers read old new) (sym h.0) (whole-answers read old new (status_for read) (input-asks read) refl h.1)
 answers read old new st (inr h) = subst (Answers read old new) (sym h.0) (front-answers read old new (status_for read) (input-asks read) refl h.1)
+
+-- what holds, holds unless memory ran out
+pub if_answered : (st : Status) (P : Type 0) → P → IfAnswered st P
+if_answered status.OutOfMemory P h = tt
+if_answered status.Ok P h = h
+if_answered status.BadWords P h = h
+if_answered status.ReadFault P h = h
+if_answered status.WriteFault P h = h
+if_answered status.TooLong P h = h
+if_answered (status.BadScript p) P h = h
+if_answered (status.BadEvent n) P h = h
 
 -- ---- the input
 

@@ -1,5 +1,5 @@
 -- A step of a party is what the protocol says of it.
-use Rattle.std.proofs.Common.{◌≡◌, ℕ, ℤ, nat_lt, Bool, true, List, length, Option, Some, None, sym, ap, ◌∙◌, subst}
+use Rattle.std.proofs.Common.{◌≡◌, ℕ, ℤ, nat_lt, true, List, length, Option, Some, None, sym, ap, ◌∙◌, subst}
 use Rattle.slate_store.specs.Store.{Store, effect}
 use Rattle.slate_store.specs.declared.mark.Mark.{Mark}
 use Rattle.slate_store.specs.declared.made.Made.{Made}

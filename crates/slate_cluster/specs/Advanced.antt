@@ -1,18 +1,17 @@
 -- What one step of a phrase does.
-use Rattle.std.specs.Prelude.{◌≡◌, ℕ, ℤ, List, Option, Some, None, Result, Ok, Err}
+use Rattle.std.specs.Prelude.{◌≡◌, ℕ, ℤ, List, Ok}
 use Rattle.slate_model.specs.declared.manifest.Manifest.{Manifest}
-use Rattle.slate_model.specs.Codec.{decoded}
 use Rattle.slate_store.specs.Calls.{Told}
 use Rattle.slate_store.specs.Machines.{Steps}
 use Rattle.slate_store.specs.declared.step.Step.{Step}
-use Rattle.slate_store.specs.declared.step.Step.TheVariants.{Again, Done}
+use Rattle.slate_store.specs.declared.step.Step.TheVariants.{Done}
 use Rattle.slate_txn.specs.declared.read.ReadPhase.{ReadPhase}
 use Rattle.slate_txn.specs.declared.read.ReadPhase.TheVariants.{Bounding}
 use Rattle.slate_txn.specs.declared.commit.CommitPhase.{CommitPhase}
 use Rattle.slate_protocol.specs.Phrases.{asks, goes, at_read, at_commit}
 use Rattle.slate_protocol.specs.declared.position.Position.{Position}
 use Rattle.slate_protocol.specs.declared.position.Ended.{Ended}
-use Rattle.slate_protocol.specs.declared.position.Ended.TheVariants.{NoVersion, Version, Committed}
+use Rattle.slate_protocol.specs.declared.position.Ended.TheVariants.{Version}
 
 -- a step of a read, as one of the position
 abbrev pub ReadSteps : List ℕ → ReadPhase Manifest → ReadPhase Manifest → ℤ → Told → Told → Step Ended → Type 0

@@ -7,6 +7,7 @@ use Rattle.slate_script.specs.declared.script.Script.{Script}
 use Rattle.slate_script.specs.declared.script.ScriptPlace.{ScriptPlace}
 use Rattle.slate_script.specs.declared.script.ScriptPlace.TheVariants as place
 use Rattle.slate_protocol.specs.Runs.{Ran, opening, run}
+use Rattle.slate_protocol.specs.Lawful.{Lawful}
 use Rattle.slate_protocol.specs.Reports.{report_text}
 use Rattle.slate_cluster.specs.Commands.{help_text, version_text}
 use Rattle.slate_cluster.specs.declared.command.Command.{Command}
@@ -122,9 +123,19 @@ Answers read old new (status.BadEvent n) = (status_for read ≡ status.BadEvent 
 Answers read old new status.OutOfMemory = Stays old new
 Answers read old new _ = ⊥
 
--- the whole input was read, and answered
+-- the run of a script is lawful
+abbrev pub IsLawfulRun : Result Script ScriptPlace → Type 0
+IsLawfulRun (Ok script) = Lawful (ran_of script).course
+IsLawfulRun (Err p) = Unit {0}
+
+-- the whole input was read, and answered; the run that was reported is lawful
 abbrev pub AnswersWhole : End → End → End → End → Status → Type 0
-AnswersWhole source source' sink sink' st = GoesWell source source' × (bytes : List ℕ) × ReadsWhole source source' bytes × Answers (script_of bytes) sink sink' st
+AnswersWhole source source' sink sink' st = GoesWell source source' × (bytes : List ℕ) × ReadsWhole source source' bytes × Answers (script_of bytes) sink sink' st × IsLawfulRun (script_of bytes)
+
+-- unless memory ran out
+abbrev pub IfAnswered : Status → Type 0 → Type 0
+IfAnswered status.OutOfMemory P = Unit {0}
+IfAnswered _ P = P
 
 -- how `run` ends, by the status: what was read, and what was written
 abbrev pub Runs : End → End → End → End → Status → Type 0

@@ -1,5 +1,5 @@
 -- What an event did to the parties, by number.
-use Rattle.std.specs.Prelude.{◌≡◌, ℕ, ℤ, List, Bool, true, Option, Some, None, if◌then◌else◌}
+use Rattle.std.specs.Prelude.{◌≡◌, ℕ, ℤ, List, true, Option, Some, None, if◌then◌else◌}
 use Rattle.slate_store.specs.Store.{Store}
 use Rattle.slate_store.specs.declared.mark.Mark.{Mark}
 use Rattle.slate_store.specs.declared.made.Made.{Made}

@@ -1,11 +1,13 @@
 //! The cluster: parties over one store, with the trail of what happened.
-ghost use Rattle.std.specs.Prelude.{◌≡◌, ◌++◌, ◌∷◌, [], ◌<◌, IfOk, OnOk, vec_len, vec_capacity, map};
+ghost use Rattle.std.specs.Prelude.{◌≡◌, IfOk};
 ghost use Rattle.slate_script.specs.Scripts.{IsOneNew};
-ghost use Rattle.slate_protocol.specs.Runs.{opening, opening_world};
+ghost use Rattle.slate_protocol.specs.Lawful.{IsAccepted, Lawful};
+ghost use Rattle.slate_protocol.specs.Runs.{opening};
 ghost use Rattle.slate_cluster.specs.Ran.{HasRun};
 
-use crate::state::ClusterState;
-use slate_ids::{DbPath, OutOfMemory};
+use crate::progress::Progress;
+use slate_ids::DbPath;
+use slate_laws::{begins, goes_on, lawful, stops};
 use slate_protocol::Tally;
 use slate_script::{DbSpec, Entry, Event};
 use slate_store::MemoryStore;
@@ -13,20 +15,22 @@ use std::alloc::Global;
 use std::collections::BTreeMap;
 use std::marker::Model;
 
-/// Parties at one store. Contracts see the databases as they were given, what happened so far, and the state after it.
+/// Parties at one store. Contracts see the databases as they were given, what happened so far, and the state after it. Each
+/// cluster came about by events from the state in which its databases began.
 #[derive(Drop)]
 pub struct Cluster {
-    specs: Vec<DbSpec>,
-    trail: Vec<Entry>,
-    state: ClusterState,
+    progress: Progress,
 }
 
 impl Model for Cluster {
     ghost use Rattle.slate_protocol.specs.Runs.{Course};
+    ghost use Rattle.slate_protocol.specs.Lawful.{IsRun};
 
     ghost Value = { Course };
 
-    ghost view = { λ a. record { specs = a.specs.items; trail = a.trail.items; world = a.state } };
+    ghost view = { λ a. a.progress };
+
+    ghost invariant = { λ a. IsRun a.progress };
 }
 
 /// Why a cluster was not made.
@@ -51,34 +55,17 @@ pub struct Report {
     pub entries: Vec<Entry>,
 }
 
-// Adds an entry for which there is room.
-fn keep(trail: &mut Vec<Entry>, entry: Entry)
-    requires { vec_len trail.old < vec_capacity trail.old }
-    ensures { trail.new.items ≡ trail.old.items ++ entry ∷ [] }
-{
-    let _ = trail.push(entry);
-}
-
-// The state as a run of one new database begins.
-fn opening_state(alloc: Global, specs: &[DbSpec]) -> Result<ClusterState, OutOfMemory>
+// One new database is accepted, since its path is a name.
+fn accepted(specs: &[DbSpec])
     requires { IsOneNew specs.now }
-    ensures { IfOk result (λ state. state ≡ opening_world specs.now) }
+    ensures { IsAccepted specs.now }
 {
     match specs {
-        [spec] => ClusterState::new(alloc, spec),
+        [spec] => {
+            let _ = spec.path.letters();
+        }
         _ => unreachable!(),
     }
-}
-
-// Equal entries.
-fn copy_entries(alloc: Global, entries: &[Entry]) -> Result<Vec<Entry>, OutOfMemory>
-    ensures { IfOk result (λ copied. copied.items ≡ entries.now) }
-{
-    let mut copied = Vec::new(alloc);
-    for entry in entries {
-        copied.push(entry.copy(alloc)?)?;
-    }
-    Ok(copied)
 }
 
 impl Cluster {
@@ -87,65 +74,52 @@ impl Cluster {
         requires { IsOneNew specs.items }
         ensures { IfOk result (λ cluster. cluster ≡ opening specs.items) }
     {
-        match opening_state(alloc, specs.as_slice()) {
-            Ok(state) => Ok(Cluster {
-                specs,
-                trail: Vec::new(alloc),
-                state,
-            }),
+        accepted(specs.as_slice());
+        begins();
+        match Progress::new(alloc, specs) {
+            Ok(progress) => Ok(Cluster { progress }),
             Err(_) => Err(NewError::OutOfMemory),
         }
     }
 
     /// Does the events in order, up to the first bad one.
     pub fn run(&mut self, alloc: Global, events: &[Event]) -> Result<Report, ClusterError>
-        ensures { HasRun self.old events.now result self.new }
+        // The entries are those of the pure run, and so is the state.
+        ensures run { HasRun self.old events.now result self.new }
+        // Whatever happened since the cluster was made, it was lawful: one chain, fenced epochs, each step its row's.
+        ensures lawful { Lawful self.new }
     {
-        let before = self.trail.len();
-        for (i, event) in events.iter().enumerate() {
-            let place = i as u64;
-            if self.trail.reserve(1).is_err() {
-                return Err(ClusterError::OutOfMemory { place });
-            }
-            match self.state.event(alloc, event) {
-                Err(_) => return Err(ClusterError::OutOfMemory { place }),
-                Ok(None) => return Err(ClusterError::BadEvent { place }),
-                Ok(Some(entry)) => keep(&mut self.trail, entry),
-            }
-        }
-        match copy_entries(alloc, &self.trail[before..]) {
-            Ok(entries) => Ok(Report { entries }),
-            Err(_) => Err(ClusterError::OutOfMemory {
-                place: events.len() as u64,
-            }),
-        }
+        goes_on();
+        stops();
+        lawful();
+        self.progress.run(alloc, events)
     }
 
     /// The entries of all events since the cluster was made.
     pub fn trail(&self) -> &[Entry]
         ensures { result.now ≡ self.now.trail }
     {
-        self.trail.as_slice()
+        self.progress.trail()
     }
 
     /// The store as it stands.
     pub fn store(&self) -> &MemoryStore
         ensures { result.now.store ≡ self.now.world.store }
     {
-        self.state.store()
+        self.progress.store()
     }
 
     /// The databases by path, with their greatest committed numbers.
     pub(crate) fn tallies(&self) -> &BTreeMap<DbPath, Tally>
         ensures { result.now.entries ≡ self.now.world.tallies }
     {
-        self.state.tallies()
+        self.progress.tallies()
     }
 
     /// How many deletes removed an object.
     pub(crate) fn deleted(&self) -> u64
         ensures { result ≡ self.now.world.deleted }
     {
-        self.state.deleted()
+        self.progress.deleted()
     }
 }

@@ -12,6 +12,8 @@ mod commits;
 mod flush_tests;
 mod flushing;
 #[cfg(test)]
+mod interleaving_tests;
+#[cfg(test)]
 mod open_tests;
 mod parties;
 mod party_calls;
@@ -19,6 +21,7 @@ mod party_steps;
 mod phrases;
 #[cfg(test)]
 mod program_tests;
+mod progress;
 mod recorder;
 mod report;
 mod rules;

@@ -2,9 +2,10 @@
 ghost use Rattle.std.specs.Prelude.{◌≡◌, ◌++◌, Ok, IfOk, OnOk, string_bytes};
 ghost use Rattle.std.specs.List.{flat_map};
 ghost use Rattle.slate_script.specs.Scripts.{script_of, IsOneNew};
+ghost use Rattle.slate_protocol.specs.Lawful.{Lawful};
 ghost use Rattle.slate_protocol.specs.Runs.{opening, run};
 ghost use Rattle.slate_protocol.specs.Reports.{commits_line, state_text, end_line, report_text};
-ghost use Rattle.slate_cluster.specs.Endings.{bad_script_line, text_for, run_status, status_for};
+ghost use Rattle.slate_cluster.specs.Endings.{bad_script_line, text_for, run_status, status_for, IsLawfulRun};
 
 use crate::cluster::{Cluster, ClusterError};
 use crate::status::Status;
@@ -92,7 +93,8 @@ fn opened(alloc: Global, databases: Vec<DbSpec>) -> Result<Cluster, OutOfMemory>
 
 // Does the events, and answers the place of the first bad one.
 fn done(alloc: Global, cluster: &mut Cluster, events: &[Event]) -> Result<Option<u64>, OutOfMemory>
-    ensures { IfOk result (λ bad. run events.now 0 cluster.old ≡ record { course = cluster.new; bad = bad }) }
+    ensures run { IfOk result (λ bad. run events.now 0 cluster.old ≡ record { course = cluster.new; bad = bad }) }
+    ensures lawful { Lawful cluster.new }
 {
     match cluster.run(alloc, events) {
         Ok(_) => Ok(None),
@@ -115,6 +117,7 @@ fn answer_script(alloc: Global, script: Script) -> Result<Written, OutOfMemory>
     requires { IsOneNew script.databases }
     ensures text { IfOk result (λ a. string_bytes a.text ≡ text_for (Ok script)) }
     ensures status { IfOk result (λ a. a.status ≡ status_for (Ok script)) }
+    ensures lawful { IfOk result (λ _. IsLawfulRun (Ok script)) }
 {
     let mut cluster = opened(alloc, script.databases.into_vec())?;
     let bad = done(alloc, &mut cluster, script.events.as_slice())?;
@@ -139,6 +142,7 @@ fn bad_script(alloc: Global, place: ScriptPlace) -> Result<String, OutOfMemory>
 pub(crate) fn answer(alloc: Global, bytes: &[u8]) -> Result<Written, OutOfMemory>
     ensures text { IfOk result (λ a. string_bytes a.text ≡ text_for (script_of bytes.now)) }
     ensures status { IfOk result (λ a. a.status ≡ status_for (script_of bytes.now)) }
+    ensures lawful { IfOk result (λ _. IsLawfulRun (script_of bytes.now)) }
 {
     match read_script(alloc, bytes) {
         Ok(script) => answer_script(alloc, script),

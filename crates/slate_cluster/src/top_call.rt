@@ -3,7 +3,7 @@ ghost use Rattle.std.specs.Prelude.{◌≡◌, ◌≢◌, ◌↔◌, ◌≤◌, 
 ghost use Rattle.slate_store.specs.Counts.{Rose};
 ghost use Rattle.slate_script.specs.Scripts.{script_of};
 ghost use Rattle.slate_cluster.specs.Commands.{command_of, help_text, version_text};
-ghost use Rattle.slate_cluster.specs.Endings.{end, Answers, Delivers, EndsTooLong, ExactlyEnds, Outcome, Runs, limit};
+ghost use Rattle.slate_cluster.specs.Endings.{end, Answers, Delivers, EndsTooLong, ExactlyEnds, IfAnswered, IsLawfulRun, Outcome, Runs, limit};
 
 use crate::command::{Command, command_in};
 use crate::report::{Written, answer};
@@ -41,8 +41,9 @@ fn deliver<K: Sink>(text: &str, asked: Status, sink: &mut K) -> Status
 
 // What was read is answered. The text is made whole before the first write.
 fn answer_whole<K: Sink>(alloc: Global, bytes: &[u8], sink: &mut K) -> Status
-    ensures { Answers (script_of bytes.now) (end (K.written sink.old) (K.faults sink.old))
+    ensures written { Answers (script_of bytes.now) (end (K.written sink.old) (K.faults sink.old))
         (end (K.written sink.new) (K.faults sink.new)) result }
+    ensures lawful { IfAnswered result (IsLawfulRun (script_of bytes.now)) }
 {
     match answer(alloc, bytes) {
         Ok(Written { text, status }) => deliver(text.as_str(), status, sink),
@@ -108,7 +109,7 @@ pub fn program<S: Source, K: Sink>(
     source: &mut S,
     sink: &mut K,
 ) -> Status
-    // What was read and what was written, by the status.
+    // What was read and what was written, by the status. The run that was reported is lawful.
     ensures outcome { Outcome (command_of words.now)
         (end (S.left source.old) (S.faults source.old)) (end (S.left source.new) (S.faults source.new))
         (end (K.written sink.old) (K.faults sink.old)) (end (K.written sink.new) (K.faults sink.new)) result }

@@ -18,7 +18,8 @@ use Rattle.slate_txn.specs.declared.commit.CommitPhase.{CommitPhase}
 use Rattle.slate_txn.specs.declared.commit.CommitPhase.TheVariants.{Putting}
 use Rattle.slate_txn.specs.declared.right.Right.{Right}
 use Rattle.slate_txn.specs.declared.right.Right.TheVariants.{Plain}
-use Rattle.slate_protocol.specs.Calls.{new_value, right_of, unless, fence_of, commit_of}
+use Rattle.slate_txn.specs.FencedUpdating.{unless}
+use Rattle.slate_protocol.specs.Calls.{new_value, right_of, fence_of, commit_of}
 use Rattle.slate_protocol.specs.Logs.{manifests}
 use Rattle.slate_protocol.specs.Manifests.{refused_by, manifest_refusal}
 use Rattle.slate_protocol.specs.declared.party.Facts.{Facts}

@@ -12,6 +12,7 @@ use Rattle.slate_script.specs.declared.party_kind.PartyKind.{PartyKind}
 use Rattle.slate_script.specs.declared.party_kind.PartyKind.TheVariants.{Writer}
 use Rattle.slate_script.specs.declared.reply.Reply.{Reply}
 use Rattle.slate_script.specs.declared.reply.Reply.TheVariants.{Done, Epoch, Refused}
+use Rattle.slate_txn.specs.FencedUpdating.{unless}
 use Rattle.slate_txn.specs.Fencing.{fence}
 use Rattle.slate_txn.specs.declared.read.ReadPhase.TheVariants.{Listing}
 use Rattle.slate_txn.specs.declared.commit.CommitPhase.{CommitPhase}
@@ -40,11 +41,6 @@ new_value (Flush seq tick) m = flushed seq tick m
 abbrev pub right_of : Call → Right
 right_of OpenWriter = Plain
 right_of (Flush seq tick) = Plain
-
--- a refusal, where there is one, comes before all else
-abbrev pub unless : {X : Type 0} → Option SlateDBError → Result X SlateDBError → Result X SlateDBError
-unless (Some e) result = Err e
-unless None result = result
 
 -- the refusal of a party with this epoch at a version with that one
 abbrev pub fenced : Option ℕ → ℕ → Option SlateDBError

@@ -1,4 +1,4 @@
-use Rattle.std.proofs.Common.{w64, nat_lt, true, Bool, length, refl, ap, sym, ◌∙◌}
+use Rattle.std.proofs.Common.{w64, sym, ◌∙◌}
 use Rattle.std.proofs.lemmas.Int.{to_z-of_z}
 use Rattle.slate_cluster.proofs.Stepping.{step_happens}
 use Rattle.slate_cluster.proofs.state.ClusterState.step.Goals as goal

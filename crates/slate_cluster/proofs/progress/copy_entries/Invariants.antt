@@ -1,5 +1,5 @@
 use Rattle.std.proofs.Common.{◌≡◌, take}
-use Rattle.slate_cluster.proofs.cluster.copy_entries.Given as goal
+use Rattle.slate_cluster.proofs.progress.copy_entries.Given as goal
 
 abbrev pub invariant-loop-entry : goal.invariant-loop-entry
 invariant-loop-entry l = l.copied.items ≡ take l.entry-index l.entries

@@ -1,6 +1,5 @@
-use Rattle.std.proofs.Common.{◌≤◌, length, vec_len}
 use Rattle.slate_cluster.proofs.Events.{Goes}
-use Rattle.slate_cluster.proofs.cluster.Cluster.run.Given as goal
+use Rattle.slate_cluster.proofs.progress.Progress.run.Given as goal
 
 -- the events so far were done, and their entries are in the trail
 abbrev pub invariant-loop-i : goal.invariant-loop-i

@@ -1,0 +1,128 @@
+//! What a cluster did so far, event by event.
+ghost use Rattle.std.specs.Prelude.{◌≡◌, ◌++◌, ◌∷◌, [], ◌<◌, IfOk, OnOk, vec_len, vec_capacity, map};
+ghost use Rattle.slate_script.specs.Scripts.{IsOneNew};
+ghost use Rattle.slate_protocol.specs.Runs.{opening, opening_world};
+ghost use Rattle.slate_cluster.specs.Ran.{HasRun};
+
+use crate::cluster::{ClusterError, Report};
+use crate::state::ClusterState;
+use slate_ids::{DbPath, OutOfMemory};
+use slate_protocol::Tally;
+use slate_script::{DbSpec, Entry, Event};
+use slate_store::MemoryStore;
+use std::alloc::Global;
+use std::collections::BTreeMap;
+use std::marker::Model;
+
+/// The databases as they were given, what happened so far, and the state after it.
+#[derive(Drop)]
+pub(crate) struct Progress {
+    specs: Vec<DbSpec>,
+    trail: Vec<Entry>,
+    state: ClusterState,
+}
+
+impl Model for Progress {
+    ghost use Rattle.slate_protocol.specs.Runs.{Course};
+
+    ghost Value = { Course };
+
+    ghost view = { λ a. record { specs = a.specs.items; trail = a.trail.items; world = a.state } };
+}
+
+// Adds an entry for which there is room.
+fn keep(trail: &mut Vec<Entry>, entry: Entry)
+    requires { vec_len trail.old < vec_capacity trail.old }
+    ensures { trail.new.items ≡ trail.old.items ++ entry ∷ [] }
+{
+    let _ = trail.push(entry);
+}
+
+// The state as a run of one new database begins.
+fn opening_state(alloc: Global, specs: &[DbSpec]) -> Result<ClusterState, OutOfMemory>
+    requires { IsOneNew specs.now }
+    ensures { IfOk result (λ state. state ≡ opening_world specs.now) }
+{
+    match specs {
+        [spec] => ClusterState::new(alloc, spec),
+        _ => unreachable!(),
+    }
+}
+
+// Equal entries.
+fn copy_entries(alloc: Global, entries: &[Entry]) -> Result<Vec<Entry>, OutOfMemory>
+    ensures { IfOk result (λ copied. copied.items ≡ entries.now) }
+{
+    let mut copied = Vec::new(alloc);
+    for entry in entries {
+        copied.push(entry.copy(alloc)?)?;
+    }
+    Ok(copied)
+}
+
+impl Progress {
+    /// As a run of one new database begins, with no party.
+    pub fn new(alloc: Global, specs: Vec<DbSpec>) -> Result<Progress, OutOfMemory>
+        requires { IsOneNew specs.items }
+        ensures { IfOk result (λ progress. progress ≡ opening specs.items) }
+    {
+        let state = opening_state(alloc, specs.as_slice())?;
+        Ok(Progress {
+            specs,
+            trail: Vec::new(alloc),
+            state,
+        })
+    }
+
+    /// Does the events in order, up to the first bad one.
+    pub fn run(&mut self, alloc: Global, events: &[Event]) -> Result<Report, ClusterError>
+        ensures { HasRun self.old events.now result self.new }
+    {
+        let before = self.trail.len();
+        for (i, event) in events.iter().enumerate() {
+            let place = i as u64;
+            if self.trail.reserve(1).is_err() {
+                return Err(ClusterError::OutOfMemory { place });
+            }
+            match self.state.event(alloc, event) {
+                Err(_) => return Err(ClusterError::OutOfMemory { place }),
+                Ok(None) => return Err(ClusterError::BadEvent { place }),
+                Ok(Some(entry)) => keep(&mut self.trail, entry),
+            }
+        }
+        match copy_entries(alloc, &self.trail[before..]) {
+            Ok(entries) => Ok(Report { entries }),
+            Err(_) => Err(ClusterError::OutOfMemory {
+                place: events.len() as u64,
+            }),
+        }
+    }
+
+    /// The entries of all events.
+    pub fn trail(&self) -> &[Entry]
+        ensures { result.now ≡ self.now.trail }
+    {
+        self.trail.as_slice()
+    }
+
+    /// The store as it stands.
+    pub fn store(&self) -> &MemoryStore
+        ensures { result.now.store ≡ self.now.world.store }
+    {
+        self.state.store()
+    }
+
+    /// The databases by path, with their greatest committed numbers.
+    pub fn tallies(&self) -> &BTreeMap<DbPath, Tally>
+        ensures { result.now.entries ≡ self.now.world.tallies }
+    {
+        self.state.tallies()
+    }
+
+    /// How many deletes removed an object.
+    pub fn deleted(&self) -> u64
+        ensures { result ≡ self.now.world.deleted }
+    {
+        self.state.deleted()
+    }
+}
