@@ -1,10 +1,9 @@
 -- Versions put in their places ascend.
-use Rattle.std.proofs.Common.{rules, zero, suc, ◌≡◌, ◌≤◌, ◌<◌, ℕ, ◌+◌, Bool, true, false, List, [], ◌∷◌, ◌++◌, Option, Some, None, Result, Ok, refl, arith, ap, sym, subst, ◌∙◌, inl, inr}
-use Rattle.std.specs.Prelude.{nat_le, take, drop, ℤ, if◌then◌else◌}
+use Rattle.std.proofs.Common.{suc, ◌≡◌, ◌≤◌, ℕ, ◌+◌, Bool, true, false, List, [], ◌∷◌, Option, Some, None, Ok, refl, arith, ap, sym, subst, ◌∙◌, inl, inr}
+use Rattle.std.specs.Prelude.{nat_le, ℤ, if◌then◌else◌}
 use Rattle.std.specs.List.{insert}
 use Rattle.std.proofs.lemmas.Bool.Decides.{nat_tests}
 use Rattle.slate_ids.specs.Ranges.{is_within}
-use Rattle.slate_ids.specs.Answers.{OrMemory}
 use Rattle.slate_ids.specs.declared.number_range.NumberRange.{NumberRange}
 use Rattle.slate_store.specs.declared.object.ObjectMetadata.{ObjectMetadata}
 use Rattle.slate_store.specs.declared.store_answer.StoreAnswer.{StoreAnswer}

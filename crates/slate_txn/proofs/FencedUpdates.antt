@@ -1,5 +1,5 @@
 -- From an update to one of a fenced holder.
-use Rattle.std.proofs.Common.{◌≡◌, ◌≢◌, ℤ, ℕ, Bool, true, false, List, Option, Some, None, Result, Ok, Err, inl, inr, ap, sym, subst, ◌∙◌, refl}
+use Rattle.std.proofs.Common.{◌≡◌, ◌≢◌, ℤ, ℕ, true, false, Result, Ok, Err, inl, inr, ap, sym, subst, ◌∙◌}
 use Rattle.slate_ids.specs.Answers.{OrMemory, ran_out}
 use Rattle.slate_ids.specs.declared.error.SlateDBError.{SlateDBError}
 use Rattle.slate_ids.specs.declared.error.SlateDBError.TheVariants.{Fenced}
@@ -11,8 +11,8 @@ use Rattle.slate_txn.proofs.Fences.{Free, ran_free, commit_free}
 use Rattle.slate_txn.specs.Commit.{commit_goes}
 use Rattle.slate_txn.specs.Committing.{Committed}
 use Rattle.slate_txn.specs.FencedHolder.{FencedHolder}
-use Rattle.slate_txn.specs.FencedUpdating.{FencedUpdateSteps, FencedUpdateState, state_within, goes_within}
-use Rattle.slate_txn.specs.Fencing.{FencedOnly, NotFenced, NotFencedStep}
+use Rattle.slate_txn.specs.FencedUpdating.{FencedUpdateSteps, state_within, goes_within}
+use Rattle.slate_txn.specs.Fencing.{NotFenced, NotFencedStep}
 use Rattle.slate_txn.specs.Holder.{Holder}
 use Rattle.slate_txn.specs.Updating.{Updated, UpdateBegan, UpdateState, UpdateSteps, done_of, held_goes, update_due}
 use Rattle.slate_txn.specs.declared.commit.CommitPhase.{CommitPhase}

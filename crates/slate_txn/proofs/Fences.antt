@@ -1,7 +1,7 @@
 -- Neither a read nor a commit ends in a fence.
 use Rattle.std.proofs.Common.{◌≡◌, ◌≢◌, ◌⊎◌, ℤ, ℕ, Bool, true, false, List, [], ◌∷◌, Option, Some, None, Result, Ok, Err, if◌then◌else◌, inl, inr, ap, sym, subst, ◌∙◌, refl}
 use Rattle.std.specs.Prelude.{nat_le}
-use Rattle.slate_ids.specs.Answers.{OrMemory, ran_out, is_memory}
+use Rattle.slate_ids.specs.Answers.{ran_out}
 use Rattle.slate_ids.specs.declared.error.FormatName.TheVariants.{Boundary as BoundaryFormat}
 use Rattle.slate_ids.specs.declared.error.SlateDBError.{SlateDBError}
 use Rattle.slate_ids.specs.declared.error.SlateDBError.TheVariants.{Contended, Corrupt, Fenced, StoreFault, TransactionalObjectVersionExists}
@@ -17,7 +17,7 @@ use Rattle.slate_store.specs.declared.store_answer.StoreAnswer.TheVariants.{Foun
 use Rattle.slate_store.specs.declared.store_call.StoreCall.{StoreCall}
 use Rattle.slate_txn.specs.Boundary.{boundary_got, greatest}
 use Rattle.slate_txn.specs.Commit.{commit_asks, commit_goes, created_goes, bounded_goes}
-use Rattle.slate_txn.specs.Faults.{list_answers, get_answers, create_answers}
+use Rattle.slate_txn.proofs.Faults.{list_answers, get_answers, create_answers}
 use Rattle.slate_txn.specs.Fencing.{NoFence, NotFenced, NotFencedStep}
 use Rattle.slate_txn.specs.LogPaths.{version_path, boundary_path, folder}
 use Rattle.slate_txn.specs.Read.{read_asks, read_goes, listed_goes, decoded_goes, got_goes, boundary_goes}

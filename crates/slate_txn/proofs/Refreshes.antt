@@ -1,7 +1,7 @@
 -- From a read to a refresh.
 use Rattle.std.proofs.Common.{◌≡◌, ◌≢◌, ℤ, ℕ, Bool, true, false, List, Option, Some, None, Result, Ok, Err, if◌then◌else◌, inl, inr, ap, sym, subst, ◌∙◌, refl}
 use Rattle.std.specs.Prelude.{nat_lt}
-use Rattle.slate_ids.specs.Answers.{OrMemory, ran_out, is_memory, refused}
+use Rattle.slate_ids.specs.Answers.{OrMemory, ran_out, refused}
 use Rattle.slate_ids.specs.declared.error.SlateDBError.{SlateDBError}
 use Rattle.slate_ids.specs.declared.error.SlateDBError.TheVariants.{Fenced, StoreFault}
 use Rattle.slate_store.specs.Calls.{Told}
@@ -14,7 +14,7 @@ use Rattle.slate_txn.specs.FencedHolder.{FencedHolder}
 use Rattle.slate_txn.specs.Fencing.{fence, held_fence, FencedOnly, FencedStep, NoFence, NotFenced, NotFencedStep}
 use Rattle.slate_txn.specs.Read.{read_asks, read_goes}
 use Rattle.slate_txn.specs.Reading.{Read, ReadBegan}
-use Rattle.slate_txn.specs.Refreshing.{Refreshes, RefreshState, held_after, held_after_step, refreshed, refreshed_step, refresh_asks, refresh_on, refresh_goes}
+use Rattle.slate_txn.specs.Refreshing.{Refreshes, held_after, held_after_step, refreshed, refreshed_step, refresh_asks, refresh_on, refresh_goes}
 use Rattle.slate_txn.specs.declared.read.ReadPhase.{ReadPhase}
 use Rattle.slate_txn.specs.declared.sequenced.Sequenced.{Sequenced}
 

@@ -1,6 +1,6 @@
 -- What a fenced holder holds.
 use Rattle.std.specs.Prelude.{ℕ}
-use Rattle.slate_txn.specs.Holder.{Holder, at_version}
+use Rattle.slate_txn.specs.Holder.{Holder}
 
 -- the holder, how epochs are read, and the epoch that it committed
 pub record FencedHolder (T C R E : Type 0) : Type 0 where

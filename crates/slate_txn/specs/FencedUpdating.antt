@@ -1,5 +1,5 @@
 -- An update of the version that a fenced holder holds.
-use Rattle.std.specs.Prelude.{◌≡◌, ℕ, ℤ, Option, Some, None, Result, Ok, Err}
+use Rattle.std.specs.Prelude.{◌≡◌, ℤ, Option, Some, None, Result, Err}
 use Rattle.slate_ids.specs.declared.error.SlateDBError.{SlateDBError}
 use Rattle.slate_store.specs.Calls.{Told}
 use Rattle.slate_store.specs.Machines.{Goes, Stay, End, Steps, AnswersAtOnce}
@@ -7,7 +7,6 @@ use Rattle.slate_store.specs.declared.step.Step.{Step}
 use Rattle.slate_store.specs.declared.store_answer.StoreAnswer.{StoreAnswer}
 use Rattle.slate_txn.specs.Commit.{commit_asks}
 use Rattle.slate_txn.specs.FencedHolder.{FencedHolder}
-use Rattle.slate_txn.specs.Holder.{Holder}
 use Rattle.slate_txn.specs.Updating.{UpdateState, update_goes}
 use Rattle.slate_txn.specs.declared.commit.CommitPhase.{CommitPhase}
 use Rattle.slate_txn.specs.declared.commit.CommitPhase.TheVariants.{Over}

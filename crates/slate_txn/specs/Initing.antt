@@ -1,12 +1,9 @@
 -- The machine that makes a fenced holder in one try.
-use Rattle.std.specs.Prelude.{◌≡◌, ℕ, ℤ, Bool, true, false, Result, Ok, Err, refl}
-use Rattle.std.proofs.Common.{inr, ap}
+use Rattle.std.specs.Prelude.{◌≡◌, ℕ, ℤ, Bool, true, false, Result, Ok, Err}
 use Rattle.slate_ids.specs.declared.error.SlateDBError.{SlateDBError}
-use Rattle.slate_ids.specs.declared.error.SlateDBError.TheVariants.{OutOfMemory}
 use Rattle.slate_store.specs.Calls.{Told}
-use Rattle.slate_store.specs.Machines.{Goes, Stay, End, Steps, Held, AnswersAtOnce}
+use Rattle.slate_store.specs.Machines.{Goes, Stay, End, Steps, AnswersAtOnce}
 use Rattle.slate_store.specs.declared.step.Step.{Step}
-use Rattle.slate_store.specs.declared.step.Step.TheVariants.{Done}
 use Rattle.slate_store.specs.declared.store_answer.StoreAnswer.{StoreAnswer}
 use Rattle.slate_txn.specs.Commit.{commit_asks, commit_goes, commit_due}
 use Rattle.slate_txn.specs.FencedHolder.{FencedHolder, fenced_at}
@@ -51,11 +48,3 @@ InitSteps epoch old new moment (Refused e) to step = AnswersAtOnce old new e ste
 InitSteps epoch old new moment (Committing commit holder epochs) to step =
     Steps old new (commit_asks holder.sequenced.db holder.sequenced.log commit) moment (init_goes epoch commit holder epochs) (Committing commit holder epochs) to step
 InitSteps epoch old new moment Over to step = Unit {0}
-
-abbrev committing : {T C R E : Type 0} → Holder T C R → E → CommitPhase T → InitMachine T C R E
-committing holder epochs commit = Committing commit holder epochs
-
--- want of memory leaves it as it was
-pub init_held : {T C R E : Type 0} (epoch : E → T → ℕ) (old new : Told) (moment : ℤ) (p q : CommitPhase T) (holder : Holder T C R) (epochs : E) → Held old new (commit_asks holder.sequenced.db holder.sequenced.log p) moment p q
-    → InitSteps epoch old new moment (Committing p holder epochs) (Committing q holder epochs) (Done (Err OutOfMemory))
-init_held epoch old new moment p q holder epochs held = inr (refl, record { kept = ap (committing holder epochs) held.kept; made = held.made })

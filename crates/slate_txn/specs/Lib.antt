@@ -1,10 +1,7 @@
 pub mod LogPaths
 pub mod Boundary
 pub mod Due
-pub mod Steps
-pub mod Faults
 pub mod Read
-pub mod ReadFaults
 pub mod Reading
 pub mod Once
 pub mod TryRead
@@ -16,12 +13,10 @@ pub mod Committing
 pub mod Updating
 pub mod Loading
 pub mod Apply
-pub mod ApplyRuns
 pub mod FencedHolder
 pub mod Fencing
 pub mod Fence
 pub mod Refreshing
 pub mod FencedUpdating
 pub mod Initing
-pub mod ApplyFaults
 pub mod Numbers

@@ -1,15 +1,11 @@
 -- Loading a holder of the latest version.
-use Rattle.std.specs.Prelude.{◌≡◌, ℕ, ℤ, Bool, true, false, List, Option, Some, None, Result, Ok, Err, refl}
-use Rattle.std.proofs.Common.{inr, ap}
+use Rattle.std.specs.Prelude.{ℕ, ℤ, Bool, false, List, Option, Some, None, Result, Ok, Err}
 use Rattle.slate_ids.specs.declared.error.SlateDBError.{SlateDBError}
-use Rattle.slate_ids.specs.declared.error.SlateDBError.TheVariants.{LatestTransactionalObjectVersionMissing, OutOfMemory}
+use Rattle.slate_ids.specs.declared.error.SlateDBError.TheVariants.{LatestTransactionalObjectVersionMissing}
 use Rattle.slate_store.specs.Calls.{Told}
-use Rattle.slate_store.specs.Machines.{Goes, Stay, End, Steps, Held}
+use Rattle.slate_store.specs.Machines.{Goes, Stay, End, Steps}
 use Rattle.slate_store.specs.declared.step.Step.{Step}
-use Rattle.slate_store.specs.declared.step.Step.TheVariants.{Again, Done}
 use Rattle.slate_store.specs.declared.store_answer.StoreAnswer.{StoreAnswer}
-use Rattle.slate_store.specs.declared.store_call.StoreCall.{StoreCall}
-use Rattle.slate_txn.specs.Due.{WhereOut}
 use Rattle.slate_txn.specs.Holder.{Holder}
 use Rattle.slate_txn.specs.Read.{read_asks, read_goes, read_due}
 use Rattle.slate_txn.specs.declared.load.LoadMachine.{LoadMachine}
@@ -44,11 +40,3 @@ abbrev pub LoadSteps : {T C R : Type 0} → (C → List ℕ → Result T SlateDB
 LoadSteps decoded old new moment (Reading read sequenced rules) to step =
     Steps old new (read_asks sequenced.db sequenced.log read) moment (load_goes decoded read sequenced rules) (Reading read sequenced rules) to step
 LoadSteps decoded old new moment Over to step = Unit {0}
-
-abbrev reading : {T C R : Type 0} → Sequenced T C → R → ReadPhase T → LoadMachine T C R
-reading sequenced rules read = Reading read sequenced rules
-
--- want of memory leaves a load as it was
-pub load_held : {T C R : Type 0} (decoded : C → List ℕ → Result T SlateDBError) (old new : Told) (moment : ℤ) (p q : ReadPhase T) (sequenced : Sequenced T C) (rules : R) → Held old new (read_asks sequenced.db sequenced.log p) moment p q
-    → LoadSteps decoded old new moment (Reading p sequenced rules) (Reading q sequenced rules) (Done (Err OutOfMemory))
-load_held decoded old new moment p q sequenced rules held = inr (refl, record { kept = ap (λ (r : ReadPhase _). reading sequenced rules r) held.kept; made = held.made })

@@ -1,5 +1,5 @@
 -- Read: list, get the greatest, get the boundary.
-use Rattle.std.specs.Prelude.{◌≡◌, ℕ, List, Option, Some, None, Result, Ok, Err, nat_le, ◌<◌, Bool, true, false, if◌then◌else◌, refl}
+use Rattle.std.specs.Prelude.{◌≡◌, ℕ, List, Option, Some, None, Result, Ok, Err, nat_le, ◌<◌, Bool, true, false, if◌then◌else◌}
 use Rattle.slate_ids.specs.declared.error.SlateDBError.{SlateDBError}
 use Rattle.slate_ids.specs.declared.error.SlateDBError.TheVariants.{StoreFault, Corrupt}
 use Rattle.slate_ids.specs.declared.error.FormatName.TheVariants.{Boundary as BoundaryFormat}
@@ -12,7 +12,6 @@ use Rattle.slate_store.specs.declared.step.Step.{Step}
 use Rattle.slate_store.specs.declared.step.Step.TheVariants.{Done}
 use Rattle.slate_store.specs.Machines.{Goes, Stay, End}
 use Rattle.slate_txn.specs.Boundary.{boundary_got, greatest}
-use Rattle.slate_txn.specs.Steps.{is_reading}
 use Rattle.slate_txn.specs.LogPaths.{version_path, boundary_path, folder}
 use Rattle.slate_txn.specs.declared.log_kind.LogKind.{LogKind}
 use Rattle.slate_txn.specs.declared.read.ReadPhase.{ReadPhase}
@@ -86,10 +85,3 @@ Falls old new = rank new < rank old
 abbrev pub AtVersion : {T : Type 0} → Step (Option (ℕ × T)) → ReadPhase T → Type 0
 AtVersion (Done (Ok (Some version))) from = from ≡ Bounding version.0 version.1
 AtVersion _ from = Unit {0}
-
--- a read makes only lists and gets
-pub reads_only : {T : Type 0} (db : List ℕ) (log : LogKind) (phase : ReadPhase T) → is_reading (read_asks db log phase) ≡ true
-reads_only db log Listing = refl
-reads_only db log (Getting n) = refl
-reads_only db log (Bounding n value) = refl
-reads_only db log Over = refl

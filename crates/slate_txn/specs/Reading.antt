@@ -1,5 +1,5 @@
 -- The plain call that reads the latest version.
-use Rattle.std.specs.Prelude.{◌≡◌, ℕ, List, Option, Result, pos}
+use Rattle.std.specs.Prelude.{ℕ, List, Option, Result, pos}
 use Rattle.slate_ids.specs.declared.error.SlateDBError.{SlateDBError}
 use Rattle.slate_store.specs.Calls.{Told}
 use Rattle.slate_store.specs.Runs.{Ran, Began}

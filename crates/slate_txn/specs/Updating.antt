@@ -1,8 +1,7 @@
 -- Holders: a load, and an update of the value held.
-use Rattle.std.specs.Prelude.{◌≡◌, ℕ, ℤ, ◌==◌, Bool, true, false, List, Option, Some, None, Result, Ok, Err, if◌then◌else◌, refl}
-use Rattle.std.proofs.Common.{◌⊎◌, inl, inr, sym, subst, ap, ◌∙◌}
-use Rattle.slate_ids.specs.Answers.{Gives, OrMemory, ran_out}
-use Rattle.slate_store.specs.declared.store_call.StoreCall.{StoreCall}
+use Rattle.std.specs.Prelude.{◌≡◌, ℕ, ℤ, ◌==◌, Bool, true, false, List, Option, None, Result, Ok, Err, if◌then◌else◌}
+use Rattle.std.proofs.Common.{◌⊎◌}
+use Rattle.slate_ids.specs.Answers.{OrMemory}
 use Rattle.slate_ids.specs.declared.error.SlateDBError.{SlateDBError}
 use Rattle.slate_ids.specs.declared.error.SlateDBError.TheVariants.{TransactionalObjectVersionExists}
 use Rattle.slate_store.specs.Calls.{Told}
@@ -88,44 +87,3 @@ done_step (Done reply) = Done (done_of reply)
 abbrev pub held_by : {T C R : Type 0} → Holder T C R → Step (ℕ × T) → Holder T C R
 held_by holder Again = holder
 held_by holder (Done reply) = held_of holder reply
-
-done_out : {T : Type 0} (reply : Result (ℕ × T) SlateDBError) → ran_out (done_of reply) ≡ ran_out reply
-done_out (Ok version) = refl
-done_out (Err e) = refl
-
--- a commit that ran is an update
-pub updated : {T C R : Type 0} (holder : Holder T C R) (moment : ℤ) (old new : Told) (commit : CommitPhase T) (start : Result (CommitPhase T) SlateDBError) (reply : Result (ℕ × T) SlateDBError) (result : Result (Unit {0}) SlateDBError)
-    → Gives (Ok commit) start → result ≡ done_of reply
-    → OrMemory reply (CommitBegan holder.sequenced.db holder.sequenced.log moment old new commit) (Committed holder.sequenced.db holder.sequenced.log moment old new commit reply)
-    → OrMemory result (UpdateBegan holder moment old new start) (Updated holder moment old new start result)
-updated holder moment old new commit start reply result (inr out) same ran = absurd (let both : false ≡ true = out in cc)
-updated holder moment old new commit start reply result (inl e) same (inl done) =
-    inl (subst (λ (s : Result (CommitPhase _) SlateDBError). Updated holder moment old new s result) (sym e) (reply, done, sym same))
-updated holder moment old new commit start reply result (inl e) same (inr m) = inr (ap ran_out same ∙ done_out reply ∙ m.0, inr (commit, e, m.1))
-
--- an update that is refused at once
-pub refused_at_once : {T C R : Type 0} (holder : Holder T C R) (moment : ℤ) (old : Told) (start : Result (CommitPhase T) SlateDBError) (e : SlateDBError) (result : Result (Unit {0}) SlateDBError)
-    → Gives (Err e) start → result ≡ Err e → OrMemory result (UpdateBegan holder moment old old start) (Updated holder moment old old start result)
-refused_at_once holder moment old start e result (inl same) r = inl (subst (λ (s : Result (CommitPhase _) SlateDBError). Updated holder moment old old s result) (sym same) (r, refl))
-refused_at_once holder moment old start e result (inr out) r = inr (ap ran_out r ∙ out, inl refl)
-
-abbrev with_commit : {T C R : Type 0} → Holder T C R → CommitPhase T → UpdateState T C R
-with_commit holder commit = (Committing commit, holder)
-
--- a step of the commit is one of the update
-pub update_steps : {T C R : Type 0} (old new : Told) (call : StoreCall) (moment : ℤ) (holder : Holder T C R) (p q : CommitPhase T) (step : Step (ℕ × T)) → Steps old new call moment (commit_goes p) p q step
-    → Steps old new call moment (update_goes p holder) (Committing p, holder) (Committing q, held_by holder step) (done_step step)
-update_steps old new call moment holder p q Again stepped = record { answer = stepped.answer; makes = stepped.makes; gives = ap (held_goes holder) stepped.gives }
-update_steps old new call moment holder p q (Done reply) (inl stepped) = inl (record { answer = stepped.answer; makes = stepped.makes; gives = ap (held_goes holder) stepped.gives })
-update_steps old new call moment holder p q (Done (Ok version)) (inr m) = absurd (let out : false ≡ true = m.0 in cc)
-update_steps old new call moment holder p q (Done (Err e)) (inr m) = inr (m.0, record { kept = ap (with_commit holder) m.1.kept; made = m.1.made })
-
--- and so next of an update that commits
-pub update_next : {T C R : Type 0} (old new : Told) (moment : ℤ) (machine : UpdateMachine T) (holder held : Holder T C R) (p q : CommitPhase T) (step : Step (ℕ × T)) (result : Step (Unit {0}))
-    → machine ≡ Committing p → held ≡ held_by holder step → result ≡ done_step step → Steps old new (commit_asks holder.sequenced.db holder.sequenced.log p) moment (commit_goes p) p q step
-    → UpdateSteps old new moment (machine, holder) (Committing q, held) result
-update_next old new moment machine holder held p q step result at after done steps =
-    subst (λ (m : UpdateMachine _). UpdateSteps old new moment (m, holder) (Committing q, held) result) (sym at)
-    (subst (λ (h : Holder _ _ _). UpdateSteps old new moment (Committing p, holder) (Committing q, h) result) (sym after)
-    (subst (λ (r : Step (Unit {0})). UpdateSteps old new moment (Committing p, holder) (Committing q, held_by holder step) r) (sym done)
-    (update_steps old new (commit_asks holder.sequenced.db holder.sequenced.log p) moment holder p q step steps)))

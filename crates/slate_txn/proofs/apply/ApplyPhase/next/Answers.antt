@@ -1,9 +1,9 @@
 use Rattle.std.proofs.Common.{w64}
 use Rattle.std.proofs.lemmas.Int.{to_z-of_z}
-use Rattle.slate_txn.specs.ApplyFaults.{apply_faults}
-use Rattle.slate_txn.specs.ApplyRuns.{where_reads}
-use Rattle.slate_txn.specs.Faults.{step_rose}
-use Rattle.slate_txn.specs.Steps.{steps_where}
+use Rattle.slate_txn.proofs.ApplyFaults.{apply_faults}
+use Rattle.slate_txn.proofs.ApplyRuns.{where_reads}
+use Rattle.slate_txn.proofs.Faults.{step_rose}
+use Rattle.slate_txn.proofs.Steps.{steps_where}
 use Rattle.slate_txn.proofs.apply.ApplyPhase.next.Goals as goal
 
 pub returns-in-Ok-perform-clause-steps : goal.returns-in-Ok-perform-clause-steps

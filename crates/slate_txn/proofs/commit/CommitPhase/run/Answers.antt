@@ -1,7 +1,7 @@
 use Rattle.slate_ids.specs.Answers.{OrMemory-map}
 use Rattle.slate_store.specs.Runs.{begins, goes_further, done_with}
-use Rattle.slate_txn.specs.Committing.{commit_faults, answers_version}
-use Rattle.slate_txn.specs.Faults.{call_rose}
+use Rattle.slate_txn.proofs.Commits.{commit_faults, answers_version}
+use Rattle.slate_txn.proofs.Faults.{call_rose}
 use Rattle.std.proofs.Common.{arith, ◌∙◌, refl, w64}
 use Rattle.std.proofs.lemmas.Int.{to_z-of_z}
 use Rattle.slate_txn.proofs.commit.CommitPhase.run.Goals as goal

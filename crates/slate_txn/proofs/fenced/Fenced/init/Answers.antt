@@ -1,4 +1,4 @@
-use Rattle.std.proofs.Common.{Ok, Err, refl, sym, ap, ◌∙◌, w64, ℕ}
+use Rattle.std.proofs.Common.{Ok, Err, refl, sym, ap, ◌∙◌, w64}
 use Rattle.std.proofs.lemmas.Int.{to_z-of_z}
 use Rattle.slate_txn.specs.Fence.{fenced_with}
 use Rattle.slate_txn.proofs.fenced.Fenced.init.Goals as goal

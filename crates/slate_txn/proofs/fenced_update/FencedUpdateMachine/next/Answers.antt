@@ -1,6 +1,5 @@
 use Rattle.std.proofs.Common.{w64, subst, ap, ◌∙◌}
 use Rattle.std.proofs.lemmas.Int.{to_z-of_z}
-use Rattle.slate_store.specs.Machines.{Goes}
 use Rattle.slate_txn.proofs.FencedUpdates.{fenced_next, update_step_free}
 use Rattle.slate_txn.specs.Updating.{UpdateSteps, update_due}
 use Rattle.slate_txn.proofs.fenced_update.FencedUpdateMachine.next.Goals as goal

@@ -6,7 +6,8 @@ use Rattle.slate_store.specs.Machines.{Held}
 use Rattle.slate_store.specs.declared.step.Step.TheVariants.{Done}
 use Rattle.slate_txn.specs.Commit.{commit_asks}
 use Rattle.slate_txn.specs.Holder.{Holder}
-use Rattle.slate_txn.specs.Initing.{InitSteps, init_held}
+use Rattle.slate_txn.specs.Initing.{InitSteps}
+use Rattle.slate_txn.proofs.Inits.{init_held}
 use Rattle.slate_txn.specs.declared.init.InitMachine.{InitMachine}
 use Rattle.slate_txn.specs.declared.init.InitMachine.TheVariants.{Committing}
 use Rattle.slate_txn.proofs.init.InitMachine.next.Goals as goal

@@ -3,7 +3,8 @@ use Rattle.slate_ids.specs.Answers.{ran_out, is_memory}
 use Rattle.std.proofs.lemmas.Int.{to_z-of_z}
 use Rattle.slate_ids.specs.declared.error.SlateDBError.TheVariants.{OutOfMemory}
 use Rattle.slate_store.specs.declared.step.Step.TheVariants.{Done}
-use Rattle.slate_txn.specs.Loading.{LoadSteps, load_held}
+use Rattle.slate_txn.specs.Loading.{LoadSteps}
+use Rattle.slate_txn.proofs.Loads.{load_held}
 use Rattle.slate_txn.specs.declared.load.LoadMachine.{LoadMachine}
 use Rattle.slate_txn.specs.declared.load.LoadMachine.TheVariants.{Reading}
 use Rattle.slate_txn.proofs.load.LoadMachine.next.Goals as goal

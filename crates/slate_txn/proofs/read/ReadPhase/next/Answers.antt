@@ -1,7 +1,6 @@
 use Rattle.std.proofs.Common.{w64}
 use Rattle.std.proofs.lemmas.Int.{to_z-of_z}
-use Rattle.slate_txn.specs.Steps.{goes_steps, goes_held}
-use Rattle.slate_txn.specs.Read.{reads_only}
+use Rattle.slate_txn.proofs.Steps.{goes_steps, goes_held, reads_only}
 use Rattle.slate_txn.proofs.read.ReadPhase.next.Goals as goal
 
 pub returns-in-Ok-clause-steps : goal.returns-in-Ok-clause-steps

@@ -1,6 +1,6 @@
 use Rattle.std.proofs.Common.{ap, refl}
 use Rattle.slate_store.specs.declared.store_call.StoreCall.TheVariants as calls
-use Rattle.slate_txn.specs.Once.{once}
+use Rattle.slate_txn.proofs.Once.{once}
 use Rattle.slate_txn.proofs.sequenced.Sequenced.list_once.Goals as goal
 
 pub returns-clause-read : goal.returns-clause-read

@@ -1,7 +1,7 @@
 use Rattle.slate_ids.specs.Answers.{OrMemory-map}
 use Rattle.slate_store.specs.Runs.{goes_further, starts_again, gives_up, done_with}
-use Rattle.slate_txn.specs.Faults.{call_rose, ran_rose}
-use Rattle.slate_txn.specs.ReadFaults.{read_faults}
+use Rattle.slate_txn.proofs.Faults.{call_rose, ran_rose}
+use Rattle.slate_txn.proofs.ReadFaults.{read_faults}
 use Rattle.std.proofs.Common.{arith, sym, ◌∙◌, inl, refl}
 use Rattle.slate_txn.proofs.sequenced.Sequenced.read_latest.Goals as goal
 

@@ -1,4 +1,4 @@
-use Rattle.slate_txn.specs.ApplyFaults.{refused_rose}
+use Rattle.slate_txn.proofs.ApplyFaults.{refused_rose}
 use Rattle.slate_txn.proofs.stored.Stored.apply.Goals as goal
 
 pub returns-in-Err-clause-fault : goal.returns-in-Err-clause-fault

@@ -1,8 +1,8 @@
 use Rattle.slate_ids.specs.Answers.{OrMemory-map}
 use Rattle.slate_store.specs.Runs.{begins, goes_further, starts_again, gives_up, done_with}
-use Rattle.slate_txn.specs.ApplyFaults.{apply_faults}
-use Rattle.slate_txn.specs.Faults.{call_rose, ran_rose}
-use Rattle.slate_txn.specs.ApplyRuns.{putting_due}
+use Rattle.slate_txn.proofs.ApplyFaults.{apply_faults}
+use Rattle.slate_txn.proofs.Faults.{call_rose, ran_rose}
+use Rattle.slate_txn.proofs.ApplyRuns.{putting_due}
 use Rattle.std.proofs.Common.{arith, sym, ◌∙◌, inl, w64}
 use Rattle.std.proofs.lemmas.Int.{to_z-of_z}
 use Rattle.slate_txn.proofs.stored.Stored.drive.Goals as goal

@@ -3,7 +3,7 @@ use Rattle.std.proofs.lemmas.Int.{to_z-of_z}
 use Rattle.slate_ids.specs.Answers.{OrMemory}
 use Rattle.slate_txn.specs.Committing.{Committed, CommitBegan}
 use Rattle.slate_txn.specs.Holder.{Holder}
-use Rattle.slate_txn.specs.Updating.{updated}
+use Rattle.slate_txn.proofs.Updates.{updated}
 use Rattle.slate_txn.proofs.stored.Stored.update.Goals as goal
 
 pub returns-clause-update : goal.returns-clause-update

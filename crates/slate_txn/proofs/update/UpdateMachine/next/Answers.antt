@@ -3,7 +3,7 @@ use Rattle.std.proofs.lemmas.Int.{to_z-of_z}
 use Rattle.slate_store.specs.Machines.{Steps}
 use Rattle.slate_txn.specs.Commit.{commit_asks, commit_goes}
 use Rattle.slate_txn.specs.Holder.{Holder}
-use Rattle.slate_txn.specs.Updating.{update_next}
+use Rattle.slate_txn.proofs.Updates.{update_next}
 use Rattle.slate_txn.proofs.update.UpdateMachine.next.Goals as goal
 
 pub returns-in-Committing-clause-steps : goal.returns-in-Committing-clause-steps

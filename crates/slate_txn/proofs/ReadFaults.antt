@@ -11,7 +11,7 @@ use Rattle.slate_store.specs.declared.object.StoredObject.{StoredObject}
 use Rattle.slate_store.specs.declared.store_answer.StoreAnswer.TheVariants.{Found, Got, Fault}
 use Rattle.slate_txn.specs.Boundary.{boundary_got, greatest}
 use Rattle.slate_txn.specs.Due.{NoFault}
-use Rattle.slate_txn.specs.Faults.{OnlyFaults, Fine, fine_stay, fine_ok, fine_err, sound_at, list_answers, get_answers}
+use Rattle.slate_txn.proofs.Faults.{OnlyFaults, Fine, fine_stay, fine_ok, fine_err, sound_at, list_answers, get_answers}
 use Rattle.slate_txn.specs.LogPaths.{version_path, boundary_path, folder}
 use Rattle.slate_txn.specs.Read.{read_asks, read_goes, read_due, Reply, listed_goes, got_goes, decoded_goes, boundary_goes}
 use Rattle.slate_txn.specs.declared.log_kind.LogKind.{LogKind}

@@ -2,21 +2,20 @@
 use Rattle.std.specs.Prelude.{◌≡◌, ◌≢◌, ◌+◌, ◌-◌, ◌^◌, ◌==◌, ℕ, Bool, true, false, List, Option, Some, None, Result, Ok, Err, if◌then◌else◌, refl}
 use Rattle.std.proofs.Common.{◌⊎◌, inl, inr, ap, sym, subst, ◌∙◌}
 use Rattle.slate_ids.specs.Answers.{is_conflict, is_memory, Gives}
-use Rattle.slate_store.specs.Calls.{Told}
+use Rattle.slate_store.specs.Calls.{Told, IsAnswerTo}
 use Rattle.slate_txn.specs.Due.{FaultOf}
 use Rattle.slate_ids.specs.declared.error.SlateDBError.{SlateDBError}
 use Rattle.slate_ids.specs.declared.error.SlateDBError.TheVariants.{StoreFault, Exhausted, LatestTransactionalObjectVersionMissing}
-use Rattle.slate_store.specs.Calls.{IsAnswerTo}
 use Rattle.slate_store.specs.Machines.{Goes, Stay, End, IsEnd}
 use Rattle.slate_store.specs.declared.store_answer.StoreAnswer.{StoreAnswer}
 use Rattle.slate_store.specs.declared.store_answer.StoreAnswer.TheVariants.{Fault}
-use Rattle.slate_txn.specs.Apply.{Ways, ApplyState, ApplyGoes, FaultFree, renews, renewed, wanted, some_commit, begun, read_on, commit_on, apply_asks, apply_goes, state_due}
-use Rattle.slate_txn.specs.Commit.{commit_asks, commit_goes, commit_due, prepared, checked_commit, encoded_commit}
-use Rattle.slate_txn.specs.Committing.{commit_faults}
-use Rattle.slate_txn.specs.Faults.{OnlyFaults, Fine, fine_stay, fine_ok, fine_err}
+use Rattle.slate_txn.specs.Apply.{Ways, FaultFree, renews, wanted, some_commit, begun, read_on, commit_on, apply_asks, apply_goes, state_due}
+use Rattle.slate_txn.specs.Commit.{commit_goes, commit_due, prepared, checked_commit, encoded_commit}
+use Rattle.slate_txn.proofs.Commits.{commit_faults}
+use Rattle.slate_txn.proofs.Faults.{OnlyFaults, Fine, fine_stay, fine_ok, fine_err}
 use Rattle.slate_txn.specs.Holder.{Holder, at_version}
-use Rattle.slate_txn.specs.Read.{read_asks, read_goes, read_due, Reply}
-use Rattle.slate_txn.specs.ReadFaults.{read_faults}
+use Rattle.slate_txn.specs.Read.{read_goes, read_due, Reply}
+use Rattle.slate_txn.proofs.ReadFaults.{read_faults}
 use Rattle.slate_txn.specs.declared.apply.ApplyPhase.{ApplyPhase}
 use Rattle.slate_txn.specs.declared.apply.ApplyPhase.TheVariants.{Reading, Committing}
 use Rattle.slate_txn.specs.declared.commit.CommitPhase.{CommitPhase}

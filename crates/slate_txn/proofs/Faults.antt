@@ -7,7 +7,7 @@ use Rattle.slate_ids.specs.declared.error.SlateDBError.{SlateDBError}
 use Rattle.slate_ids.specs.declared.error.SlateDBError.TheVariants.{StoreFault, Contended}
 use Rattle.slate_store.specs.Calls.{Told, Makes, Rose, IsAnswerTo, moment_of, fault_rose}
 use Rattle.slate_store.specs.declared.made.Made.{Made}
-use Rattle.slate_store.specs.Machines.{Goes, Stay, End, IsEnd, Stepped, Steps}
+use Rattle.slate_store.specs.Machines.{Goes, Stay, End, IsEnd, Steps}
 use Rattle.slate_store.specs.Runs.{Run, Ran}
 use Rattle.slate_store.specs.declared.step.Step.{Step}
 use Rattle.slate_store.specs.declared.step.Step.TheVariants.{Again, Done}

@@ -1,11 +1,15 @@
 -- From how a machine goes on to what its step does.
-use Rattle.std.specs.Prelude.{◌≡◌, ℤ, Bool, true, false, Option, Some, None, refl}
+use Rattle.std.specs.Prelude.{◌≡◌, ℕ, ℤ, Bool, true, false, List, Option, Some, None, refl}
 use Rattle.std.proofs.Common.{inl, inr, subst, ◌∙◌}
 use Rattle.slate_ids.specs.Answers.{OrMemory-map}
 use Rattle.slate_store.specs.Store.{Store}
 use Rattle.slate_store.specs.Calls.{Told, Makes, contents_after, moment_of}
 use Rattle.slate_store.specs.Machines.{Goes, Held, Steps, GoesOn}
 use Rattle.slate_txn.specs.Due.{WhereOut}
+use Rattle.slate_txn.specs.Read.{read_asks}
+use Rattle.slate_txn.specs.declared.log_kind.LogKind.{LogKind}
+use Rattle.slate_txn.specs.declared.read.ReadPhase.{ReadPhase}
+use Rattle.slate_txn.specs.declared.read.ReadPhase.TheVariants.{Listing, Getting, Bounding, Over}
 use Rattle.slate_store.specs.declared.mark.Mark.{Mark}
 use Rattle.slate_store.specs.declared.mark.Mark.TheVariants.{Good, Fail, Lost}
 use Rattle.slate_store.specs.declared.step.Step.{Step}
@@ -67,3 +71,10 @@ steps_where {old = old} {new = new} {answer = answer} wanted moment goes from to
 steps_where {old = old} {new = new} {answer = answer} wanted moment goes from to same makes (Done r) (inr m) reading =
     let here : Makes old new wanted (moment_of wanted moment) answer = subst (λ (c : StoreCall). Makes old new c (moment_of c moment) answer) same makes in
     inr (m.0, record { kept = m.1; made = record { contents = reads_keep (reading m.0) here; calls = inr (answer, here) } })
+
+-- a read makes only lists and gets
+pub reads_only : {T : Type 0} (db : List ℕ) (log : LogKind) (phase : ReadPhase T) → is_reading (read_asks db log phase) ≡ true
+reads_only db log Listing = refl
+reads_only db log (Getting n) = refl
+reads_only db log (Bounding n value) = refl
+reads_only db log Over = refl
