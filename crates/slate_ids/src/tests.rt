@@ -311,3 +311,13 @@ fn ranges_have_ends(rt: HostRuntime) {
         assert!(rt; range.contains(number) == inside, "at {number}");
     }
 }
+
+#[test]
+fn checkpoint_ids_are_their_bytes(rt: HostRuntime) {
+    let seven = CheckpointId::from_u64(7);
+    let bytes = [0, 0, 0, 0, 0, 0, 0, 0, 0, 0, 0, 0, 0, 0, 0, 7];
+    assert!(rt; seven.as_bytes() == &bytes && seven.as_u128() == 7);
+    let large = CheckpointId::from_bytes([1; 16]);
+    assert!(rt; CheckpointId::from_bytes(bytes).is(&seven) && !large.is(&seven));
+    assert!(rt; seven < large && seven == seven && seven != large);
+}
