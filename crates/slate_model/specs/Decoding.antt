@@ -34,7 +34,7 @@ floor_in bytes = after before_floor bytes >>= λ bytes. u64_in bytes >>= λ floo
 
 -- the manifest of its parts
 abbrev pub joined : Front → List (ℕ × ℤ) → ℕ → Manifest
-joined front tracker floor = record { initialized = front.initialized; writer_epoch = front.writer_epoch; compactor_epoch = front.compactor_epoch; last_l0_clock_tick = front.last_l0_clock_tick; last_l0_seq = front.last_l0_seq; sequence_tracker = tracker; floor = floor }
+joined front tracker floor = record { initialized = front.initialized; writer_epoch = front.writer_epoch; compactor_epoch = front.compactor_epoch; last_l0_clock_tick = front.last_l0_clock_tick; last_l0_seq = front.last_l0_seq; sequence_tracker = tracker; checkpoints = []; floor = floor }
 
 -- the manifest of these bytes
 abbrev pub manifest_in : List ℕ → Option Manifest

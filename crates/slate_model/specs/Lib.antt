@@ -7,4 +7,5 @@ pub mod Decoding
 pub mod Codec
 pub mod Laws
 pub mod Epochs
+pub mod Checkpoints
 pub mod Lawful

@@ -1,6 +1,7 @@
 //! The manifest of a database, its bytes, its epochs and the rule on its numbers.
 #![tactic(auto)]
 
+mod checkpoint;
 mod codec;
 mod epochs;
 mod manifest;
@@ -10,6 +11,7 @@ mod rules;
 mod tracker;
 mod write;
 
+pub use checkpoint::{Checkpoint, CheckpointOptions, copy_name, find_checkpoint, is_named};
 pub use codec::FirstManifestCodec;
 pub use epochs::WriterEpochs;
 pub use manifest::Manifest;

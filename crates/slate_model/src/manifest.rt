@@ -2,8 +2,9 @@
 ghost use Rattle.std.specs.Prelude.{◌≡◌, IfOk};
 ghost use Rattle.slate_model.specs.Initial.{initial};
 
+use crate::checkpoint::{Checkpoint, copy_checkpoints};
 use crate::tracker::SequenceTracker;
-use slate_ids::OutOfMemory;
+use slate_ids::{Listed, OutOfMemory};
 use std::alloc::Global;
 
 /// What a version of a database's log holds.
@@ -21,6 +22,8 @@ pub struct Manifest {
     pub last_l0_seq: u64,
     /// Moments of sequence numbers.
     pub sequence_tracker: SequenceTracker,
+    /// The versions that are kept, by the checkpoints that name them.
+    pub checkpoints: Listed<Checkpoint>,
     /// The moment, in milliseconds since the Unix epoch, that no new table may be older than.
     pub floor: u64,
 }
@@ -37,6 +40,7 @@ impl Manifest {
             last_l0_clock_tick: i64::MIN,
             last_l0_seq: 0,
             sequence_tracker: SequenceTracker::new(alloc),
+            checkpoints: Listed::new(alloc),
             floor: 0,
         }
     }
@@ -52,6 +56,7 @@ impl Manifest {
             last_l0_clock_tick: self.last_l0_clock_tick,
             last_l0_seq: self.last_l0_seq,
             sequence_tracker: self.sequence_tracker.copy(alloc)?,
+            checkpoints: copy_checkpoints(alloc, self.checkpoints.as_slice())?,
             floor: self.floor,
         })
     }

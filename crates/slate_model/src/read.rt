@@ -115,7 +115,7 @@ fn read_floor(bytes: Reader<'_>) -> Option<u64>
     if rest.is_empty() { Some(floor) } else { None }
 }
 
-fn join(front: &Front, sequence_tracker: SequenceTracker, floor: u64) -> Manifest
+fn join(alloc: Global, front: &Front, sequence_tracker: SequenceTracker, floor: u64) -> Manifest
     ensures { result ≡ joined front.now sequence_tracker floor }
 {
     Manifest {
@@ -125,6 +125,7 @@ fn join(front: &Front, sequence_tracker: SequenceTracker, floor: u64) -> Manifes
         last_l0_clock_tick: front.last_l0_clock_tick,
         last_l0_seq: front.last_l0_seq,
         sequence_tracker,
+        checkpoints: Listed::new(alloc),
         floor,
     }
 }
@@ -143,5 +144,5 @@ pub fn decode_manifest(alloc: Global, bytes: &[u8]) -> Result<Manifest, SlateDBE
     let (front, rest) = read_front(Reader::new(bytes)).ok_or(corrupt())?;
     let (tracker, rest) = read_tracker(alloc, rest)?.ok_or(corrupt())?;
     let floor = read_floor(rest).ok_or(corrupt())?;
-    Ok(join(&front, tracker, floor))
+    Ok(join(alloc, &front, tracker, floor))
 }
