@@ -1,2 +1,2 @@
-pub mod OneNew
+pub mod Lists
 pub mod NoItems

@@ -1,14 +1,15 @@
 -- The call that an item with `start` stands for, by its name.
 use Rattle.std.specs.Prelude.{ℕ, pos, List, [], ◌∷◌, Option, Some, None, codes, ⊤}
 use Rattle.serde_json.specs.Data.{Data, Items, no_items, item}
-use Rattle.serde_json.specs.Find.{as_array}
-use Rattle.slate_script.specs.Fields.{◌>>=◌, only, required, array_in}
+use Rattle.serde_json.specs.Find.{as_array, as_str}
+use Rattle.slate_script.specs.Fields.{◌>>=◌, only, required, optional, array_in, u64_in, checkpoint_id_in}
 use Rattle.slate_script.specs.Words.{name_in}
 use Rattle.slate_script.specs.declared.call.Call.{Call}
-use Rattle.slate_script.specs.declared.call.Call.TheVariants.{OpenWriter, Flush}
+use Rattle.slate_script.specs.declared.call.Call.TheVariants.{OpenWriter, Flush, WriteCheckpoint, ReplaceCheckpoint, RefreshCheckpoint, DeleteCheckpoint}
 use Rattle.slate_script.specs.declared.call_name.CallName.{CallName}
 use Rattle.slate_script.specs.declared.call_name.CallName.TheVariants as name
 
+-- no field of its own
 unfoldable pub open_writer_in : Data → Option Call
 open_writer_in d = do
   _ ← only (codes "start" ∷ codes "call" ∷ []) d
@@ -30,10 +31,52 @@ flush_in d = do
   _ ← no_tables_in d
   Some (Flush 0 (pos 0))
 
+-- a new checkpoint; lifetimes are milliseconds
+unfoldable pub write_checkpoint_in : Data → Option Call
+write_checkpoint_in d = do
+  _ ← only (codes "start" ∷ codes "call" ∷ codes "id" ∷ codes "lifetime" ∷ codes "source" ∷ codes "name" ∷ []) d
+  id ← required checkpoint_id_in (codes "id") d
+  lifetime ← optional u64_in (codes "lifetime") d
+  source ← optional checkpoint_id_in (codes "source") d
+  name ← optional as_str (codes "name") d
+  Some (WriteCheckpoint id lifetime source name)
+
+-- a new checkpoint in place of an old one
+unfoldable pub replace_checkpoint_in : Data → Option Call
+replace_checkpoint_in d = do
+  _ ← only (codes "start" ∷ codes "call" ∷ codes "old" ∷ codes "id" ∷ codes "lifetime" ∷ codes "source" ∷ codes "name" ∷ []) d
+  old ← required checkpoint_id_in (codes "old") d
+  id ← required checkpoint_id_in (codes "id") d
+  lifetime ← optional u64_in (codes "lifetime") d
+  source ← optional checkpoint_id_in (codes "source") d
+  name ← optional as_str (codes "name") d
+  Some (ReplaceCheckpoint old id lifetime source name)
+
+-- a new lifetime of a checkpoint
+unfoldable pub refresh_checkpoint_in : Data → Option Call
+refresh_checkpoint_in d = do
+  _ ← only (codes "start" ∷ codes "call" ∷ codes "id" ∷ codes "lifetime" ∷ []) d
+  id ← required checkpoint_id_in (codes "id") d
+  lifetime ← optional u64_in (codes "lifetime") d
+  Some (RefreshCheckpoint id lifetime)
+
+-- the end of a checkpoint
+unfoldable pub delete_checkpoint_in : Data → Option Call
+delete_checkpoint_in d = do
+  _ ← only (codes "start" ∷ codes "call" ∷ codes "id" ∷ []) d
+  id ← required checkpoint_id_in (codes "id") d
+  Some (DeleteCheckpoint id)
+
+-- the call of this name, with its fields
 abbrev pub call_of : CallName → Data → Option Call
 call_of name.OpenWriter d = open_writer_in d
 call_of name.Flush d = flush_in d
+call_of name.WriteCheckpoint d = write_checkpoint_in d
+call_of name.ReplaceCheckpoint d = replace_checkpoint_in d
+call_of name.RefreshCheckpoint d = refresh_checkpoint_in d
+call_of name.DeleteCheckpoint d = delete_checkpoint_in d
 
+-- a call by its name
 unfoldable pub call_in : Data → Option Call
 call_in d = do
   called ← required name_in (codes "call") d

@@ -3,7 +3,7 @@ use Rattle.std.specs.Prelude.{◌≡◌, ◌≢◌, ℕ, ◌^◌, ◌&&◌, ℤ,
 use Rattle.std.specs.List.{list_any}
 use Rattle.serde_json.specs.Data.{Num, Data, array, object, Items, no_items, item, Members, no_members, member}
 use Rattle.serde_json.specs.Find.{get, as_number, as_bool, as_str, as_array, as_object, as_u64, as_i64}
-use Rattle.slate_ids.specs.Ids.{is_db_path}
+use Rattle.slate_ids.specs.Ids.{is_db_path, checkpoint_of}
 use Rattle.slate_script.specs.declared.refusal.Refusal.{Refusal}
 use Rattle.slate_script.specs.declared.refusal.Refusal.TheVariants.{Malformed, OutOfMemory}
 
@@ -46,6 +46,10 @@ default_to default reads (Some d) = reads d
 abbrev pub defaulted : {X : Type 0} → X → (Data → Option X) → List ℕ → Data → Option X
 defaulted default reads name d = default_to default reads (get name d)
 
+-- a field that may be missing, which then stands for nothing
+abbrev pub optional : {X : Type 0} → (Data → Option X) → List ℕ → Data → Option (Option X)
+optional reads name d = default_to None (λ e. option_map Some (reads e)) (get name d)
+
 -- the items of an array that has to be there
 abbrev pub array_in : List ℕ → Data → Option Items
 array_in name d = required as_array name d
@@ -66,3 +70,16 @@ i64_in d = as_number d >>= as_i64
 
 abbrev pub db_path_in : Data → Option (List ℕ)
 db_path_in d = as_str d >>= λ s. if is_db_path s then Some s else None
+
+-- a checkpoint's id is written as its number, below 2 ^ 64
+abbrev pub checkpoint_id_in : Data → Option (List ℕ)
+checkpoint_id_in d = u64_in d >>= λ n. Some (checkpoint_of n)
+
+-- each of the items
+abbrev pub items_in : {X : Type 0} → (Data → Option X) → Items → Option (List X)
+items_in reads no_items = Some []
+items_in reads (item d ds) = reads d >>= λ x. items_in reads ds >>= λ xs. Some (x ∷ xs)
+
+-- an array, item by item
+abbrev pub list_in : {X : Type 0} → (Data → Option X) → Data → Option (List X)
+list_in reads d = as_array d >>= items_in reads

@@ -17,13 +17,18 @@ use Rattle.slate_store.specs.declared.store_answer.StoreAnswer.{StoreAnswer}
 use Rattle.slate_store.specs.declared.store_answer.StoreAnswer.TheVariants as answer
 use Rattle.slate_script.specs.declared.reply.Reply.{Reply}
 use Rattle.slate_script.specs.declared.reply.Reply.TheVariants as reply
+use Rattle.slate_script.specs.declared.script.ScriptPlace.{ScriptPlace}
+use Rattle.slate_script.specs.declared.script.ScriptPlace.TheVariants as place
+use Rattle.slate_script.specs.declared.cluster_cause.ClusterCause.{ClusterCause}
+use Rattle.slate_script.specs.declared.cluster_cause.ClusterCause.TheVariants as cause
 use Rattle.slate_script.specs.declared.entry.Entry.{Entry}
-use Rattle.slate_script.specs.declared.entry.Entry.TheVariants.{Opened, Started, Called, Idle}
+use Rattle.slate_script.specs.declared.entry.Entry.TheVariants.{Opened, Started, Called, Stopped, Idle}
 
 -- a number after a blank
 abbrev pub spaced : ℕ → List ℕ
 spaced n = 32 ∷ decimal n
 
+-- a folder
 abbrev pub dir_text : ListDir → List ℕ
 dir_text (dir.Manifests db) = db ++ codes "/manifest/"
 dir_text (dir.Records db) = db ++ codes "/compactions/"
@@ -53,6 +58,7 @@ answer_text (answer.Written tag) = codes "put" ++ spaced tag
 answer_text answer.Deleted = codes "deleted"
 answer_text answer.Fault = codes "fault"
 
+-- the rule that an update breaks
 abbrev pub rule_text : UpdateRule → List ℕ
 rule_text rule.U1 = codes "U1"
 rule_text rule.U2 = codes "U2"
@@ -103,11 +109,14 @@ detail_text _ = []
 abbrev pub refusal_text : SlateDBError → List ℕ
 refusal_text e = decimal (code_of e) ++ codes " " ++ name_text e ++ detail_text e
 
+-- a reply
 abbrev pub reply_text : Reply → List ℕ
 reply_text reply.Done = codes "done"
 reply_text (reply.Epoch n) = codes "epoch" ++ spaced n
+reply_text (reply.Checkpoint id version) = codes "checkpoint " ++ hyphenated_text lower id ++ spaced version
 reply_text (reply.Refused e) = codes "refused " ++ refusal_text e
 
+-- the reply that ends a call, where one does
 abbrev pub reply_part : Option Reply → List ℕ
 reply_part None = []
 reply_part (Some r) = codes " reply " ++ reply_text r
@@ -117,6 +126,7 @@ unfoldable pub entry_text : ℕ → Entry → List ℕ
 entry_text i (Opened p) = decimal i ++ codes " open" ++ spaced p ++ 10 ∷ []
 entry_text i (Started p r) = decimal i ++ codes " start" ++ spaced p ++ reply_part r ++ 10 ∷ []
 entry_text i (Called p c moment mark a r) = decimal i ++ codes " call" ++ spaced p ++ codes " " ++ call_text c ++ codes " -> " ++ answer_text a ++ reply_part r ++ 10 ∷ []
+entry_text i (Stopped p) = decimal i ++ codes " stop" ++ spaced p ++ 10 ∷ []
 entry_text i (Idle p) = decimal i ++ codes " idle" ++ spaced p ++ 10 ∷ []
 
 -- the lines of the events, of which the first is at place i
@@ -127,3 +137,19 @@ entries_text i (e ∷ es) = entry_text i e ++ entries_text (i + 1) es
 -- the line of an object that is left
 abbrev pub left_line : ObjectPath → List ℕ
 left_line p = codes "left " ++ path_text p ++ 10 ∷ []
+
+-- ---- what is no run
+
+-- where bytes are no script
+abbrev pub place_text : ScriptPlace → List ℕ
+place_text place.Json = codes "json"
+place_text place.Top = codes "top"
+place_text (place.Database i) = codes "database" ++ spaced i
+place_text (place.Event i) = codes "event" ++ spaced i
+
+-- why databases are no beginning of a run
+abbrev pub cause_text : ClusterCause → List ℕ
+cause_text cause.Path = codes "path"
+cause_text cause.Ids = codes "ids"
+cause_text cause.Value = codes "value"
+cause_text cause.Checkpoints = codes "checkpoints"

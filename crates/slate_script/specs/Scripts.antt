@@ -2,8 +2,9 @@
 use Rattle.std.specs.Prelude.{◌≡◌, ℕ, suc, ◌+◌, ℤ, pos, nat_lt, Bool, true, false, List, [], ◌∷◌, ◌++◌, Option, Some, None, Result, Ok, Err, codes, if◌then◌else◌}
 use Rattle.std.specs.Str.{is_utf8}
 use Rattle.serde_json.specs.Data.{Data, Items, no_items, item}
+use Rattle.serde_json.specs.Find.{as_str}
 use Rattle.serde_json.specs.Read.{read}
-use Rattle.slate_script.specs.Fields.{◌>>=◌, only, required, array_in, db_path_in}
+use Rattle.slate_script.specs.Fields.{◌>>=◌, only, required, optional, defaulted, array_in, i64_in, db_path_in, checkpoint_id_in, list_in}
 use Rattle.slate_script.specs.declared.event.Event.{Event}
 use Rattle.slate_script.specs.declared.read_event.Written.{Written}
 use Rattle.slate_script.specs.declared.db_spec.DbSpec.{DbSpec}
@@ -12,6 +13,7 @@ use Rattle.slate_script.specs.declared.script.ScriptPlace.{ScriptPlace}
 use Rattle.slate_script.specs.declared.script.ScriptPlace.TheVariants as place
 use Rattle.slate_script.specs.declared.script.ScriptError.{ScriptError}
 use Rattle.slate_script.specs.declared.script.ScriptError.TheVariants as errors
+use Rattle.slate_model.specs.declared.checkpoint.Checkpoint.{Checkpoint}
 use Rattle.slate_model.specs.Initial.{initial}
 use Rattle.slate_script.specs.Events.{written_in, expand, count_of}
 
@@ -20,10 +22,12 @@ abbrev pub Fails : {Y : Type 0} → ScriptError → Result Y ScriptPlace → Typ
 Fails errors.OutOfMemory read = Unit {0}
 Fails (errors.BadScript p) read = read ≡ Err p
 
+-- as `Gives`, with the place
 abbrev pub Reads : {Y : Type 0} → Result Y ScriptError → Result Y ScriptPlace → Type 0
 Reads (Ok x) read = read ≡ Ok x
 Reads (Err e) read = Fails e read
 
+-- the second part is read where the first was
 abbrev pub and_then : {A B : Type 0} → Result A ScriptPlace → (A → Result B ScriptPlace) → Result B ScriptPlace
 and_then (Ok x) f = f x
 and_then (Err p) f = Err p
@@ -33,49 +37,48 @@ abbrev pub at_place : {X : Type 0} → ScriptPlace → Option X → Result X Scr
 at_place p None = Err p
 at_place p (Some x) = Ok x
 
+-- the items read so far, and the rest
 abbrev pub with_front : {X : Type 0} → List X → Result (List X) ScriptPlace → Result (List X) ScriptPlace
 with_front front read = and_then read (λ xs. Ok (front ++ xs))
 
--- where a database, or an event, is no script: the finer places come with several databases
-abbrev pub database_place : ℕ → ScriptPlace
-database_place i = place.Top
-
-abbrev pub event_place : ℕ → ScriptPlace
-event_place i = place.Top
-
 -- ---- databases
 
+-- a checkpoint that a database begins with: it names version 1 and was made at moment 0
+unfoldable pub checkpoint_in : Data → Option Checkpoint
+checkpoint_in d = do
+  _ ← only (codes "id" ∷ codes "expire" ∷ codes "name" ∷ []) d
+  id ← required checkpoint_id_in (codes "id") d
+  expire ← optional i64_in (codes "expire") d
+  name ← optional as_str (codes "name") d
+  Some (record { id = id; manifest_id = 1; expire_time = expire; create_time = pos 0; name = name })
+
+-- a new database, with checkpoints
 unfoldable pub database_in : Data → Option DbSpec
 database_in d = do
-  _ ← only (codes "path" ∷ []) d
+  _ ← only (codes "path" ∷ codes "modified" ∷ codes "checkpoints" ∷ []) d
   path ← required db_path_in (codes "path") d
-  Some (record { path = path; manifest = initial; modified = pos 0 })
+  modified ← defaulted (pos 0) i64_in (codes "modified") d
+  checkpoints ← defaulted [] (list_in checkpoint_in) (codes "checkpoints") d
+  Some (record { path = path; manifest = record initial { checkpoints = checkpoints }; modified = modified })
 
 -- the databases of the items from place i on
 abbrev pub databases_from : ℕ → Items → Result (List DbSpec) ScriptPlace
 databases_from i no_items = Ok []
-databases_from i (item d ds) = and_then (at_place (database_place i) (database_in d)) (λ db. with_front (db ∷ []) (databases_from (i + 1) ds))
-
--- a new database
-abbrev pub IsNew : DbSpec → Type 0
-IsNew spec = spec.manifest ≡ initial
-
--- one new database
-abbrev pub IsOneNew : List DbSpec → Type 0
-IsOneNew (spec ∷ []) = IsNew spec
-IsOneNew _ = ⊥
+databases_from i (item d ds) = and_then (at_place (place.Database i) (database_in d)) (λ db. with_front (db ∷ []) (databases_from (i + 1) ds))
 
 -- ---- events
 
+-- the most events of a script
 abbrev pub event_limit : ℕ
 event_limit = 1000000
 
 -- An item's events, unless they go past the limit: then the event at the limit is no script.
 abbrev pub fitting : ℕ → Written → Result Written ScriptPlace
-fitting i w = if nat_lt event_limit (i + count_of w) then Err (event_place event_limit) else Ok w
+fitting i w = if nat_lt event_limit (i + count_of w) then Err (place.Event event_limit) else Ok w
 
+-- an item whose first event is at place i
 abbrev pub written_at : ℕ → Data → Result Written ScriptPlace
-written_at i d = and_then (at_place (event_place i) (written_in d)) (fitting i)
+written_at i d = and_then (at_place (place.Event i) (written_in d)) (fitting i)
 
 -- the events of the items, of which the first is at place i
 abbrev pub events_from : ℕ → Items → Result (List Event) ScriptPlace
@@ -84,6 +87,7 @@ events_from i (item d ds) = and_then (written_at i d) (λ w. with_front (expand 
 
 -- ---- the whole
 
+-- exactly the two arrays
 unfoldable pub top_in : Data → Option (Items × Items)
 top_in d = do
   _ ← only (codes "databases" ∷ codes "events" ∷ []) d
@@ -91,14 +95,11 @@ top_in d = do
   es ← array_in (codes "events") d
   Some (ds, es)
 
--- a script has one database
-abbrev pub only_one : List DbSpec → Result (List DbSpec) ScriptPlace
-only_one (d ∷ []) = Ok (d ∷ [])
-only_one _ = Err place.Top
-
+-- the databases, then the events
 abbrev pub parts_in : Items × Items → Result Script ScriptPlace
-parts_in p = and_then (and_then (databases_from 0 p.0) only_one) (λ ds. and_then (events_from 0 p.1) (λ es. Ok (record { databases = ds; events = es })))
+parts_in p = and_then (databases_from 0 p.0) (λ ds. and_then (events_from 0 p.1) (λ es. Ok (record { databases = ds; events = es })))
 
+-- the script of a JSON value
 unfoldable pub script_in : Data → Result Script ScriptPlace
 script_in d = and_then (at_place place.Top (top_in d)) parts_in
 
@@ -106,5 +107,6 @@ script_in d = and_then (at_place place.Top (top_in d)) parts_in
 unfoldable pub json_of : List ℕ → Option Data
 json_of bytes = if is_utf8 bytes then read bytes else None
 
+-- the script of the bytes, or the first place: JSON, the whole, the databases, the events
 unfoldable pub script_of : List ℕ → Result Script ScriptPlace
 script_of bytes = and_then (at_place place.Json (json_of bytes)) script_in

@@ -2,6 +2,8 @@
 use Rattle.std.specs.Prelude.{ℕ, List, [], ◌∷◌, Option, Some, None, codes, if◌then◌else◌, bytes_eq}
 use Rattle.serde_json.specs.Data.{Data}
 use Rattle.serde_json.specs.Find.{as_str}
+use Rattle.slate_store.specs.declared.mark.Mark.{Mark}
+use Rattle.slate_store.specs.declared.mark.Mark.TheVariants as mark
 use Rattle.slate_script.specs.Fields.{◌>>=◌}
 use Rattle.slate_script.specs.declared.party_kind.PartyKind.{PartyKind}
 use Rattle.slate_script.specs.declared.party_kind.PartyKind.TheVariants as kind
@@ -13,14 +15,26 @@ abbrev pub word_in : {X : Type 0} → List (List ℕ × X) → List ℕ → Opti
 word_in [] s = None
 word_in (w ∷ ws) s = if bytes_eq s w.0 then Some w.1 else word_in ws s
 
+-- the kinds of parties
 unfoldable pub kind_word : List ℕ → Option PartyKind
-kind_word s = word_in ((codes "writer", kind.Writer) ∷ []) s
+kind_word s = word_in ((codes "writer", kind.Writer) ∷ (codes "holder", kind.Holder) ∷ []) s
 
+-- a text that is the word of a kind
 abbrev pub kind_in : Data → Option PartyKind
 kind_in d = as_str d >>= kind_word
 
-unfoldable pub name_word : List ℕ → Option CallName
-name_word s = word_in ((codes "open_writer", name.OpenWriter) ∷ (codes "flush", name.Flush) ∷ []) s
+-- the mark of a step: only what is not well has a word
+unfoldable pub mark_word : List ℕ → Option Mark
+mark_word s = word_in ((codes "fail", mark.Fail) ∷ (codes "lost", mark.Lost) ∷ []) s
 
+-- a text that is the word of a mark
+abbrev pub mark_in : Data → Option Mark
+mark_in d = as_str d >>= mark_word
+
+-- the calls of a writer, then those of a holder
+unfoldable pub name_word : List ℕ → Option CallName
+name_word s = word_in ((codes "open_writer", name.OpenWriter) ∷ (codes "flush", name.Flush) ∷ (codes "write_checkpoint", name.WriteCheckpoint) ∷ (codes "replace_checkpoint", name.ReplaceCheckpoint) ∷ (codes "refresh_checkpoint", name.RefreshCheckpoint) ∷ (codes "delete_checkpoint", name.DeleteCheckpoint) ∷ []) s
+
+-- a text that is the name of a call
 abbrev pub name_in : Data → Option CallName
 name_in d = as_str d >>= name_word

@@ -1,9 +1,12 @@
 //! Calls of parties.
+ghost use Rattle.std.specs.Prelude.{◌≡◌, IfOk};
 
-use slate_ids::Millis;
+use slate_ids::{CheckpointId, Millis, OutOfMemory, Text};
+use slate_model::copy_name;
+use std::alloc::Global;
 
-/// A call of a party.
-#[derive(Clone, Copy, Debug, Drop, PartialEq, Eq)]
+/// A call of a party. Lifetimes are in milliseconds; a checkpoint without one never expires.
+#[derive(Debug, Drop)]
 pub enum Call {
     /// Reads the latest manifest and commits its writer epoch plus one. The reply is that epoch.
     OpenWriter,
@@ -11,5 +14,78 @@ pub enum Call {
     /// newest flushed table; the tracker takes the pair where it is in order. Refused with `Fenced` where the version read
     /// has a writer epoch above the party's, and with `InvalidDBState` before the party's open succeeded. The reply is
     /// `done`.
-    Flush { seq: u64, tick: Millis },
+    Flush {
+        seq: u64,
+        tick: Millis,
+    },
+    /// Reads the latest manifest and commits it with this new checkpoint, which names the version of its source, or the
+    /// version that is committed where there is no source. The reply is the checkpoint.
+    WriteCheckpoint {
+        id: CheckpointId,
+        lifetime: Option<u64>,
+        source: Option<CheckpointId>,
+        name: Option<Text>,
+    },
+    /// As `WriteCheckpoint`; the same commit removes the checkpoint `old`. The reply is the new checkpoint.
+    ReplaceCheckpoint {
+        old: CheckpointId,
+        id: CheckpointId,
+        lifetime: Option<u64>,
+        source: Option<CheckpointId>,
+        name: Option<Text>,
+    },
+    /// Reads the latest manifest and commits it with a new moment of expiry of this checkpoint. The reply is the
+    /// checkpoint.
+    RefreshCheckpoint {
+        id: CheckpointId,
+        lifetime: Option<u64>,
+    },
+    /// Reads the latest manifest and commits it without this checkpoint. The reply is `done`.
+    DeleteCheckpoint {
+        id: CheckpointId,
+    },
+}
+
+impl Call {
+    /// An equal call.
+    pub fn copy(&self, alloc: Global) -> Result<Call, OutOfMemory>
+        ensures { IfOk result (λ copied. copied ≡ self.now) }
+    {
+        Ok(match self {
+            Call::OpenWriter => Call::OpenWriter,
+            Call::Flush { seq, tick } => Call::Flush {
+                seq: *seq,
+                tick: *tick,
+            },
+            Call::WriteCheckpoint {
+                id,
+                lifetime,
+                source,
+                name,
+            } => Call::WriteCheckpoint {
+                id: *id,
+                lifetime: *lifetime,
+                source: *source,
+                name: copy_name(alloc, name)?,
+            },
+            Call::ReplaceCheckpoint {
+                old,
+                id,
+                lifetime,
+                source,
+                name,
+            } => Call::ReplaceCheckpoint {
+                old: *old,
+                id: *id,
+                lifetime: *lifetime,
+                source: *source,
+                name: copy_name(alloc, name)?,
+            },
+            Call::RefreshCheckpoint { id, lifetime } => Call::RefreshCheckpoint {
+                id: *id,
+                lifetime: *lifetime,
+            },
+            Call::DeleteCheckpoint { id } => Call::DeleteCheckpoint { id: *id },
+        })
+    }
 }

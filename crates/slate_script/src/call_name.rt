@@ -12,6 +12,10 @@ use std::alloc::Global;
 pub(crate) enum CallName {
     OpenWriter,
     Flush,
+    WriteCheckpoint,
+    ReplaceCheckpoint,
+    RefreshCheckpoint,
+    DeleteCheckpoint,
 }
 
 #[tactic(auto, unfolding(crate::specs::Words::name_word))]
@@ -21,6 +25,10 @@ fn name_of(text: &str) -> Option<CallName>
     match text {
         "open_writer" => Some(CallName::OpenWriter),
         "flush" => Some(CallName::Flush),
+        "write_checkpoint" => Some(CallName::WriteCheckpoint),
+        "replace_checkpoint" => Some(CallName::ReplaceCheckpoint),
+        "refresh_checkpoint" => Some(CallName::RefreshCheckpoint),
+        "delete_checkpoint" => Some(CallName::DeleteCheckpoint),
         _ => None,
     }
 }

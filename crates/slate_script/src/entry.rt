@@ -26,7 +26,11 @@ pub enum Entry {
         answer: StoreAnswer,
         reply: Option<Reply>,
     },
-    /// Nothing happened: a step of a party that has no call, or a start on one that has.
+    /// A party stopped. Its call, where it had one, gets no reply.
+    Stopped {
+        party: u32,
+    },
+    /// Nothing happened: a step of a party that has no call, a start on one that has, or any of a party that stopped.
     Idle {
         party: u32,
     },
@@ -67,6 +71,7 @@ impl Entry {
                 answer: answer.copy(alloc)?,
                 reply: copy_reply(alloc, reply)?,
             },
+            Entry::Stopped { party } => Entry::Stopped { party: *party },
             Entry::Idle { party } => Entry::Idle { party: *party },
         })
     }

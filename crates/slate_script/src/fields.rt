@@ -2,7 +2,7 @@
 ghost use Rattle.std.specs.Prelude.{◌≡◌, List, Option, Some, None, Bool, map, option_map, bytes_eq, string_bytes};
 ghost use Rattle.std.specs.List.{list_any, list_all};
 ghost use Rattle.serde_json.specs.View.{view, items_view, members_view};
-ghost use Rattle.slate_script.specs.Fields.{Gives, is_among, only_among, only as only_in, required as required_in, array_in, defaulted as defaulted_in};
+ghost use Rattle.slate_script.specs.Fields.{Gives, is_among, only_among, only as only_in, required as required_in, array_in, defaulted as defaulted_in, optional as optional_in};
 
 use crate::refusal::Refusal;
 use crate::values::FromJson;
@@ -68,5 +68,19 @@ pub(crate) fn defaulted<T: FromJson>(
     match object.get(name) {
         Some(value) => T::from_json(alloc, value),
         None => Ok(default),
+    }
+}
+
+/// A field that may be missing.
+pub(crate) fn optional<T: FromJson>(
+    alloc: Global,
+    object: &Value,
+    name: &str,
+) -> Result<Option<T>, Refusal>
+    ensures { Gives result (optional_in T.reads name.now (view object.now)) }
+{
+    match object.get(name) {
+        Some(value) => Ok(Some(T::from_json(alloc, value)?)),
+        None => Ok(None),
     }
 }

@@ -3,6 +3,7 @@
 
 mod call;
 mod call_name;
+mod cluster_cause;
 mod db_spec;
 mod entry;
 mod event;
@@ -22,12 +23,13 @@ mod store_lines;
 mod values;
 
 pub use call::Call;
+pub use cluster_cause::ClusterCause;
 pub use db_spec::DbSpec;
 pub use entry::Entry;
 pub use event::Event;
 pub use party_kind::PartyKind;
 pub use reading::read_script;
 pub use reply::Reply;
-pub use report_lines::{entry_line, push_entries, push_entry, push_left};
+pub use report_lines::{entry_line, push_cause, push_entries, push_entry, push_left, push_place};
 pub use script::{Script, ScriptError, ScriptPlace};
 pub use store_lines::push_path;

@@ -5,4 +5,6 @@
 pub enum PartyKind {
     /// It opens a database and raises its writer epoch.
     Writer,
+    /// It holds checkpoints.
+    Holder,
 }

@@ -2,8 +2,8 @@
 ghost use Rattle.std.specs.Prelude.{◌≡◌, Some, None};
 ghost use Rattle.serde_json.specs.View.{view};
 ghost use Rattle.slate_script.specs.Fields.{Gives};
-ghost use Rattle.slate_script.specs.Words.{kind_word};
-ghost use Rattle.slate_script.specs.Events.{open_in, start_in, step_in, written_in};
+ghost use Rattle.slate_script.specs.Words.{kind_word, mark_word};
+ghost use Rattle.slate_script.specs.Events.{open_in, start_in, step_in, stop_in, written_in};
 
 use crate::event::Event;
 use crate::fields::{defaulted, only, required};
@@ -13,15 +13,17 @@ use crate::refusal::Refusal;
 use crate::values::FromJson;
 use serde_json::Value;
 use slate_ids::Millis;
+use slate_store::Mark;
 use std::alloc::Global;
 
 /// An item of a script: a step may stand for several.
-#[derive(Clone, Copy, Debug)]
+#[derive(Debug, Drop)]
 pub(crate) enum Written {
     Once(Event),
     Steps {
         party: u32,
         moment: Millis,
+        mark: Mark,
         times: u32,
     },
 }
@@ -32,6 +34,7 @@ fn kind_of(text: &str) -> Option<PartyKind>
 {
     match text {
         "writer" => Some(PartyKind::Writer),
+        "holder" => Some(PartyKind::Holder),
         _ => None,
     }
 }
@@ -45,6 +48,33 @@ impl FromJson for PartyKind {
         match d.as_str() {
             Some(text) => match kind_of(text) {
                 Some(kind) => Ok(kind),
+                None => Err(Refusal::Malformed),
+            },
+            None => Err(Refusal::Malformed),
+        }
+    }
+}
+
+#[tactic(auto, unfolding(crate::specs::Words::mark_word))]
+fn mark_of(text: &str) -> Option<Mark>
+    ensures { result ≡ mark_word text.now }
+{
+    match text {
+        "fail" => Some(Mark::Fail),
+        "lost" => Some(Mark::Lost),
+        _ => None,
+    }
+}
+
+impl FromJson for Mark {
+    ghost use Rattle.slate_script.specs.Words.{mark_in};
+
+    ghost reads = { mark_in };
+
+    fn from_json(_alloc: Global, d: &Value) -> Result<Mark, Refusal> {
+        match d.as_str() {
+            Some(text) => match mark_of(text) {
+                Some(mark) => Ok(mark),
                 None => Err(Refusal::Malformed),
             },
             None => Err(Refusal::Malformed),
@@ -76,9 +106,10 @@ fn start(alloc: Global, d: &Value) -> Result<Written, Refusal>
 fn step(alloc: Global, d: &Value) -> Result<Written, Refusal>
     ensures { Gives result (step_in (view d.now)) }
 {
-    only(d, &["step", "at", "times"])?;
+    only(d, &["step", "at", "mark", "times"])?;
     let party = required(alloc, d, "step")?;
     let moment = required(alloc, d, "at")?;
+    let mark = defaulted(alloc, d, "mark", Mark::Good)?;
     let times: u32 = defaulted(alloc, d, "times", 1)?;
     if times < 1 || times > 1000 {
         return Err(Refusal::Malformed);
@@ -86,8 +117,18 @@ fn step(alloc: Global, d: &Value) -> Result<Written, Refusal>
     Ok(Written::Steps {
         party,
         moment,
+        mark,
         times,
     })
+}
+
+#[tactic(auto, unfolding(crate::specs::Events::stop_in))]
+fn stop(alloc: Global, d: &Value) -> Result<Written, Refusal>
+    ensures { Gives result (stop_in (view d.now)) }
+{
+    only(d, &["stop"])?;
+    let party = required(alloc, d, "stop")?;
+    Ok(Written::Once(Event::Stop { party }))
 }
 
 /// The events that an item of a script stands for.
@@ -99,7 +140,9 @@ pub(crate) fn read_event(alloc: Global, d: &Value) -> Result<Written, Refusal>
         open(alloc, d)
     } else if d.get("start").is_some() {
         start(alloc, d)
-    } else {
+    } else if d.get("step").is_some() {
         step(alloc, d)
+    } else {
+        stop(alloc, d)
     }
 }

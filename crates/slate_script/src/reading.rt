@@ -4,7 +4,8 @@ ghost use Rattle.serde_json.specs.Read.{read};
 ghost use Rattle.serde_json.specs.View.{view, items_view};
 ghost use Rattle.slate_script.specs.Fields.{Gives};
 ghost use Rattle.slate_script.specs.Events.{expand, count_of};
-ghost use Rattle.slate_script.specs.Scripts.{Reads, at_place, database_in, databases_from, written_at, events_from, event_limit, top_in, parts_in, script_in, json_of, script_of, IsOneNew};
+ghost use Rattle.slate_script.specs.Scripts.{Reads, at_place, database_in, databases_from, written_at, events_from, event_limit, top_in, parts_in, script_in, json_of, script_of};
+ghost use Rattle.slate_script.specs.declared.script.ScriptPlace.TheVariants.{Database};
 
 use crate::db_spec::DbSpec;
 use crate::event::Event;
@@ -15,25 +16,10 @@ use crate::refusal::Refusal;
 use crate::script::{Script, ScriptError, ScriptPlace};
 use serde_json::Value;
 use slate_ids::{Listed, OutOfMemory};
-use slate_store::Mark;
 use std::alloc::Global;
 use std::str;
 
 const EVENT_LIMIT: u64 = 1_000_000;
-
-// Where a database is no script. The finer places come with several databases.
-fn database_place(_i: usize) -> ScriptPlace
-    ensures { result ≡ Rattle.slate_script.specs.Scripts.database_place _i }
-{
-    ScriptPlace::Top
-}
-
-// Where an event is no script.
-fn event_place(_i: u64) -> ScriptPlace
-    ensures { result ≡ Rattle.slate_script.specs.Scripts.event_place _i }
-{
-    ScriptPlace::Top
-}
 
 // What was read of an item, or its place.
 fn at<X: Drop>(place: ScriptPlace, read: Result<X, Refusal>) -> Result<X, ScriptError>
@@ -47,9 +33,9 @@ fn at<X: Drop>(place: ScriptPlace, read: Result<X, Refusal>) -> Result<X, Script
 }
 
 fn database(alloc: Global, i: usize, value: &Value) -> Result<DbSpec, ScriptError>
-    ensures { Reads result (at_place (Rattle.slate_script.specs.Scripts.database_place i) (database_in (view value.now))) }
+    ensures { Reads result (at_place (Database i) (database_in (view value.now))) }
 {
-    at(database_place(i), read_database(alloc, value))
+    at(ScriptPlace::Database(i as u64), read_database(alloc, value))
 }
 
 fn databases(alloc: Global, values: &[Value]) -> Result<Listed<DbSpec>, ScriptError>
@@ -63,28 +49,18 @@ fn databases(alloc: Global, values: &[Value]) -> Result<Listed<DbSpec>, ScriptEr
     Ok(databases)
 }
 
-// A script has one database.
-fn only_one(databases: Listed<DbSpec>) -> Result<Listed<DbSpec>, ScriptError>
-    ensures { Reads result (Rattle.slate_script.specs.Scripts.only_one databases) }
-{
-    match databases.as_slice() {
-        [_] => Ok(databases),
-        _ => Err(ScriptError::BadScript(ScriptPlace::Top)),
-    }
-}
-
 fn written_event(alloc: Global, i: u64, value: &Value) -> Result<Written, ScriptError>
     requires { i ≤ event_limit }
     ensures value { Reads result (written_at i (view value.now)) }
     ensures fits { IfOk result (λ w. i + count_of w ≤ event_limit) }
 {
-    let written = at(event_place(i), read_event(alloc, value))?;
+    let written = at(ScriptPlace::Event(i), read_event(alloc, value))?;
     let count = match &written {
         Written::Once(_) => 1,
         Written::Steps { times, .. } => *times as u64,
     };
     if i + count > EVENT_LIMIT {
-        return Err(ScriptError::BadScript(event_place(EVENT_LIMIT)));
+        return Err(ScriptError::BadScript(ScriptPlace::Event(EVENT_LIMIT)));
     }
     Ok(written)
 }
@@ -97,13 +73,14 @@ fn push_written(events: &mut Listed<Event>, written: Written) -> Result<(), OutO
         Written::Steps {
             party,
             moment,
+            mark,
             times,
         } => {
             for _ in 0..times {
                 events.push(Event::Step {
                     party,
                     moment,
-                    mark: Mark::Good,
+                    mark,
                 })?;
             }
             Ok(())
@@ -134,7 +111,7 @@ fn script(alloc: Global, d: &Value) -> Result<Script, ScriptError>
     ) else {
         return Err(ScriptError::BadScript(ScriptPlace::Top));
     };
-    let databases = only_one(databases(alloc, database_values)?)?;
+    let databases = databases(alloc, database_values)?;
     let events = events(alloc, event_values)?;
     Ok(Script { databases, events })
 }
@@ -165,10 +142,10 @@ fn json(alloc: Global, bytes: &[u8]) -> Result<Value, Refusal>
     }
 }
 
-// The script of the bytes, or the first place at which they are none.
+/// The script of the bytes, or the first place at which they are none.
 #[tactic(auto, unfolding(crate::specs::Scripts::script_of))]
-fn script_in_bytes(alloc: Global, bytes: &[u8]) -> Result<Script, ScriptError>
-    ensures { Reads result (script_of bytes.now) }
+pub fn read_script(alloc: Global, bytes: &[u8]) -> Result<Script, ScriptError>
+    ensures script { Reads result (script_of bytes.now) }
 {
     let value = match json(alloc, bytes) {
         Ok(value) => value,
@@ -176,12 +153,4 @@ fn script_in_bytes(alloc: Global, bytes: &[u8]) -> Result<Script, ScriptError>
         Err(Refusal::OutOfMemory) => return Err(ScriptError::OutOfMemory),
     };
     script(alloc, &value)
-}
-
-/// The script of the bytes, or the first place at which they are none. A script has one database, which is new.
-pub fn read_script(alloc: Global, bytes: &[u8]) -> Result<Script, ScriptError>
-    ensures script { Reads result (script_of bytes.now) }
-    ensures one_new { IfOk result (λ s. IsOneNew s.databases) }
-{
-    script_in_bytes(alloc, bytes)
 }

@@ -1,7 +1,7 @@
 //! Replies of calls.
 ghost use Rattle.std.specs.Prelude.{◌≡◌, IfOk};
 
-use slate_ids::{OutOfMemory, SlateDBError};
+use slate_ids::{CheckpointId, OutOfMemory, SlateDBError};
 use std::alloc::Global;
 
 /// What a call of a party ends with.
@@ -11,6 +11,8 @@ pub enum Reply {
     Done,
     /// The epoch that an open committed.
     Epoch(u64),
+    /// A checkpoint, and the number of the version that it names.
+    Checkpoint(CheckpointId, u64),
     /// The call was refused.
     Refused(SlateDBError),
 }
@@ -23,6 +25,7 @@ impl Reply {
         Ok(match self {
             Reply::Done => Reply::Done,
             Reply::Epoch(n) => Reply::Epoch(*n),
+            Reply::Checkpoint(id, version) => Reply::Checkpoint(*id, *version),
             Reply::Refused(refusal) => Reply::Refused(refusal.copy(alloc)?),
         })
     }

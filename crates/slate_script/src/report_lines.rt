@@ -1,10 +1,12 @@
 //! The lines of a report.
 ghost use Rattle.std.specs.Prelude.{◌≡◌, ◌++◌, IfOk, OnOk, string_bytes};
 ghost use Rattle.std.specs.List.{flat_map};
-ghost use Rattle.slate_script.specs.Lines.{rule_text, name_text, detail_text, refusal_text, reply_text, reply_part, entry_text, entries_text, left_line};
+ghost use Rattle.slate_script.specs.Lines.{rule_text, name_text, detail_text, refusal_text, reply_text, reply_part, entry_text, entries_text, left_line, place_text, cause_text};
 
+use crate::cluster_cause::ClusterCause;
 use crate::entry::Entry;
 use crate::reply::Reply;
+use crate::script::ScriptPlace;
 use crate::store_lines::{push_answer, push_call};
 use slate_ids::{ObjectPath, OutOfMemory, SlateDBError, UpdateRule};
 use std::alloc::{AllocError, Global};
@@ -92,6 +94,7 @@ fn push_reply(out: &mut String, reply: &Reply) -> Result<(), AllocError>
     match reply {
         Reply::Done => out.push_str("done"),
         Reply::Epoch(n) => write!(out, "epoch {n}"),
+        Reply::Checkpoint(id, version) => write!(out, "checkpoint {id} {version}"),
         Reply::Refused(refusal) => {
             out.push_str("refused ")?;
             push_refusal(out, refusal)
@@ -137,6 +140,7 @@ pub fn push_entry(out: &mut String, place: u64, entry: &Entry) -> Result<(), All
             push_reply_part(out, reply)?;
             out.push_str("\n")
         }
+        Entry::Stopped { party } => writeln!(out, "{place} stop {party}"),
         Entry::Idle { party } => writeln!(out, "{place} idle {party}"),
     }
 }
@@ -168,4 +172,28 @@ pub fn push_left(out: &mut String, paths: &[ObjectPath]) -> Result<(), AllocErro
         writeln!(out, "left {path}")?;
     }
     Ok(())
+}
+
+/// Adds the place at which bytes are no script, as it stands in a report.
+pub fn push_place(out: &mut String, place: ScriptPlace) -> Result<(), AllocError>
+    ensures { OnOk result (string_bytes out.new ≡ string_bytes out.old ++ place_text place) }
+{
+    match place {
+        ScriptPlace::Json => out.push_str("json"),
+        ScriptPlace::Top => out.push_str("top"),
+        ScriptPlace::Database(i) => write!(out, "database {i}"),
+        ScriptPlace::Event(i) => write!(out, "event {i}"),
+    }
+}
+
+/// Adds the cause why databases can't be the beginning of a run, as it stands in a report.
+pub fn push_cause(out: &mut String, cause: ClusterCause) -> Result<(), AllocError>
+    ensures { OnOk result (string_bytes out.new ≡ string_bytes out.old ++ cause_text cause) }
+{
+    match cause {
+        ClusterCause::Path => out.push_str("path"),
+        ClusterCause::Ids => out.push_str("ids"),
+        ClusterCause::Value => out.push_str("value"),
+        ClusterCause::Checkpoints => out.push_str("checkpoints"),
+    }
 }

@@ -16,8 +16,12 @@ pub struct Script {
 pub enum ScriptPlace {
     /// The bytes are no JSON.
     Json,
-    /// The JSON is no script.
+    /// The JSON is no object with exactly the two arrays `databases` and `events`.
     Top,
+    /// The item of `databases` at this place, counted from 0, is no database.
+    Database(u64),
+    /// The event at this place is none. Places count from 0, after `times` is written out.
+    Event(u64),
 }
 
 /// Why bytes were not read as a script.

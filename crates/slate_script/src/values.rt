@@ -1,12 +1,13 @@
 //! JSON values that stand for plain values.
 ghost use Rattle.std.specs.Prelude.{◌≡◌, Option};
 ghost use Rattle.serde_json.specs.Data.{Data};
-ghost use Rattle.serde_json.specs.View.{view};
-ghost use Rattle.slate_script.specs.Fields.{Gives, u32_in, i64_in, db_path_in};
+ghost use Rattle.serde_json.specs.Find.{as_str};
+ghost use Rattle.serde_json.specs.View.{view, items_view};
+ghost use Rattle.slate_script.specs.Fields.{Gives, u64_in, u32_in, i64_in, db_path_in, checkpoint_id_in, items_in, list_in};
 
 use crate::refusal::Refusal;
 use serde_json::Value;
-use slate_ids::DbPath;
+use slate_ids::{CheckpointId, DbPath, Listed, Text};
 use std::alloc::Global;
 
 /// What a JSON value may stand for.
@@ -19,6 +20,17 @@ pub(crate) trait FromJson: Drop {
     where
         Self: Sized,
         ensures { Gives result (reads (view value.now)) };
+}
+
+impl FromJson for u64 {
+    ghost reads = { u64_in };
+
+    fn from_json(_alloc: Global, value: &Value) -> Result<u64, Refusal> {
+        match value.as_u64() {
+            Some(n) => Ok(n),
+            None => Err(Refusal::Malformed),
+        }
+    }
 }
 
 impl FromJson for u32 {
@@ -55,4 +67,48 @@ impl FromJson for DbPath {
             None => Err(Refusal::Malformed),
         }
     }
+}
+
+impl FromJson for Text {
+    ghost reads = { as_str };
+
+    fn from_json(alloc: Global, value: &Value) -> Result<Text, Refusal> {
+        match value.as_str() {
+            Some(text) => Ok(Text::copy_of(alloc, text)?),
+            None => Err(Refusal::Malformed),
+        }
+    }
+}
+
+impl FromJson for CheckpointId {
+    ghost reads = { checkpoint_id_in };
+
+    fn from_json(_alloc: Global, value: &Value) -> Result<CheckpointId, Refusal> {
+        match value.as_u64() {
+            Some(n) => Ok(CheckpointId::from_u64(n)),
+            None => Err(Refusal::Malformed),
+        }
+    }
+}
+
+impl<T: FromJson> FromJson for Listed<T> {
+    ghost reads = { list_in T.reads };
+
+    fn from_json(alloc: Global, value: &Value) -> Result<Listed<T>, Refusal> {
+        match value.as_array() {
+            Some(values) => all(alloc, values),
+            None => Err(Refusal::Malformed),
+        }
+    }
+}
+
+// Each of the values.
+fn all<T: FromJson>(alloc: Global, values: &[Value]) -> Result<Listed<T>, Refusal>
+    ensures { Gives result (items_in T.reads (items_view values.now)) }
+{
+    let mut items = Listed::new(alloc);
+    for value in values {
+        items.push(T::from_json(alloc, value)?)?;
+    }
+    Ok(items)
 }
