@@ -1,24 +1,28 @@
 -- The calls, put together from phrases: how a call begins, and what follows the end of a phrase.
-use Rattle.std.specs.Prelude.{ℕ, ◌+◌, Option, Some, None, Result, Ok, Err, Bool, true}
+use Rattle.std.specs.Prelude.{ℕ, ℤ, List, Option, Some, None, is_some, Result, Ok, Err, Bool, true, false}
 use Rattle.slate_ids.specs.declared.error.SlateDBError.{SlateDBError}
-use Rattle.slate_ids.specs.declared.error.SlateDBError.TheVariants.{LatestTransactionalObjectVersionMissing, InvalidDBState, StoreFault}
+use Rattle.slate_ids.specs.declared.error.SlateDBError.TheVariants.{LatestTransactionalObjectVersionMissing, CheckpointMissing, InvalidDBState, StoreFault}
 use Rattle.slate_ids.specs.declared.error.StateCause.TheVariants.{NotOpen}
 use Rattle.slate_model.specs.declared.manifest.Manifest.{Manifest}
-use Rattle.slate_model.specs.Epochs.{with_writer_epoch}
+use Rattle.slate_model.specs.declared.checkpoint.Checkpoint.{Checkpoint}
+use Rattle.slate_model.specs.Checkpoints.{checkpoint_at, written, replaced, refreshed, deleted}
+use Rattle.slate_model.specs.Codec.{encoded}
 use Rattle.slate_store.specs.Machines.{Goes, Stay, End}
 use Rattle.slate_script.specs.declared.call.Call.{Call}
-use Rattle.slate_script.specs.declared.call.Call.TheVariants.{OpenWriter, Flush}
+use Rattle.slate_script.specs.declared.call.Call.TheVariants.{OpenWriter, Flush, WriteCheckpoint, ReplaceCheckpoint, RefreshCheckpoint, DeleteCheckpoint}
 use Rattle.slate_script.specs.declared.party_kind.PartyKind.{PartyKind}
-use Rattle.slate_script.specs.declared.party_kind.PartyKind.TheVariants.{Writer}
+use Rattle.slate_script.specs.declared.party_kind.PartyKind.TheVariants.{Writer, Holder}
 use Rattle.slate_script.specs.declared.reply.Reply.{Reply}
 use Rattle.slate_script.specs.declared.reply.Reply.TheVariants.{Done, Epoch, Refused}
+use Rattle.slate_script.specs.declared.reply.Reply.TheVariants as reply
+use Rattle.slate_txn.specs.Apply.{renewed}
 use Rattle.slate_txn.specs.FencedUpdating.{unless}
 use Rattle.slate_txn.specs.Fencing.{fence}
 use Rattle.slate_txn.specs.declared.read.ReadPhase.TheVariants.{Listing}
 use Rattle.slate_txn.specs.declared.commit.CommitPhase.{CommitPhase}
 use Rattle.slate_txn.specs.declared.right.Right.{Right}
 use Rattle.slate_txn.specs.declared.right.Right.TheVariants.{Plain}
-use Rattle.slate_protocol.specs.Manifests.{raised_writer, next_manifest, flushed}
+use Rattle.slate_protocol.specs.Manifests.{manifest_refusal, raised_writer, flushed}
 use Rattle.slate_protocol.specs.Phrases.{at_read, at_commit}
 use Rattle.slate_protocol.specs.declared.party.Facts.{Facts}
 use Rattle.slate_protocol.specs.declared.party.Purpose.{Purpose}
@@ -27,70 +31,97 @@ use Rattle.slate_protocol.specs.declared.position.Position.{Position}
 use Rattle.slate_protocol.specs.declared.position.Ended.{Ended}
 use Rattle.slate_protocol.specs.declared.position.Ended.TheVariants.{NoVersion, Version, Committed}
 
+-- the calls of a writer
+abbrev pub writer_has : Call → Bool
+writer_has OpenWriter = true
+writer_has (Flush seq tick) = true
+writer_has _ = false
+
+-- the calls of a holder: it refreshes a checkpoint to a lifetime
+abbrev pub holder_has : Call → Bool
+holder_has (WriteCheckpoint id lifetime source name) = true
+holder_has (ReplaceCheckpoint old id lifetime source name) = true
+holder_has (RefreshCheckpoint id lifetime) = is_some lifetime
+holder_has (DeleteCheckpoint id) = true
+holder_has _ = false
+
 -- whether a kind of party has a call
 abbrev pub has_call : PartyKind → Call → Bool
-has_call Writer OpenWriter = true
-has_call Writer (Flush seq tick) = true
+has_call Writer call = writer_has call
+has_call Holder call = holder_has call
 
--- what each call makes of the manifest read: an open its writer epoch plus one
-abbrev pub new_value : Call → Manifest → Manifest
-new_value OpenWriter m = with_writer_epoch m (m.writer_epoch + 1)
-new_value (Flush seq tick) m = flushed seq tick m
+-- what each call makes at a moment of version n, read as the latest: nothing, where nothing is to be committed
+abbrev pub new_value : Call → ℤ → ℕ → Manifest → Result (Option Manifest) SlateDBError
+new_value OpenWriter now n m = raised_writer n m
+new_value (Flush seq tick) now n m = Ok (Some (flushed seq tick m))
+new_value (WriteCheckpoint id lifetime source name) now n m = written id (record { lifetime = lifetime; source = source; name = name }) now n m
+new_value (ReplaceCheckpoint old id lifetime source name) now n m = replaced old id (record { lifetime = lifetime; source = source; name = name }) now n m
+new_value (RefreshCheckpoint id lifetime) now n m = refreshed id lifetime now m
+new_value (DeleteCheckpoint id) now n m = deleted id m
 
 -- under which right a call commits
 abbrev pub right_of : Call → Right
-right_of OpenWriter = Plain
-right_of (Flush seq tick) = Plain
+right_of call = Plain
 
 -- the refusal of a party with this epoch at a version with that one
 abbrev pub fenced : Option ℕ → ℕ → Option SlateDBError
 fenced None read = Some (InvalidDBState NotOpen)
 fenced (Some own) read = fence own read
 
--- the fence of a call at a manifest read: an open raises the epoch and has none
+-- the fence of a call at a manifest read: a flush alone has one
 abbrev pub fence_of : Facts → Call → Manifest → Option SlateDBError
-fence_of facts OpenWriter m = None
 fence_of facts (Flush seq tick) m = fenced facts.epoch m.writer_epoch
+fence_of facts _ m = None
 
--- the commit of what a call makes of the manifest read, or why there is none
-abbrev pub commit_of : Facts → Call → ℕ → Manifest → Result (CommitPhase Manifest) SlateDBError
-commit_of facts OpenWriter n m = raised_writer n m
-commit_of facts (Flush seq tick) n m = unless (fence_of facts (Flush seq tick) m) (next_manifest n m (new_value (Flush seq tick) m) (right_of (Flush seq tick)))
+-- the commit of what a call makes at a moment of the version read; or none, where nothing is to be committed; or why there is
+-- none
+abbrev pub commit_of : Facts → Call → ℤ → ℕ → Manifest → Result (Option (CommitPhase Manifest)) SlateDBError
+commit_of facts call now n m = unless (fence_of facts call m) (renewed (new_value call now) manifest_refusal encoded (right_of call) n m)
 
--- the reply where the commit stood
+-- the checkpoint of an id, as a reply
+abbrev pub checkpoint_reply : List ℕ → Option Checkpoint → Reply
+checkpoint_reply id (Some c) = reply.Checkpoint c.id c.manifest_id
+checkpoint_reply id None = Refused (CheckpointMissing id)
+
+-- the reply where a manifest was committed, or needed no commit
 abbrev pub reply_to : Call → Manifest → Reply
 reply_to OpenWriter m = Epoch m.writer_epoch
 reply_to (Flush seq tick) m = Done
+reply_to (WriteCheckpoint id lifetime source name) m = checkpoint_reply id (checkpoint_at id m.checkpoints)
+reply_to (ReplaceCheckpoint old id lifetime source name) m = checkpoint_reply id (checkpoint_at id m.checkpoints)
+reply_to (RefreshCheckpoint id lifetime) m = checkpoint_reply id (checkpoint_at id m.checkpoints)
+reply_to (DeleteCheckpoint id) m = Done
 
 -- a call goes on at a position, or ends with its reply
 pub data Next : Type 0 where
   Go : Purpose → Position → Next
   Finish : Reply → Next
 
-abbrev pub commit_next : Facts → Result (CommitPhase Manifest) SlateDBError → Next
-commit_next facts (Ok commit) = Go Committing (at_commit facts.db commit)
-commit_next facts (Err e) = Finish (Refused e)
+-- after a read: the commit of what the call makes of it, or its reply where nothing is to be committed
+abbrev pub commit_next : Facts → Call → ℤ → Manifest → Result (Option (CommitPhase Manifest)) SlateDBError → Next
+commit_next facts call now m (Ok (Some commit)) = Go (Committing now) (at_commit facts.db commit)
+commit_next facts call now m (Ok None) = Finish (reply_to call m)
+commit_next facts call now m (Err e) = Finish (Refused e)
 
--- after a read: the commit of what the call makes of it
-abbrev pub after_version : Facts → Call → Purpose → ℕ → Manifest → Next
-after_version facts call Reading n m = commit_next facts (commit_of facts call n m)
-after_version facts call Committing n m = Finish (Refused StoreFault)
+abbrev pub after_version : Facts → Call → Purpose → ℤ → ℕ → Manifest → Next
+after_version facts call Reading now n m = commit_next facts call now m (commit_of facts call now n m)
+after_version facts call (Committing made) now n m = Finish (Refused StoreFault)
 
 abbrev pub after_commit : Call → Purpose → ℕ → Manifest → Next
-after_commit call Committing n m = Finish (reply_to call m)
+after_commit call (Committing made) n m = Finish (reply_to call m)
 after_commit call Reading n m = Finish (Refused StoreFault)
 
--- what follows the end of a phrase. A read never ends in a commit's purpose, nor a commit in a read's
-abbrev pub after_phrase : Facts → Call → Purpose → Ended → Next
-after_phrase facts call purpose NoVersion = Finish (Refused LatestTransactionalObjectVersionMissing)
-after_phrase facts call purpose (Version n m) = after_version facts call purpose n m
-after_phrase facts call purpose (Committed n m) = after_commit call purpose n m
+-- what follows the end of a phrase, which came at a moment. A read never ends in a commit's purpose, nor a commit in a read's
+abbrev pub after_phrase : Facts → Call → Purpose → ℤ → Ended → Next
+after_phrase facts call purpose now NoVersion = Finish (Refused LatestTransactionalObjectVersionMissing)
+after_phrase facts call purpose now (Version n m) = after_version facts call purpose now n m
+after_phrase facts call purpose now (Committed n m) = after_commit call purpose n m
 
--- how a call goes on once its phrase has gone on
-abbrev pub follow : Facts → Call → Purpose → Goes Position Ended → Next
-follow facts call purpose (Stay position) = Go purpose position
-follow facts call purpose (End position (Ok ended)) = after_phrase facts call purpose ended
-follow facts call purpose (End position (Err e)) = Finish (Refused e)
+-- how a call goes on once its phrase has gone on, at a moment
+abbrev pub follow : Facts → Call → Purpose → ℤ → Goes Position Ended → Next
+follow facts call purpose now (Stay position) = Go purpose position
+follow facts call purpose now (End position (Ok ended)) = after_phrase facts call purpose now ended
+follow facts call purpose now (End position (Err e)) = Finish (Refused e)
 
 -- a read of the latest manifest
 abbrev pub read_next : Facts → Next
@@ -103,5 +134,5 @@ once_open (Some epoch) next = next
 
 -- how a call begins
 abbrev pub begin : Facts → Call → Next
-begin facts OpenWriter = read_next facts
 begin facts (Flush seq tick) = once_open facts.epoch (read_next facts)
+begin facts _ = read_next facts

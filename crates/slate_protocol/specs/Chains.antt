@@ -40,18 +40,20 @@ pub record Log (V A : Type 0) : Type 0 where
   pub decoded : List ℕ → Result V SlateDBError
   pub normal : V → V
   pub refusal : ℕ → V → V → Right → Option SlateDBError
-  pub makes : A → V → V
+  pub makes : A → ℕ → V → Result (Option V) SlateDBError
   pub right : A → Right
   pub fence : A → V → Option SlateDBError
 
--- the version after another: its author made it of the value before, the rules and the fence let it, its bytes are those of
+-- the version after another: its author made it of the version before, the rules and the fence let it, its bytes are those of
 -- what was made, and its value is what is read back of them
 pub record Follows {V A : Type 0} (log : Log V A) (old new : Link V A) : Type 0 where
   pub author : A
   pub by : new.by ≡ Some author
   pub number : new.number ≡ old.number + 1
-  pub bytes : log.encoded (log.makes author old.value) ≡ Ok new.bytes
-  pub value : new.value ≡ log.normal (log.makes author old.value)
+  pub made : V
+  pub makes : log.makes author old.number old.value ≡ Ok (Some made)
+  pub bytes : log.encoded made ≡ Ok new.bytes
+  pub value : new.value ≡ log.normal made
   pub lawful : log.refusal old.number old.value new.value (log.right author) ≡ None
   pub passed : log.fence author old.value ≡ None
 

@@ -7,10 +7,11 @@ use Rattle.slate_protocol.specs.Chains.{link_at}
 use Rattle.slate_protocol.specs.Logs.{Author, Chain}
 use Rattle.slate_protocol.specs.declared.party.Facts.{Facts}
 
--- the epoch with which a writer's call puts a manifest: an open's is the one that it puts
+-- the epoch with which a writer's call puts a manifest: an open's is the one that it puts; a holder has none
 abbrev pub epoch_in : Facts → Call → Manifest → Option ℕ
 epoch_in facts OpenWriter m = Some m.writer_epoch
 epoch_in facts (Flush seq tick) m = facts.epoch
+epoch_in facts _ m = None
 
 -- not below the writer epoch of any of these versions
 abbrev pub NotBelow : Option Author → Manifest → Chain → Type 0

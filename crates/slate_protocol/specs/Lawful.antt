@@ -1,21 +1,22 @@
 -- What holds of every run: one chain, fenced epochs, and the rows.
 use Rattle.std.specs.Prelude.{◌≡◌, ℕ, ◌≤◌, true, List, [], ◌∷◌, map, Option, Some, None, is_some}
+use Rattle.std.specs.List.{list_all}
 use Rattle.slate_ids.specs.Ids.{is_db_path}
-use Rattle.slate_script.specs.Scripts.{IsNew}
 use Rattle.slate_script.specs.declared.db_spec.DbSpec.{DbSpec}
 use Rattle.slate_script.specs.declared.event.Event.{Event}
 use Rattle.slate_protocol.specs.ByRows.{nobody, trail_by}
 use Rattle.slate_protocol.specs.Chains.{top, IsChain, Stands}
 use Rattle.slate_protocol.specs.Fenced.{IsFenced}
 use Rattle.slate_protocol.specs.Logs.{Chain, Chains, manifests, chains_of, opening_chains}
-use Rattle.slate_protocol.specs.Runs.{Course, opening, opening_world, run}
+use Rattle.slate_protocol.specs.Runs.{Course, opening, run}
+use Rattle.slate_protocol.specs.Specs.{cause_of_specs, opening_world}
 use Rattle.slate_protocol.specs.Trails.{numbered, store_of, told}
 use Rattle.slate_protocol.specs.World.{World, tally_of}
 
--- accepted databases: one, which is new and has a name
-abbrev pub IsAccepted : List DbSpec → Type 0
-IsAccepted (spec ∷ []) = IsNew spec × (is_db_path spec.path ≡ true)
-IsAccepted _ = ⊥
+-- accepted databases: no cause refuses them, and each has a name
+pub record IsAccepted (specs : List DbSpec) : Type 0 where
+  pub accepted : cause_of_specs specs ≡ None
+  pub named : list_all (λ spec. is_db_path spec.path) specs ≡ true
 
 -- whether the cluster has a database
 abbrev pub HasDb : World → List ℕ → Type 0

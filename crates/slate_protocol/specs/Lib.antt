@@ -2,7 +2,9 @@ pub mod Manifests
 pub mod Phrases
 pub mod Calls
 pub mod Rows
+pub mod Ids
 pub mod World
+pub mod Specs
 pub mod Runs
 pub mod Reports
 pub mod Chains

@@ -1,34 +1,16 @@
 -- Runs of a list of events.
 use Rattle.std.specs.Prelude.{ℕ, ◌+◌, List, [], ◌∷◌, ◌++◌, Option, Some, None}
-use Rattle.slate_ids.specs.declared.object_path.ObjectPath.TheVariants as paths
-use Rattle.slate_model.specs.Bytes.{manifest_bytes}
 use Rattle.slate_script.specs.declared.db_spec.DbSpec.{DbSpec}
 use Rattle.slate_script.specs.declared.event.Event.{Event}
 use Rattle.slate_script.specs.declared.entry.Entry.{Entry}
+use Rattle.slate_protocol.specs.Specs.{opening_world}
 use Rattle.slate_protocol.specs.World.{World, Done, happens}
-
--- the state as a run of one database begins: its first manifest stands, with tag 1
-abbrev pub opening_of : DbSpec → World
-opening_of spec = record {
-  tallies = (spec.path, record { manifest = 1; compactions = 0 }) ∷ [];
-  deleted = 0;
-  store = record {
-    objects = (paths.Manifest spec.path 1, record { bytes = manifest_bytes spec.manifest; last_modified = spec.modified; e_tag = 1 }) ∷ [];
-    last_tag = 1;
-  };
-  parties = [];
-}
 
 -- the databases as they were given, the entries so far, and the state after them
 pub record Course : Type 0 where
   pub specs : List DbSpec
   pub trail : List Entry
   pub world : World
-
--- the state as a run of these databases begins: there is one
-abbrev pub opening_world : List DbSpec → World
-opening_world (spec ∷ specs) = opening_of spec
-opening_world [] = record { tallies = []; deleted = 0; store = record { objects = []; last_tag = 0 }; parties = [] }
 
 -- the course as a run of these databases begins
 abbrev pub opening : List DbSpec → Course

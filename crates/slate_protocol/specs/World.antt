@@ -1,5 +1,5 @@
 -- The state of a cluster, and what an event does to it.
-use Rattle.std.specs.Prelude.{ℕ, ◌+◌, ℤ, Bool, true, false, not, ◌||◌, List, [], ◌∷◌, ◌++◌, Option, Some, None, is_some, is_none, length, nat_lt, max, min, if◌then◌else◌}
+use Rattle.std.specs.Prelude.{ℕ, ◌+◌, ℤ, Bool, true, false, not, ◌&&◌, ◌||◌, List, [], ◌∷◌, ◌++◌, Option, Some, None, is_some, is_none, length, nat_lt, max, min, if◌then◌else◌}
 use Rattle.std.specs.Map.{lookup, set_value}
 use Rattle.std.specs.BTreeMap.{is_at, insert_entry}
 use Rattle.std.specs.Ordering.{nat_cmp}
@@ -14,28 +14,30 @@ use Rattle.slate_store.specs.declared.store_call.StoreCall.TheVariants.{PutNew, 
 use Rattle.slate_script.specs.declared.call.Call.{Call}
 use Rattle.slate_script.specs.declared.party_kind.PartyKind.{PartyKind}
 use Rattle.slate_script.specs.declared.event.Event.{Event}
-use Rattle.slate_script.specs.declared.event.Event.TheVariants.{Open, Start, Step}
+use Rattle.slate_script.specs.declared.event.Event.TheVariants.{Open, Start, Step, Stop}
 use Rattle.slate_script.specs.declared.entry.Entry.{Entry}
-use Rattle.slate_script.specs.declared.entry.Entry.TheVariants.{Opened, Started, Called, Idle}
+use Rattle.slate_script.specs.declared.entry.Entry.TheVariants.{Opened, Started, Called, Stopped, Idle}
 use Rattle.slate_script.specs.declared.reply.Reply.{Reply}
 use Rattle.slate_script.specs.declared.reply.Reply.TheVariants.{Epoch}
 use Rattle.slate_protocol.specs.Phrases.{asks, goes, is_due}
+use Rattle.slate_protocol.specs.Ids.{Carried, is_stale, ids_of, with_ids}
 use Rattle.slate_protocol.specs.Calls.{Next, Go, Finish, has_call, begin, follow}
 use Rattle.slate_protocol.specs.declared.party.Facts.{Facts}
 use Rattle.slate_protocol.specs.declared.party.Party.{Party}
 use Rattle.slate_protocol.specs.declared.party.Purpose.{Purpose}
 use Rattle.slate_protocol.specs.declared.party.State.{State}
-use Rattle.slate_protocol.specs.declared.party.State.TheVariants.{Resting, Busy}
+use Rattle.slate_protocol.specs.declared.party.State.TheVariants.{Resting, Busy, Halted}
 use Rattle.slate_protocol.specs.declared.position.Position.{Position}
 use Rattle.slate_protocol.specs.declared.tally.Tally.{Tally}
 
--- the databases by path with their greatest committed numbers, how many deletes removed an object, the store, and the
--- parties by number
+-- the databases by path with their greatest committed numbers, how many deletes removed an object, the store, the parties by
+-- number, and the ids that were carried
 pub record World : Type 0 where
   pub tallies : List (List ℕ × Tally)
   pub deleted : ℕ
   pub store : Store
   pub parties : List (ℕ × Party)
+  pub carried : Carried
 
 -- the order of databases: by the bytes of their paths
 abbrev pub db_cmp : List ℕ → List ℕ → Ordering
@@ -128,7 +130,7 @@ abbrev pub stepped : World → ℕ → Facts → Call → Purpose → Position �
 stepped w n facts call purpose position moment mark =
     let asked = asks position in
     let outcome = effect mark asked moment w.store in
-    let next = follow facts call purpose (goes position outcome.answer) in
+    let next = follow facts call purpose moment (goes position outcome.answer) in
     record {
       entry = Called n asked moment mark outcome.answer (reply_of next);
       world = record {
@@ -136,46 +138,72 @@ stepped w n facts call purpose position moment mark =
         deleted = counted asked (lost_one w.store outcome.store) w.deleted;
         store = outcome.store;
         parties = with_party n (settled facts call next) w.parties;
+        carried = w.carried;
       };
     }
 
--- a step of a party with no call, or in whose call none is due, is noted idle
+-- a step of a party with no call, or in whose call none is due, is noted idle, and so is one of a party that was stopped
 abbrev pub step_state : World → ℕ → Facts → State → ℤ → Mark → Done
 step_state w n facts Resting moment mark = noted n w
 step_state w n facts (Busy call purpose position) moment mark = if is_due position then stepped w n facts call purpose position moment mark else noted n w
+step_state w n facts Halted moment mark = noted n w
 
--- a start of a party that has a call is noted idle
+-- a start of a party that has a call, or was stopped, is noted idle
 abbrev pub start_state : World → ℕ → Facts → State → Call → Done
 start_state w n facts Resting call =
     let next = begin facts call in
     record { entry = Started n (reply_of next); world = record w { parties = with_party n (settled facts call next) w.parties } }
 start_state w n facts (Busy under purpose position) call = noted n w
+start_state w n facts Halted call = noted n w
+
+-- a party that was stopped
+abbrev pub halted : Facts → Party
+halted facts = record { facts = facts; state = Halted }
+
+-- a stop of a party that was stopped is noted idle
+abbrev pub stop_state : World → ℕ → Facts → State → Done
+stop_state w n facts Halted = noted n w
+stop_state w n facts _ = record { entry = Stopped n; world = record w { parties = with_party n (halted facts) w.parties } }
+
+-- the state in which a start's ids were carried
+abbrev pub carrying : ℕ → Call → World → World
+carrying n call w = record w { carried = with_ids (ids_of n call) w.carried }
 
 abbrev pub open_at : World → ℕ → PartyKind → List ℕ → Option Party → Option Tally → Option Done
 open_at w n kind db None (Some tally) = Some (record { entry = Opened n; world = record w { parties = insert_entry nat_cmp w.parties n (newcomer kind db) } })
 open_at w n kind db _ _ = None
 
+-- whether a party may start a call: its kind has it, and the call's fresh id is one
+abbrev pub may_start : World → Call → Party → Bool
+may_start w call party = has_call party.facts.kind call && not (is_stale w.carried call)
+
 abbrev pub start_at : World → ℕ → Call → Option Party → Option Done
 start_at w n call None = None
-start_at w n call (Some party) = if has_call party.facts.kind call then Some (start_state w n party.facts party.state call) else None
+start_at w n call (Some party) = if may_start w call party then Some (start_state (carrying n call w) n party.facts party.state call) else None
 
 abbrev pub step_at : World → ℕ → ℤ → Mark → Option Party → Option Done
 step_at w n moment mark None = None
 step_at w n moment mark (Some party) = Some (step_state w n party.facts party.state moment mark)
+
+abbrev pub stop_at : World → ℕ → Option Party → Option Done
+stop_at w n None = None
+stop_at w n (Some party) = Some (stop_state w n party.facts party.state)
 
 -- what an event does; none where it is bad
 abbrev pub happens : World → Event → Option Done
 happens w (Open n kind db) = open_at w n kind db (party_of n w.parties) (tally_of db w.tallies)
 happens w (Start n call) = start_at w n call (party_of n w.parties)
 happens w (Step n moment mark) = step_at w n moment mark (party_of n w.parties)
+happens w (Stop n) = stop_at w n (party_of n w.parties)
 
-abbrev pub lacks_call : Call → Option Party → Bool
-lacks_call call None = true
-lacks_call call (Some party) = not (has_call party.facts.kind call)
+abbrev pub refuses_start : World → Call → Option Party → Bool
+refuses_start w call None = true
+refuses_start w call (Some party) = not (has_call party.facts.kind call) || is_stale w.carried call
 
 -- whether an event is bad: it opens a number that was opened before or an unknown database, names an unknown party, or
--- starts a call that the party's kind lacks
+-- starts a call that the party's kind lacks, or one whose fresh id was carried before or comes twice in it
 abbrev pub is_bad : World → Event → Bool
 is_bad w (Open n kind db) = is_some (party_of n w.parties) || is_none (tally_of db w.tallies)
-is_bad w (Start n call) = lacks_call call (party_of n w.parties)
+is_bad w (Start n call) = refuses_start w call (party_of n w.parties)
 is_bad w (Step n moment mark) = is_none (party_of n w.parties)
+is_bad w (Stop n) = is_none (party_of n w.parties)

@@ -2,11 +2,13 @@
 //! the types of a cluster's state that they speak of.
 #![tactic(auto)]
 
+mod carrier;
 mod laws;
 mod party;
 mod position;
 mod tally;
 
+pub use carrier::Carrier;
 pub use laws::bad_events;
 pub use party::{Facts, Party, Purpose, State};
 pub use position::{Ended, Phrase, Position};

@@ -1,7 +1,7 @@
 //! Parties of a cluster.
 
 use crate::position::Position;
-use slate_ids::DbPath;
+use slate_ids::{DbPath, Millis};
 use slate_script::{Call, PartyKind};
 
 /// What is known of a party between its calls.
@@ -18,17 +18,19 @@ pub struct Facts {
 pub enum Purpose {
     /// The latest manifest is read, and the call goes on from it.
     Reading,
-    /// What the call makes of the manifest read is committed.
-    Committing,
+    /// What the call made of the manifest read is committed. It was made at this moment, the one at which the read ended.
+    Committing(Millis),
 }
 
-/// Whether a party has a call.
+/// What a party does.
 #[derive(Debug, Drop)]
 pub enum State {
-    /// It has none.
+    /// It has no call.
     Resting,
-    /// It has this one, which stands here.
+    /// It has this call, which stands here.
     Busy(Call, Purpose, Position),
+    /// It was stopped, and does nothing any more.
+    Halted,
 }
 
 /// A party.
