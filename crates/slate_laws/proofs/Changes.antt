@@ -8,17 +8,17 @@ use Rattle.slate_store.specs.declared.mark.Mark.TheVariants.{Good, Fail, Lost}
 use Rattle.slate_store.specs.declared.object.StoredObject.{StoredObject}
 use Rattle.slate_store.specs.declared.store_call.StoreCall.TheVariants.{PutNew}
 use Rattle.slate_script.specs.declared.event.Event.{Event}
-use Rattle.slate_script.specs.declared.event.Event.TheVariants.{Open, Start, Step}
+use Rattle.slate_script.specs.declared.event.Event.TheVariants.{Open, Start, Step, Stop}
 use Rattle.slate_protocol.specs.ByRows.{party_in}
 use Rattle.slate_protocol.specs.Chains.{Link, Changed}
 use Rattle.slate_protocol.specs.Chains.Changed.{Stays, Gets}
 use Rattle.slate_protocol.specs.Lawful.{HasDb}
-use Rattle.slate_protocol.specs.Logs.{Author, Chain, Chains, chains_stepped, chains_state, chains_at, chains_after}
+use Rattle.slate_protocol.specs.Logs.{Author, Chain, Chains, author_of, chains_stepped, chains_state, chains_at, chains_after}
 use Rattle.slate_protocol.specs.Phrases.{is_due}
 use Rattle.slate_protocol.specs.World.{World, Done, party_of, step_at, happens}
 use Rattle.slate_protocol.specs.declared.party.Party.{Party}
 use Rattle.slate_protocol.specs.declared.party.State.{State}
-use Rattle.slate_protocol.specs.declared.party.State.TheVariants.{Resting, Busy}
+use Rattle.slate_protocol.specs.declared.party.State.TheVariants.{Resting, Busy, Halted}
 use Rattle.slate_laws.proofs.Runs.{StateKnows, Inv, log_after}
 
 -- by a party of this number
@@ -32,17 +32,19 @@ by_party n author c c' e (Gets l a is same grown) = Gets l a is (ap (λ (x : Aut
 step_changes : (w : World) (chains : Chains) (i : Inv w chains) (n : ℕ) (p : Party) (at : party_of n w.parties ≡ Some p) (moment : ℤ) (mark : Mark) (state : State) → StateKnows w.store chains n p.facts state → (d : List ℕ) → HasDb w d
     → Changed (By n) (chains d) (chains_state w n p.facts state moment mark chains d)
 step_changes w chains i n p at moment mark Resting k d h = Stays refl
+step_changes w chains i n p at moment mark Halted k d h = Stays refl
 step_changes w chains i n p at moment mark (Busy call purpose position) k d h =
-    test (is_due position) (by_party n (record { party = n; facts = p.facts; call = call }) (chains d) (chains_stepped w n p.facts call position moment mark chains d) refl (log_after w chains i n p at call purpose position k moment mark d h).changed)
+    test (is_due position) (by_party n (author_of n p.facts call purpose) (chains d) (chains_stepped w n p.facts call purpose position moment mark chains d) refl (log_after w chains i n p at call purpose position k moment mark d h).changed)
   where
-    test : (b : Bool) → Changed (By n) (chains d) (chains_stepped w n p.facts call position moment mark chains d)
-        → Changed (By n) (chains d) ((if b then chains_stepped w n p.facts call position moment mark chains else chains) d)
+    test : (b : Bool) → Changed (By n) (chains d) (chains_stepped w n p.facts call purpose position moment mark chains d)
+        → Changed (By n) (chains d) ((if b then chains_stepped w n p.facts call purpose position moment mark chains else chains) d)
     test true c = c
     test false c = Stays refl
 
 pub event_changes : (w : World) (chains : Chains) (e : Event) → Inv w chains → (d : List ℕ) → HasDb w d → Changed (By (party_in e)) (chains d) (chains_after w e chains d)
 event_changes w chains (Open n kind db) i d h = Stays refl
 event_changes w chains (Start n call) i d h = Stays refl
+event_changes w chains (Stop n) i d h = Stays refl
 event_changes w chains (Step n moment mark) i d h = went (party_of n w.parties) refl
   where
     went : (o : Option Party) → party_of n w.parties ≡ o → Changed (By n) (chains d) (chains_at w n o moment mark chains d)

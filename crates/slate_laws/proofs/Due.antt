@@ -1,5 +1,5 @@
 -- In a call under way a store call is due.
-use Rattle.std.proofs.Common.{◌≡◌, ℕ, nat_le, Bool, true, false, List, Option, Some, None, Result, Ok, Err, refl, sym, ap, ◌∙◌, subst}
+use Rattle.std.proofs.Common.{◌≡◌, ℕ, ℤ, nat_le, Bool, true, false, List, Option, Some, None, Result, Ok, Err, refl, sym, ap, ◌∙◌, subst}
 use Rattle.std.specs.Prelude.{if◌then◌else◌}
 use Rattle.slate_ids.specs.declared.error.SlateDBError.{SlateDBError}
 use Rattle.slate_ids.specs.declared.error.SlateDBError.TheVariants.{TransactionalObjectVersionExists}
@@ -10,15 +10,15 @@ use Rattle.slate_store.specs.declared.object.StoredObject.{StoredObject}
 use Rattle.slate_store.specs.declared.store_answer.StoreAnswer.{StoreAnswer}
 use Rattle.slate_store.specs.declared.store_answer.StoreAnswer.TheVariants.{Found, Got, Created}
 use Rattle.slate_script.specs.declared.call.Call.{Call}
-use Rattle.slate_script.specs.declared.call.Call.TheVariants.{OpenWriter, Flush}
-use Rattle.slate_txn.specs.Boundary.{boundary_got, greatest}
-use Rattle.slate_txn.specs.Commit.{commit_goes, commit_due, created_goes, bounded_goes}
-use Rattle.slate_txn.specs.Read.{read_goes, read_due, listed_goes, got_goes, decoded_goes, boundary_goes}
-use Rattle.slate_txn.specs.declared.commit.CommitPhase.{CommitPhase}
-use Rattle.slate_txn.specs.declared.commit.CommitPhase.TheVariants as committing
-use Rattle.slate_txn.specs.declared.log_kind.LogKind.TheVariants.{Manifest as ManifestLog}
-use Rattle.slate_txn.specs.declared.read.ReadPhase.{ReadPhase}
-use Rattle.slate_txn.specs.declared.read.ReadPhase.TheVariants as reading
+use Rattle.slate_script.specs.declared.call.Call.TheVariants.{OpenWriter, Flush, WriteCheckpoint, ReplaceCheckpoint, RefreshCheckpoint, DeleteCheckpoint}
+use Rattle.slate_log.specs.Boundary.{boundary_got, greatest}
+use Rattle.slate_log.specs.Commit.{commit_goes, commit_due, created_goes, bounded_goes}
+use Rattle.slate_log.specs.Read.{read_goes, read_due, listed_goes, got_goes, decoded_goes, boundary_goes}
+use Rattle.slate_log.specs.declared.commit.CommitPhase.{CommitPhase}
+use Rattle.slate_log.specs.declared.commit.CommitPhase.TheVariants as committing
+use Rattle.slate_log.specs.declared.log_kind.LogKind.TheVariants.{Manifest as ManifestLog}
+use Rattle.slate_log.specs.declared.read.ReadPhase.{ReadPhase}
+use Rattle.slate_log.specs.declared.read.ReadPhase.TheVariants as reading
 use Rattle.slate_protocol.specs.Calls.{Next, Go, Finish, commit_of, commit_next, after_version, after_commit, after_phrase, follow, read_next, once_open, begin}
 use Rattle.slate_protocol.specs.Phrases.{goes, is_due, phrase_due, phrase_goes, read_on, commit_on}
 use Rattle.slate_protocol.specs.declared.party.Facts.{Facts}
@@ -105,29 +105,34 @@ abbrev pub DueNext : Next → Type 0
 DueNext (Go purpose position) = is_due position ≡ true
 DueNext (Finish reply) = Unit {0}
 
-commit_at : (facts : Facts) (call : Call) (n : ℕ) (m : Manifest) (r : Result (CommitPhase Manifest) SlateDBError) → commit_of facts call n m ≡ r → DueNext (commit_next facts r)
-commit_at facts call n m (Ok commit) h = ap (λ (c : CommitPhase Manifest). commit_due c) (call_made facts call n m commit h).prepared.is
-commit_at facts call n m (Err e) h = tt
+commit_at : (facts : Facts) (call : Call) (now : ℤ) (n : ℕ) (m : Manifest) (r : Result (Option (CommitPhase Manifest)) SlateDBError) → commit_of facts call now n m ≡ r → DueNext (commit_next facts call now m r)
+commit_at facts call now n m (Ok (Some commit)) h = ap (λ (c : CommitPhase Manifest). commit_due c) (call_made facts call now n m commit h).prepared.is
+commit_at facts call now n m (Ok None) h = tt
+commit_at facts call now n m (Err e) h = tt
 
-phrase_next : (facts : Facts) (call : Call) (purpose : Purpose) (ended : Ended) → DueNext (after_phrase facts call purpose ended)
-phrase_next facts call purpose NoVersion = tt
-phrase_next facts call Reading (Version n m) = commit_at facts call n m (commit_of facts call n m) refl
-phrase_next facts call Committing (Version n m) = tt
-phrase_next facts call Reading (Committed n m) = tt
-phrase_next facts call Committing (Committed n m) = tt
+phrase_next : (facts : Facts) (call : Call) (purpose : Purpose) (now : ℤ) (ended : Ended) → DueNext (after_phrase facts call purpose now ended)
+phrase_next facts call purpose now NoVersion = tt
+phrase_next facts call Reading now (Version n m) = commit_at facts call now n m (commit_of facts call now n m) refl
+phrase_next facts call (Committing made) now (Version n m) = tt
+phrase_next facts call Reading now (Committed n m) = tt
+phrase_next facts call (Committing made) now (Committed n m) = tt
 
-follow_at : (facts : Facts) (call : Call) (purpose : Purpose) (g : Goes Position Ended) → PositionAt g → DueNext (follow facts call purpose g)
-follow_at facts call purpose (Stay position) h = h
-follow_at facts call purpose (End position (Ok ended)) h = phrase_next facts call purpose ended
-follow_at facts call purpose (End position (Err e)) h = tt
+follow_at : (facts : Facts) (call : Call) (purpose : Purpose) (now : ℤ) (g : Goes Position Ended) → PositionAt g → DueNext (follow facts call purpose now g)
+follow_at facts call purpose now (Stay position) h = h
+follow_at facts call purpose now (End position (Ok ended)) h = phrase_next facts call purpose now ended
+follow_at facts call purpose now (End position (Err e)) h = tt
 
-pub follow_due : (facts : Facts) (call : Call) (purpose : Purpose) (position : Position) (answer : StoreAnswer) → DueNext (follow facts call purpose (goes position answer))
-follow_due facts call purpose position answer = follow_at facts call purpose (goes position answer) (phrase_at position.db position.phrase answer)
+pub follow_due : (facts : Facts) (call : Call) (purpose : Purpose) (now : ℤ) (position : Position) (answer : StoreAnswer) → DueNext (follow facts call purpose now (goes position answer))
+follow_due facts call purpose now position answer = follow_at facts call purpose now (goes position answer) (phrase_at position.db position.phrase answer)
 
 open_due : (facts : Facts) (epoch : Option ℕ) → DueNext (once_open epoch (read_next facts))
 open_due facts None = tt
 open_due facts (Some e) = refl
 
 pub begin_due : (facts : Facts) (call : Call) → DueNext (begin facts call)
-begin_due facts OpenWriter = refl
 begin_due facts (Flush seq tick) = open_due facts facts.epoch
+begin_due facts OpenWriter = refl
+begin_due facts (WriteCheckpoint id lifetime source name) = refl
+begin_due facts (ReplaceCheckpoint old id lifetime source name) = refl
+begin_due facts (RefreshCheckpoint id lifetime) = refl
+begin_due facts (DeleteCheckpoint id) = refl

@@ -6,7 +6,7 @@ use Rattle.slate_ids.specs.declared.error.SlateDBError.TheVariants.{Fenced}
 use Rattle.slate_model.specs.Epochs.{with_writer_epoch}
 use Rattle.slate_model.specs.declared.manifest.Manifest.{Manifest}
 use Rattle.slate_script.specs.declared.call.Call.{Call}
-use Rattle.slate_script.specs.declared.call.Call.TheVariants.{OpenWriter, Flush}
+use Rattle.slate_script.specs.declared.call.Call.TheVariants.{OpenWriter, Flush, WriteCheckpoint, ReplaceCheckpoint, RefreshCheckpoint, DeleteCheckpoint}
 use Rattle.slate_txn.specs.Fencing.{fence}
 use Rattle.slate_protocol.specs.Calls.{new_value, right_of, fenced, fence_of}
 use Rattle.slate_protocol.specs.Chains.{Link, link_at, IsChain, Follows, IsFirst}
@@ -43,6 +43,10 @@ epochs_rise n u l (m ∷ c) h at =
 
 -- the epoch of the author is not below the epoch of the version before
 author_above : (facts : Facts) (call : Call) (old new : Manifest) (epoch : ℕ) → fence_of facts call old ≡ None → old.writer_epoch ≤ new.writer_epoch → epoch_in facts call new ≡ Some epoch → old.writer_epoch ≤ epoch
+author_above facts (WriteCheckpoint id lifetime source name) old new epoch passed up h = absurd cc
+author_above facts (ReplaceCheckpoint replaced id lifetime source name) old new epoch passed up h = absurd cc
+author_above facts (RefreshCheckpoint id lifetime) old new epoch passed up h = absurd cc
+author_above facts (DeleteCheckpoint id) old new epoch passed up h = absurd cc
 author_above facts OpenWriter old new epoch passed up h = let same : new.writer_epoch ≡ epoch = cc in omega arith
 author_above facts (Flush seq tick) old new epoch passed up h = by_epoch facts.epoch passed h
   where

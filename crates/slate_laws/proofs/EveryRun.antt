@@ -3,14 +3,15 @@ use Rattle.std.proofs.Common.{◌≡◌, ℕ, ◌<◌, ◌≤◌, ◌^◌, true,
 use Rattle.slate_script.specs.declared.db_spec.DbSpec.{DbSpec}
 use Rattle.slate_script.specs.declared.event.Event.{Event}
 use Rattle.slate_store.specs.Store.{Store, object_at}
-use Rattle.slate_txn.specs.Boundary.{boundary_got}
-use Rattle.slate_txn.specs.LogPaths.{boundary_path}
-use Rattle.slate_txn.specs.declared.log_kind.LogKind.TheVariants.{Manifest as ManifestLog}
+use Rattle.slate_log.specs.Boundary.{boundary_got}
+use Rattle.slate_log.specs.LogPaths.{boundary_path}
+use Rattle.slate_log.specs.declared.log_kind.LogKind.TheVariants.{Manifest as ManifestLog}
 use Rattle.slate_protocol.specs.ByRows.{nobody, trail_by}
 use Rattle.slate_protocol.specs.Chains.{top, Stands}
 use Rattle.slate_protocol.specs.Lawful.{IsAccepted, HasDb, chains_at_end, IsRun, IsLawful, Lawful}
 use Rattle.slate_protocol.specs.Logs.{Chain, Chains, manifests, world_after, chains_of, opening_chains}
-use Rattle.slate_protocol.specs.Runs.{Course, opening, opening_world, run}
+use Rattle.slate_protocol.specs.Runs.{Course, opening, run}
+use Rattle.slate_protocol.specs.Specs.{opening_world}
 use Rattle.slate_protocol.specs.Trails.{numbered, store_of, told}
 use Rattle.slate_protocol.specs.World.{World, party_of}
 use Rattle.slate_laws.proofs.Facts.{bound_in, IsSound}
@@ -25,10 +26,8 @@ use Rattle.slate_laws.proofs.Trails.{Tells, RunTells, run_tells}
 pub after_inv : (specs : List DbSpec) (events : List Event) → IsAccepted specs → Inv (world_after events (opening_world specs)) (chains_at_end specs events)
 after_inv specs events accepted = run_inv events (opening_world specs) (opening_chains specs) (opening_inv specs accepted)
 
-none_come : (specs : List DbSpec) → IsAccepted specs → AllMatch nobody (opening_world specs)
-none_come [] h n = absurd h
-none_come (spec ∷ []) h n = tt
-none_come (spec ∷ other ∷ specs) h n = absurd h
+none_come : (specs : List DbSpec) → AllMatch nobody (opening_world specs)
+none_come specs n = tt
 
 pub course_inv : (course : Course) (past : IsRun course) → Inv course.world (chains_at_end course.specs past.events)
 course_inv course past =
@@ -49,8 +48,8 @@ log_lawful course db chains i has =
 
 pub lawful : (course : Course) → IsRun course → Lawful course
 lawful course past =
-    let rows = rows_run past.events 0 (opening course.specs) course nobody (none_come course.specs past.accepted) past.run in
-    let tells = run_tells past.events 0 (opening course.specs) course nobody (λ d. map numbered (opening_chains course.specs d)) (opening_chains course.specs) (none_come course.specs past.accepted) (λ d. refl) past.run in
+    let rows = rows_run past.events 0 (opening course.specs) course nobody (none_come course.specs) past.run in
+    let tells = run_tells past.events 0 (opening course.specs) course nobody (λ d. map numbered (opening_chains course.specs d)) (opening_chains course.specs) (none_come course.specs) (λ d. refl) past.run in
     record {
       past = past;
       rows = rows;

@@ -3,13 +3,13 @@ use Rattle.std.proofs.Common.{◌≡◌, ℕ, ◌+◌, ◌<◌, ◌≤◌, ◌^�
 use Rattle.slate_ids.specs.declared.error.SlateDBError.{SlateDBError}
 use Rattle.slate_store.specs.Machines.{Goes, Stay, End}
 use Rattle.slate_store.specs.Store.{Store, object_at}
-use Rattle.slate_txn.specs.Boundary.{boundary_got}
-use Rattle.slate_txn.specs.LogPaths.{version_path, boundary_path}
-use Rattle.slate_txn.specs.declared.commit.CommitPhase.{CommitPhase}
-use Rattle.slate_txn.specs.declared.commit.CommitPhase.TheVariants as committing
-use Rattle.slate_txn.specs.declared.read.ReadPhase.{ReadPhase}
-use Rattle.slate_txn.specs.declared.read.ReadPhase.TheVariants as reading
-use Rattle.slate_txn.specs.declared.right.Right.{Right}
+use Rattle.slate_log.specs.Boundary.{boundary_got}
+use Rattle.slate_log.specs.LogPaths.{version_path, boundary_path}
+use Rattle.slate_log.specs.declared.commit.CommitPhase.{CommitPhase}
+use Rattle.slate_log.specs.declared.commit.CommitPhase.TheVariants as committing
+use Rattle.slate_log.specs.declared.read.ReadPhase.{ReadPhase}
+use Rattle.slate_log.specs.declared.read.ReadPhase.TheVariants as reading
+use Rattle.slate_log.specs.declared.right.Right.{Right}
 use Rattle.slate_protocol.specs.Chains.{Link, Log, link_at, top, IsChain, Stands}
 
 -- what is read back of a value, and the rules on it
@@ -47,7 +47,7 @@ pub record IsNext {V A : Type 0} (log : Log V A) (c : List (Link V A)) (author :
   pub at : link_at old.number c ≡ Some old
   pub number : n ≡ old.number + 1
   pub small : n < 2 ^ 64
-  pub made : v ≡ log.makes author old.value
+  pub made : log.makes author old.number old.value ≡ Ok (Some v)
   pub encodes : log.encoded v ≡ Ok bytes
   pub lawful : log.refusal old.number old.value v (log.right author) ≡ None
   pub passed : log.fence author old.value ≡ None

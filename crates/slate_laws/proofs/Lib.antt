@@ -17,6 +17,7 @@ pub mod Due
 pub mod Rows
 pub mod Trails
 pub mod GoingOn
+pub mod Beginnings
 pub mod Opening
 pub mod EveryRun
 pub mod Listed

@@ -79,6 +79,6 @@ module _ {V A : Type 0} (log : Log V A) where
   decodes laws n l (new ∷ old ∷ c) h at =
       ⊎_elim
       (λ (e : new.number ≡ n). let same : new ≡ l = cc (link_here n new (old ∷ c) e, at) in
-      subst (λ (k : Link V A). log.decoded k.bytes ≡ Ok k.value) same (laws.round (log.makes h.0.author old.value) new.bytes h.0.bytes ∙ ap (λ (v : V). Ok v) (sym h.0.value)))
+      subst (λ (k : Link V A). log.decoded k.bytes ≡ Ok k.value) same (laws.round h.0.made new.bytes h.0.bytes ∙ ap (λ (v : V). Ok v) (sym h.0.value)))
       (λ (ne : new.number ≢ n). decodes laws n l (old ∷ c) h.1 (sym (link_there n new (old ∷ c) ne) ∙ at))
       (same_or_not new.number n)

@@ -14,10 +14,10 @@ use Rattle.slate_store.specs.Store.{Store, object_at, metadata, listed}
 use Rattle.slate_store.specs.declared.list_dir.ListDir.TheVariants.{Manifests}
 use Rattle.slate_store.specs.declared.object.ObjectMetadata.{ObjectMetadata}
 use Rattle.slate_store.specs.declared.object.StoredObject.{StoredObject}
-use Rattle.slate_txn.specs.Boundary.{greater, greatest_from, greatest}
-use Rattle.slate_txn.specs.LogPaths.{number_of, version_path}
-use Rattle.slate_txn.specs.declared.log_kind.LogKind.{LogKind}
-use Rattle.slate_txn.specs.declared.log_kind.LogKind.TheVariants.{Manifest as ManifestLog}
+use Rattle.slate_log.specs.Boundary.{greater, greatest_from, greatest}
+use Rattle.slate_log.specs.LogPaths.{number_of, version_path}
+use Rattle.slate_log.specs.declared.log_kind.LogKind.{LogKind}
+use Rattle.slate_log.specs.declared.log_kind.LogKind.TheVariants.{Manifest as ManifestLog}
 use Rattle.slate_protocol.specs.Chains.{Link, link_at, top, bytes_of, link_bytes}
 use Rattle.slate_protocol.specs.Logs.{Author, Chain, manifests}
 use Rattle.slate_laws.proofs.Stores.{IsTidy, same_bytes, bytes_same, same_found}

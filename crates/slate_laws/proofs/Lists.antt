@@ -8,10 +8,10 @@ use Rattle.slate_store.specs.Store.{Store, metadata, listed}
 use Rattle.slate_store.specs.declared.list_dir.ListDir.{ListDir}
 use Rattle.slate_store.specs.declared.object.ObjectMetadata.{ObjectMetadata}
 use Rattle.slate_store.specs.declared.object.StoredObject.{StoredObject}
-use Rattle.slate_txn.specs.Boundary.{greater, greatest_from, greatest}
-use Rattle.slate_txn.specs.LogPaths.{number_of}
-use Rattle.slate_txn.specs.declared.log_kind.LogKind.{LogKind}
-use Rattle.slate_txn.specs.declared.log_kind.LogKind.TheVariants.{Manifest, Compactions}
+use Rattle.slate_log.specs.Boundary.{greater, greatest_from, greatest}
+use Rattle.slate_log.specs.LogPaths.{number_of}
+use Rattle.slate_log.specs.declared.log_kind.LogKind.{LogKind}
+use Rattle.slate_log.specs.declared.log_kind.LogKind.TheVariants.{Manifest, Compactions}
 use Rattle.slate_laws.proofs.Stores.{IsTidy}
 
 abbrev pub EachNumber : (ℕ → Type 0) → LogKind → List ObjectMetadata → Type 0

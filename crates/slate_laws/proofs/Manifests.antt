@@ -1,23 +1,26 @@
 -- The log of manifests: what its codec and its rules give, and what each call commits.
-use Rattle.std.proofs.Common.{◌≡◌, ℕ, ◌+◌, ◌-◌, ◌^◌, ◌==◌, ◌<◌, ◌≤◌, nat_lt, Bool, true, false, List, Option, Some, None, Result, Ok, Err, refl, sym, ap, ◌∙◌, subst, arith}
+use Rattle.std.proofs.Common.{◌≡◌, ℕ, ℤ, ◌+◌, ◌-◌, ◌^◌, ◌==◌, ◌<◌, ◌≤◌, nat_lt, Bool, true, false, List, [], ◌∷◌, map, Option, Some, None, Result, Ok, Err, refl, sym, ap, ◌∙◌, subst, arith}
 use Rattle.std.proofs.lemmas.Bool.Decides.{nat_tests}
-use Rattle.std.specs.Prelude.{if◌then◌else◌, ◌||◌}
+use Rattle.std.specs.Prelude.{if◌then◌else◌, ◌||◌, ◌&&◌}
+use Rattle.std.specs.List.{list_all}
 use Rattle.slate_ids.specs.declared.error.SlateDBError.{SlateDBError}
 use Rattle.slate_ids.specs.declared.error.SlateDBError.TheVariants.{Exhausted}
 use Rattle.slate_ids.specs.declared.error.UpdateRule.{UpdateRule}
-use Rattle.slate_ids.specs.declared.error.UpdateRule.TheVariants.{U1}
+use Rattle.slate_ids.specs.declared.error.UpdateRule.TheVariants.{U1, U2}
 use Rattle.slate_model.specs.Codec.{encoded}
-use Rattle.slate_model.specs.Epochs.{with_writer_epoch}
+use Rattle.slate_model.specs.Checkpoints.{is_named}
 use Rattle.slate_model.specs.Laws.{round_trip}
-use Rattle.slate_model.specs.Lawful.{falls, refusal_of_update}
+use Rattle.slate_model.specs.Lawful.{falls, names_known, refusal_of_update}
+use Rattle.slate_model.specs.Normal.{normal, normal_checkpoint}
+use Rattle.slate_model.specs.declared.checkpoint.Checkpoint.{Checkpoint}
 use Rattle.slate_model.specs.declared.manifest.Manifest.{Manifest}
 use Rattle.slate_script.specs.declared.call.Call.{Call}
-use Rattle.slate_script.specs.declared.call.Call.TheVariants.{OpenWriter, Flush}
-use Rattle.slate_txn.specs.Commit.{prepared, checked_commit, encoded_commit}
-use Rattle.slate_txn.specs.declared.commit.CommitPhase.{CommitPhase}
-use Rattle.slate_txn.specs.declared.commit.CommitPhase.TheVariants.{Putting}
-use Rattle.slate_txn.specs.declared.right.Right.{Right}
-use Rattle.slate_txn.specs.declared.right.Right.TheVariants.{Plain}
+use Rattle.slate_log.specs.Commit.{prepared, checked_commit, encoded_commit}
+use Rattle.slate_log.specs.declared.commit.CommitPhase.{CommitPhase}
+use Rattle.slate_log.specs.declared.commit.CommitPhase.TheVariants.{Putting}
+use Rattle.slate_log.specs.declared.right.Right.{Right}
+use Rattle.slate_log.specs.declared.right.Right.TheVariants.{Plain}
+use Rattle.slate_txn.specs.Apply.{renewed, wanted, some_commit}
 use Rattle.slate_txn.specs.FencedUpdating.{unless}
 use Rattle.slate_protocol.specs.Calls.{new_value, right_of, fence_of, commit_of}
 use Rattle.slate_protocol.specs.Logs.{manifests}
@@ -25,8 +28,17 @@ use Rattle.slate_protocol.specs.Manifests.{refused_by, manifest_refusal}
 use Rattle.slate_protocol.specs.declared.party.Facts.{Facts}
 use Rattle.slate_laws.proofs.Facts.{IsLog}
 
+-- the rules look at no moment, so what is read back keeps them
+names_normal : (n : ℕ) (old : Manifest) (cs : List Checkpoint)
+    → list_all (λ c. c.manifest_id == n + 1 || is_named c.manifest_id old.checkpoints) (map normal_checkpoint cs) ≡ list_all (λ c. c.manifest_id == n + 1 || is_named c.manifest_id old.checkpoints) cs
+names_normal n old [] = refl
+names_normal n old (c ∷ cs) = ap (λ (b : Bool). (c.manifest_id == n + 1 || is_named c.manifest_id old.checkpoints) && b) (names_normal n old cs)
+
+refusal_normal : (n : ℕ) (old m : Manifest) (right : Right) → manifest_refusal n old (normal m) right ≡ manifest_refusal n old m right
+refusal_normal n old m right = ap (λ (b : Bool). refused_by (if falls old m then Some U1 else (if b then None else Some U2))) (names_normal n old m.checkpoints)
+
 pub manifests_log : IsLog manifests
-manifests_log = record { round = λ m bytes h. round_trip m bytes h; plain = λ n old m right h. h }
+manifests_log = record { round = λ m bytes h. round_trip m bytes h; plain = λ n old m right h. refusal_normal n old m right ∙ h }
 
 -- what a prepared commit puts
 pub record IsPrepared {V : Type 0} (refusal : ℕ → V → V → Right → Option SlateDBError) (encoded : V → Result (List ℕ) SlateDBError) (n : ℕ) (old new : V) (right : Right) (commit : CommitPhase V) : Type 0 where
@@ -52,25 +64,33 @@ module _ {V : Type 0} (refusal : ℕ → V → V → Right → Option SlateDBErr
   pub is_prepared : prepared refusal encoded n old new right ≡ Ok commit → IsPrepared refusal encoded n old new right commit
   is_prepared h = by_room (n == 2 ^ 64 - 1) refl h
 
--- what a call commits: what it makes of the manifest read, where its fence lets it
-pub record IsMade (facts : Facts) (call : Call) (n : ℕ) (m : Manifest) (commit : CommitPhase Manifest) : Type 0 where
-  pub prepared : IsPrepared manifest_refusal encoded n m (new_value call m) (right_of call) commit
+-- what a call commits: what it makes of the version read, where its fence lets it
+pub record IsMade (facts : Facts) (call : Call) (now : ℤ) (n : ℕ) (m : Manifest) (commit : CommitPhase Manifest) : Type 0 where
+  pub new : Manifest
+  pub makes : new_value call now n m ≡ Ok (Some new)
+  pub prepared : IsPrepared manifest_refusal encoded n m new (right_of call) commit
   pub passed : fence_of facts call m ≡ None
 
-open_made : (facts : Facts) (n : ℕ) (m : Manifest) (commit : CommitPhase Manifest) (b : Bool)
-    → (let r : Result (CommitPhase Manifest) SlateDBError = if b then Err (Exhausted m.writer_epoch) else prepared manifest_refusal encoded n m (with_writer_epoch m (m.writer_epoch + 1)) Plain in r) ≡ Ok commit
-    → IsMade facts OpenWriter n m commit
-open_made facts n m commit true h = absurd cc
-open_made facts n m commit false h = record { prepared = is_prepared manifest_refusal encoded n m (with_writer_epoch m (m.writer_epoch + 1)) Plain commit h; passed = refl }
+module _ (facts : Facts) (call : Call) (now : ℤ) (n : ℕ) (m : Manifest) (commit : CommitPhase Manifest) where
+  made_of : (new : Manifest) → new_value call now n m ≡ Ok (Some new) → fence_of facts call m ≡ None → (r : Result (CommitPhase Manifest) SlateDBError) → prepared manifest_refusal encoded n m new (right_of call) ≡ r
+      → some_commit r ≡ Ok (Some commit) → IsMade facts call now n m commit
+  made_of new makes passed (Ok c) is h =
+      let same : c ≡ commit = cc in
+      record { new = new; makes = makes; prepared = is_prepared manifest_refusal encoded n m new (right_of call) commit (is ∙ ap (λ (x : CommitPhase Manifest). Ok x) same); passed = passed }
+  made_of new makes passed (Err e) is h = absurd cc
 
-fenced_made : (facts : Facts) (call : Call) (n : ℕ) (m : Manifest) (commit : CommitPhase Manifest) (o : Option SlateDBError) → fence_of facts call m ≡ o
-    → unless o (prepared manifest_refusal encoded n m (new_value call m) (right_of call)) ≡ Ok commit → IsMade facts call n m commit
-fenced_made facts call n m commit (Some e) is h = absurd cc
-fenced_made facts call n m commit None is h = record { prepared = is_prepared manifest_refusal encoded n m (new_value call m) (right_of call) commit h; passed = is }
+  by_value : (r : Result (Option Manifest) SlateDBError) → new_value call now n m ≡ r → fence_of facts call m ≡ None → wanted (λ (new : Manifest). prepared manifest_refusal encoded n m new (right_of call)) r ≡ Ok (Some commit)
+      → IsMade facts call now n m commit
+  by_value (Ok (Some new)) is passed h = made_of new is passed (prepared manifest_refusal encoded n m new (right_of call)) refl h
+  by_value (Ok None) is passed h = absurd cc
+  by_value (Err e) is passed h = absurd cc
 
-pub call_made : (facts : Facts) (call : Call) (n : ℕ) (m : Manifest) (commit : CommitPhase Manifest) → commit_of facts call n m ≡ Ok commit → IsMade facts call n m commit
-call_made facts OpenWriter n m commit h = open_made facts n m commit (m.writer_epoch == 2 ^ 64 - 1) h
-call_made facts (Flush seq tick) n m commit h = fenced_made facts (Flush seq tick) n m commit (fence_of facts (Flush seq tick) m) refl h
+  by_fence : (o : Option SlateDBError) → fence_of facts call m ≡ o → unless o (renewed (new_value call now) manifest_refusal encoded (right_of call) n m) ≡ Ok (Some commit) → IsMade facts call now n m commit
+  by_fence (Some e) is h = absurd cc
+  by_fence None is h = by_value (new_value call now n m) refl is h
+
+  pub call_made : commit_of facts call now n m ≡ Ok (Some commit) → IsMade facts call now n m commit
+  call_made h = by_fence (fence_of facts call m) refl h
 
 -- the rules let no writer epoch fall
 pub epoch_rises : (old new : Manifest) (n : ℕ) (right : Right) → manifest_refusal n old new right ≡ None → old.writer_epoch ≤ new.writer_epoch
@@ -79,6 +99,6 @@ epoch_rises old new n right h = by_rule (falls old new) refl h
     no_fall : (x y : ℕ) (a b : Bool) → (nat_lt x y || a || b) ≡ false → y ≤ x
     no_fall x y a b h = grind (arith, nat_tests)
 
-    by_rule : (b : Bool) → falls old new ≡ b → refused_by (if b then Some U1 else None) ≡ None → old.writer_epoch ≤ new.writer_epoch
+    by_rule : (b : Bool) → falls old new ≡ b → refused_by (if b then Some U1 else (if names_known n old new then None else Some U2)) ≡ None → old.writer_epoch ≤ new.writer_epoch
     by_rule true is h = absurd cc
     by_rule false is h = no_fall new.writer_epoch old.writer_epoch (nat_lt new.compactor_epoch old.compactor_epoch) (nat_lt new.floor old.floor) is

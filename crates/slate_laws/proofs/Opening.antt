@@ -1,107 +1,182 @@
 -- What holds as a run begins.
-use Rattle.std.proofs.Common.{◌≡◌, ◌≢◌, ℕ, ◌+◌, ◌<◌, ◌≤◌, ◌^◌, ◌==◌, Bool, true, false, List, [], ◌∷◌, Option, Some, None, is_some, Result, Ok, Err, ◌⊎◌, ⊎_elim, refl, sym, ap, ◌∙◌, subst, cond, arith}
-use Rattle.std.specs.Prelude.{bytes_eq, if◌then◌else◌}
-use Rattle.std.specs.BTreeMap.{is_at}
+use Rattle.std.proofs.Common.{◌≡◌, ◌≢◌, ℕ, ◌+◌, ◌<◌, ◌≤◌, ◌^◌, ◌==◌, Bool, true, false, List, [], ◌∷◌, Option, Some, None, is_some, Result, Ok, Err, ◌⊎◌, ⊎_elim, refl, sym, ap, ◌∙◌, subst, arith}
+use Rattle.std.specs.Prelude.{bytes_eq, if◌then◌else◌, not}
+use Rattle.std.specs.List.{list_any}
 use Rattle.slate_ids.specs.Ids.{is_db_path}
-use Rattle.slate_ids.specs.PathText.{path_cmp}
-use Rattle.slate_ids.specs.declared.object_path.ObjectPath.TheVariants as paths
-use Rattle.slate_model.specs.Bytes.{manifest_bytes}
+use Rattle.slate_ids.specs.PathText.{path_text}
+use Rattle.slate_ids.specs.declared.error.SlateDBError.{SlateDBError}
+use Rattle.slate_ids.specs.declared.object_path.ObjectPath.{ObjectPath}
+use Rattle.slate_log.specs.Boundary.{boundary_got}
+use Rattle.slate_log.specs.LogPaths.{version_path, boundary_path}
+use Rattle.slate_log.specs.declared.log_kind.LogKind.TheVariants.{Manifest as ManifestLog}
 use Rattle.slate_model.specs.Codec.{encoded, decoded}
-use Rattle.slate_model.specs.Initial.{initial}
-use Rattle.slate_model.specs.Laws.{round_trip}
+use Rattle.slate_model.specs.Laws.{round_trip, normal_is}
+use Rattle.slate_model.specs.Normal.{normal, is_normal}
 use Rattle.slate_model.specs.declared.manifest.Manifest.{Manifest}
+use Rattle.slate_script.specs.declared.cluster_cause.ClusterCause.{ClusterCause}
+use Rattle.slate_script.specs.declared.cluster_cause.ClusterCause.TheVariants as cause
 use Rattle.slate_script.specs.declared.db_spec.DbSpec.{DbSpec}
 use Rattle.slate_store.specs.Store.{Store, object_at}
 use Rattle.slate_store.specs.declared.object.StoredObject.{StoredObject}
-use Rattle.slate_txn.specs.Boundary.{boundary_got}
-use Rattle.slate_txn.specs.LogPaths.{version_path, boundary_path}
-use Rattle.slate_txn.specs.declared.log_kind.LogKind.TheVariants.{Manifest as ManifestLog}
-use Rattle.slate_protocol.specs.Chains.{Link, link_at, bytes_of, link_bytes, Stands}
+use Rattle.slate_protocol.specs.Chains.{Link, link_at, top, bytes_of, link_bytes, Stands}
+use Rattle.slate_protocol.specs.Ids.{Carried}
 use Rattle.slate_protocol.specs.Lawful.{IsAccepted, HasDb}
-use Rattle.slate_protocol.specs.Logs.{Author, Chain, manifests, opening_link, opening_chains}
-use Rattle.slate_protocol.specs.Runs.{opening_of, opening_world}
-use Rattle.slate_protocol.specs.World.{World, db_cmp, tally_of}
+use Rattle.slate_protocol.specs.Logs.{Chain, manifests, opening_link, opening_chains}
+use Rattle.slate_protocol.specs.Specs.{First, first_tally, tallies_from, carried_from, bytes_where, first_bytes, firsts_from, names_other, cause_of_specs, listed_or_none, no_objects, store_from, opening_world}
+use Rattle.slate_protocol.specs.World.{World, tally_of}
 use Rattle.slate_protocol.specs.declared.tally.Tally.{Tally}
-use Rattle.slate_laws.proofs.Stores.{bytes_same, finds, passes_by}
-use Rattle.slate_laws.proofs.Maps.{name_order}
-use Rattle.slate_laws.proofs.Links.{same_or_not, link_here, link_there}
+use Rattle.slate_laws.proofs.Beginnings.{spec_of, AllNamed, tally_for, tallies_found, first_of, first_for, firsts_found, firsts_else, last_at, IsFound, spec_found, bytes_found, store_found, firsts_fine, store_tidy}
 use Rattle.slate_laws.proofs.Facts.{bound_in, IsSound}
-use Rattle.slate_laws.proofs.Paths.{versions_apart, boundary_apart}
+use Rattle.slate_laws.proofs.Links.{same_or_not, link_here, link_there}
+use Rattle.slate_laws.proofs.Paths.{versions_apart, boundary_apart, manifest_elsewhere}
 use Rattle.slate_laws.proofs.Runs.{Inv}
+use Rattle.slate_laws.proofs.Stores.{same_name}
 
--- the bytes of the first manifest are read back
-first_read : decoded (manifest_bytes initial) ≡ Ok initial
-first_read = round_trip initial (manifest_bytes initial) refl
+-- what accepted databases are made of
+record Parts (specs : List DbSpec) : Type 0 where
+  pub tallies : List (List ℕ × Tally)
+  pub tallied : tallies_from [] specs ≡ Some tallies
+  pub objects : List (ObjectPath × First)
+  pub written : firsts_from [] specs ≡ Some objects
 
-module _ (spec : DbSpec) (new : spec.manifest ≡ initial) (named : is_db_path spec.path ≡ true) where
-  abbrev db : List ℕ
-  db = spec.path
+parts_of : (specs : List DbSpec) → cause_of_specs specs ≡ None → Parts specs
+parts_of specs h = by_tallies (tallies_from [] specs) (carried_from [] specs) (firsts_from [] specs) refl refl h
+  where
+    by_tallies : (t : Option (List (List ℕ × Tally))) (c : Option Carried) (o : Option (List (ObjectPath × First))) → tallies_from [] specs ≡ t → firsts_from [] specs ≡ o
+        → (if not (is_some t) then Some cause.Path else (if not (is_some c) then Some cause.Ids else (if not (is_some o) then Some cause.Value else (if list_any names_other specs then Some cause.Checkpoints else None)))) ≡ None
+        → Parts specs
+    by_tallies (Some t) (Some c) (Some o) is_t is_o h = record { tallies = t; tallied = is_t; objects = o; written = is_o }
+    by_tallies None c o is_t is_o h = absurd cc
+    by_tallies (Some t) None o is_t is_o h = absurd cc
+    by_tallies (Some t) (Some c) None is_t is_o h = absurd cc
 
+-- the bytes of a first manifest are read back
+first_read : (m : Manifest) (bytes : List ℕ) → first_bytes m ≡ Some bytes → decoded bytes ≡ Ok m
+first_read m bytes h = by_bytes (encoded m) refl (is_normal m) refl h
+  where
+    by_bytes : (r : Result (List ℕ) SlateDBError) → encoded m ≡ r → (b : Bool) → is_normal m ≡ b → bytes_where b r ≡ Some bytes → decoded bytes ≡ Ok m
+    by_bytes (Ok l) is true normal_m h =
+        let same : l ≡ bytes = cc in
+        round_trip m bytes (is ∙ ap (λ (x : List ℕ). Ok x) same) ∙ ap (λ (x : Manifest). Ok x) (normal_is m normal_m)
+    by_bytes (Ok l) is false normal_m h = absurd cc
+    by_bytes (Err e) is b normal_m h = absurd cc
+
+abbrev chain_for : Option DbSpec → Chain
+chain_for None = []
+chain_for (Some spec) = opening_link spec ∷ []
+
+chains_are : (d : List ℕ) (specs : List DbSpec) → opening_chains specs d ≡ chain_for (spec_of d specs)
+chains_are d [] = refl
+chains_are d (spec ∷ specs) = test (bytes_eq d spec.path) (chains_are d specs)
+  where
+    test : (b : Bool) → opening_chains specs d ≡ chain_for (spec_of d specs) → (if b then opening_link spec ∷ [] else opening_chains specs d) ≡ chain_for (if b then Some spec else spec_of d specs)
+    test true h = refl
+    test false h = h
+
+no_bytes_there : (o : Option StoredObject) → bytes_of o ≡ None → o ≡ None
+no_bytes_there None h = refl
+no_bytes_there (Some object) h = absurd cc
+
+module _ (specs : List DbSpec) (accepted : IsAccepted specs) where
   abbrev w : World
-  w = opening_of spec
+  w = opening_world specs
 
-  abbrev object : StoredObject
-  object = record { bytes = manifest_bytes spec.manifest; last_modified = spec.modified; e_tag = 1 }
+  parts : Parts specs
+  parts = parts_of specs accepted.accepted
 
-  abbrev chain : Chain
-  chain = opening_link spec ∷ []
+  names : AllNamed specs
+  names = accepted.named
 
-  -- the one database
-  one_db : (d : List ℕ) → HasDb w d → d ≡ db
-  one_db d h = test (is_at (db_cmp d) db) refl h
+  tallies_are : w.tallies ≡ parts.tallies
+  tallies_are = ap listed_or_none parts.tallied
+
+  store_is : w.store ≡ store_from no_objects parts.objects
+  store_is = ap (λ (o : Option (List (ObjectPath × First))). store_from no_objects (listed_or_none o)) parts.written
+
+  tally_is : (d : List ℕ) → tally_of d w.tallies ≡ tally_for (spec_of d specs) None
+  tally_is d = ap (tally_of d) tallies_are ∙ tallies_found d [] specs parts.tallies parts.tallied
+
+  bytes_at : (p : ObjectPath) → bytes_of (object_at p w.store) ≡ bytes_found (last_at p parts.objects) None
+  bytes_at p = ap (λ (s : Store). bytes_of (object_at p s)) store_is ∙ store_found p no_objects parts.objects
+
+  -- what is known of a database of the cluster
+  record Known (d : List ℕ) : Type 0 where
+    pub spec : DbSpec
+    pub at : spec_of d specs ≡ Some spec
+    pub found : IsFound d spec
+
+  known : (d : List ℕ) → HasDb w d → Known d
+  known d h = by_spec (spec_of d specs) refl
     where
-      test : (b : Bool) → is_at (db_cmp d) db ≡ b → is_some (cond b (Some (let t : Tally = record { manifest = 1; compactions = 0 } in t)) None) ≡ true → d ≡ db
-      test true is h = name_order.one d db is
-      test false is h = absurd cc
+      by_spec : (o : Option DbSpec) → spec_of d specs ≡ o → Known d
+      by_spec None is = absurd (cc (h, ap is_some (tally_is d), ap (λ (o : Option DbSpec). is_some (tally_for o None)) is))
+      by_spec (Some spec) is = record { spec = spec; at = is; found = spec_found d [] specs parts.objects spec names parts.written is }
 
-  its_chain : (d : List ℕ) → d ≡ db → opening_chains (spec ∷ []) d ≡ chain
-  its_chain d e = ap (λ (b : Bool). if b then chain else []) (ap (λ x. bytes_eq x db) e ∙ bytes_same db)
+  module _ (d : List ℕ) (has : HasDb w d) where
+    it : Known d
+    it = known d has
 
-  no_object : (p : _) → Rattle.slate_ids.specs.PathText.path_text p ≢ Rattle.slate_ids.specs.PathText.path_text (paths.Manifest db 1) → object_at p w.store ≡ None
-  no_object p ne = ap (λ (b : Bool). cond b (Some object) None) (passes_by p (paths.Manifest db 1) ne)
+    named : is_db_path d ≡ true
+    named = it.found.named
 
-  first_object : object_at (paths.Manifest db 1) w.store ≡ Some object
-  first_object = ap (λ (b : Bool). cond b (Some object) None) (finds (paths.Manifest db 1))
+    abbrev chain : Chain
+    chain = opening_link it.spec ∷ []
 
-  no_boundary : object_at (boundary_path ManifestLog db) w.store ≡ None
-  no_boundary = no_object (boundary_path ManifestLog db) (boundary_apart db named ManifestLog 1 (omega arith))
+    chain_is : opening_chains specs d ≡ chain
+    chain_is = chains_are d specs ∙ ap chain_for it.at
 
-  first_stands : (k : ℕ) → 0 < k → k < 2 ^ 64 → Stands manifests db w.store chain k
-  first_stands k pos small =
-      ⊎_elim
-      (λ (e : 1 ≡ k). subst (λ j. Stands manifests db w.store chain j) e (ap bytes_of first_object ∙ sym (ap link_bytes (link_here 1 (opening_link spec) [] refl))))
-      (λ (ne : 1 ≢ k). ap bytes_of (no_object (version_path ManifestLog db k) (versions_apart db named ManifestLog k 1 small (omega arith) (λ (e : k ≡ 1). ne (sym e)))) ∙ sym (ap link_bytes (link_there k (opening_link spec) [] ne)))
-      (same_or_not 1 k)
+    nothing_at : (p : ObjectPath) → ((spec : DbSpec) → is_db_path spec.path ≡ true → path_text p ≢ path_text (version_path ManifestLog spec.path 1)) → object_at p w.store ≡ None
+    nothing_at p away = no_bytes_there (object_at p w.store) (bytes_at p ∙ ap (λ (o : Option First). bytes_found o None) (firsts_else p away [] specs parts.objects names parts.written))
 
-  sound : IsSound manifests db w.store chain
-  sound = record {
-    chain = record { number = refl; value = ap (λ (m : Manifest). decoded (manifest_bytes m)) new ∙ (first_read ∙ ap (λ (m : Manifest). Ok m) (sym new)) };
-    some = omega arith;
-    small = omega arith;
-    bound = 0;
-    read = ap boundary_got no_boundary;
-    below = omega arith;
-    above = first_stands;
-  }
+    no_boundary : object_at (boundary_path ManifestLog d) w.store ≡ None
+    no_boundary = nothing_at (boundary_path ManifestLog d) (λ spec other.
+        ⊎_elim
+        (λ (e : d ≡ spec.path). subst (λ x. path_text (boundary_path ManifestLog d) ≢ path_text (version_path ManifestLog x 1)) e (boundary_apart d named ManifestLog 1 (omega arith)))
+        (λ (ne : d ≢ spec.path). (manifest_elsewhere d named spec.path 1 other (omega arith) ne).boundary)
+        (same_name d spec.path))
 
-  told : (d : List ℕ) (t : Tally) → tally_of d w.tallies ≡ Some t → t.manifest ≡ Rattle.slate_protocol.specs.Chains.top (opening_chains (spec ∷ []) d)
-  told d t h =
-      let e = one_db d (ap is_some h) in
-      let same : tally_of db w.tallies ≡ Some (record { manifest = 1; compactions = 0 }) = ap (λ (b : Bool). cond b (Some (record { manifest = 1; compactions = 0 })) None) (name_order.itself db) in
-      let it : (record { manifest = 1; compactions = 0 }) ≡ t = cc (subst (λ x. tally_of x w.tallies ≡ Some t) e h, same) in
-      sym (ap (λ (x : Tally). x.manifest) it) ∙ sym (ap Rattle.slate_protocol.specs.Chains.top (its_chain d e))
+    no_other : (k : ℕ) → k < 2 ^ 64 → k ≢ 1 → object_at (version_path ManifestLog d k) w.store ≡ None
+    no_other k small ne = nothing_at (version_path ManifestLog d k) (λ spec other.
+        ⊎_elim
+        (λ (e : d ≡ spec.path). subst (λ x. path_text (version_path ManifestLog d k) ≢ path_text (version_path ManifestLog x 1)) e (versions_apart d named ManifestLog k 1 small (omega arith) ne))
+        (λ (off : d ≢ spec.path). (manifest_elsewhere d named spec.path 1 other (omega arith) off).version k small)
+        (same_name d spec.path))
 
-  one_inv : Inv w (opening_chains (spec ∷ []))
-  one_inv = record {
-    tidy = ((named, omega arith), tt);
-    named = λ d h. subst (λ x. is_db_path x ≡ true) (sym (one_db d h)) named;
-    logs = λ d h. subst (λ (c : Chain). IsSound manifests d w.store c) (sym (its_chain d (one_db d h))) (subst (λ x. IsSound manifests x w.store chain) (sym (one_db d h)) sound);
-    told = told;
-    unmoved = λ d h. subst (λ x. object_at (boundary_path ManifestLog x) w.store ≡ None) (sym (one_db d h)) no_boundary;
+    first_there : bytes_of (object_at (version_path ManifestLog d 1) w.store) ≡ Some (listed_or_none (first_bytes it.spec.manifest))
+    first_there =
+        bytes_at (version_path ManifestLog d 1)
+        ∙ (ap (λ (o : Option First). bytes_found o None) (firsts_found d named [] [] specs parts.tallies parts.objects names parts.tallied parts.written (λ h. refl))
+        ∙ ap (λ (o : Option DbSpec). bytes_found (first_for o None) None) it.at)
+
+    first_stands : (k : ℕ) → 0 < k → k < 2 ^ 64 → Stands manifests d w.store chain k
+    first_stands k pos small =
+        ⊎_elim
+        (λ (e : 1 ≡ k). subst (λ j. Stands manifests d w.store chain j) e (first_there ∙ sym (ap link_bytes (link_here 1 (opening_link it.spec) [] refl))))
+        (λ (ne : 1 ≢ k). ap bytes_of (no_other k small (λ (e : k ≡ 1). ne (sym e))) ∙ sym (ap link_bytes (link_there k (opening_link it.spec) [] ne)))
+        (same_or_not 1 k)
+
+    sound : IsSound manifests d w.store chain
+    sound = record {
+      chain = record { number = refl; value = ap (λ (o : Option (List ℕ)). decoded (listed_or_none o)) it.found.is ∙ first_read it.spec.manifest it.found.bytes it.found.is };
+      some = omega arith;
+      small = omega arith;
+      bound = 0;
+      read = ap boundary_got no_boundary;
+      below = omega arith;
+      above = first_stands;
+    }
+
+    tally_top : (t : Tally) → tally_of d w.tallies ≡ Some t → t.manifest ≡ top (opening_chains specs d)
+    tally_top t h =
+        let same : first_tally ≡ t = cc (tally_is d ∙ ap (λ (o : Option DbSpec). tally_for o None) it.at, h) in
+        sym (ap (λ (x : Tally). x.manifest) same) ∙ sym (ap top chain_is)
+
+  pub opening_inv : Inv w (opening_chains specs)
+  opening_inv = record {
+    tidy = subst (λ (s : Store). Rattle.slate_laws.proofs.Stores.IsTidy s.objects) (sym store_is) (store_tidy no_objects parts.objects (firsts_fine [] specs parts.objects names parts.written tt) tt);
+    named = λ d h. named d h;
+    logs = λ d h. subst (λ (c : Chain). IsSound manifests d w.store c) (sym (chain_is d h)) (sound d h);
+    told = λ d t h. tally_top d (ap is_some h) t h;
+    unmoved = λ d h. no_boundary d h;
     parties = λ n p h. absurd cc;
   }
-
-pub opening_inv : (specs : List DbSpec) → IsAccepted specs → Inv (opening_world specs) (opening_chains specs)
-opening_inv [] h = absurd h
-opening_inv (spec ∷ []) h = one_inv spec h.0 h.1
-opening_inv (spec ∷ other ∷ specs) h = absurd h

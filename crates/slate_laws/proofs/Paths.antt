@@ -6,9 +6,9 @@ use Rattle.slate_ids.specs.PathText.{path_text}
 use Rattle.slate_ids.specs.declared.object_path.ObjectPath.{ObjectPath}
 use Rattle.slate_ids.specs.declared.object_path.ObjectPath.TheVariants as paths
 use Rattle.slate_ids.proofs.PathsApart.{same_path}
-use Rattle.slate_txn.specs.LogPaths.{version_path, boundary_path}
-use Rattle.slate_txn.specs.declared.log_kind.LogKind.{LogKind}
-use Rattle.slate_txn.specs.declared.log_kind.LogKind.TheVariants.{Manifest, Compactions}
+use Rattle.slate_log.specs.LogPaths.{version_path, boundary_path}
+use Rattle.slate_log.specs.declared.log_kind.LogKind.{LogKind}
+use Rattle.slate_log.specs.declared.log_kind.LogKind.TheVariants.{Manifest, Compactions}
 
 -- neither a version of this log nor its boundary
 pub record IsElsewhere (kind : LogKind) (db : List ℕ) (p : ObjectPath) : Type 0 where

@@ -5,8 +5,8 @@ use Rattle.slate_ids.specs.PathText.{path_text}
 use Rattle.slate_ids.specs.declared.object_path.ObjectPath.{ObjectPath}
 use Rattle.slate_store.specs.Store.{Store, object_at, stored}
 use Rattle.slate_store.specs.declared.object.StoredObject.{StoredObject}
-use Rattle.slate_txn.specs.Boundary.{boundary_got}
-use Rattle.slate_txn.specs.LogPaths.{version_path, boundary_path}
+use Rattle.slate_log.specs.Boundary.{boundary_got}
+use Rattle.slate_log.specs.LogPaths.{version_path, boundary_path}
 use Rattle.slate_protocol.specs.Chains.{Link, Log, link_at, top, if_new, with_link, IsChain, Follows, bytes_of, link_bytes, Stands, Changed}
 use Rattle.slate_protocol.specs.Chains.Changed.{Stays, Gets}
 use Rattle.slate_laws.proofs.Stores.{at_put, at_else, put_object}
@@ -77,8 +77,10 @@ module _ {V A : Type 0} (log : Log V A) (db : List ℕ) where
         author = author;
         by = refl;
         number = h.number;
-        bytes = subst (λ (x : V). log.encoded x ≡ Ok bytes) h.made h.encodes;
-        value = ap log.normal h.made;
+        made = v;
+        makes = h.made;
+        bytes = h.encodes;
+        value = refl;
         lawful = laws.plain h.old.number h.old.value v (log.right author) h.lawful;
         passed = h.passed;
       }

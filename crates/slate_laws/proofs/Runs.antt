@@ -11,27 +11,27 @@ use Rattle.slate_store.specs.Store.{Store, object_at, effect}
 use Rattle.slate_store.specs.declared.mark.Mark.{Mark}
 use Rattle.slate_script.specs.declared.call.Call.{Call}
 use Rattle.slate_script.specs.declared.event.Event.{Event}
-use Rattle.slate_script.specs.declared.event.Event.TheVariants.{Open, Start, Step}
+use Rattle.slate_script.specs.declared.event.Event.TheVariants.{Open, Start, Step, Stop}
 use Rattle.slate_script.specs.declared.party_kind.PartyKind.{PartyKind}
-use Rattle.slate_txn.specs.LogPaths.{version_path, boundary_path}
-use Rattle.slate_txn.specs.declared.log_kind.LogKind.TheVariants.{Manifest as ManifestLog}
-use Rattle.slate_protocol.specs.Calls.{Next, Go, Finish, has_call, follow, begin}
+use Rattle.slate_log.specs.LogPaths.{version_path, boundary_path}
+use Rattle.slate_log.specs.declared.log_kind.LogKind.TheVariants.{Manifest as ManifestLog}
+use Rattle.slate_protocol.specs.Calls.{Next, Go, Finish, follow, begin}
 use Rattle.slate_protocol.specs.Chains.{Changed}
 use Rattle.slate_protocol.specs.Chains.Changed.{Stays, Gets}
 use Rattle.slate_protocol.specs.Lawful.{HasDb}
-use Rattle.slate_protocol.specs.Logs.{Author, Chain, Chains, manifests, put_by, chains_put, chains_stepped, chains_state, chains_at, chains_after, world_after, chains_of}
+use Rattle.slate_protocol.specs.Logs.{Author, Chain, Chains, author_of, manifests, put_by, chains_put, chains_stepped, chains_state, chains_at, chains_after, world_after, chains_of}
 use Rattle.slate_protocol.specs.Phrases.{asks, goes, phrase_asks, phrase_goes, is_due}
-use Rattle.slate_protocol.specs.World.{World, Done, party_of, with_party, tally_of, tallied, wrote, noted, newcomer, settled, stepped, step_state, start_state, open_at, start_at, step_at, happens}
+use Rattle.slate_protocol.specs.World.{World, Done, party_of, with_party, tally_of, tallied, wrote, noted, newcomer, settled, stepped, step_state, start_state, halted, stop_state, carrying, may_start, open_at, start_at, step_at, stop_at, happens}
 use Rattle.slate_protocol.specs.declared.party.Facts.{Facts}
 use Rattle.slate_protocol.specs.declared.party.Party.{Party}
 use Rattle.slate_protocol.specs.declared.party.Purpose.{Purpose}
 use Rattle.slate_protocol.specs.declared.party.State.{State}
-use Rattle.slate_protocol.specs.declared.party.State.TheVariants.{Resting, Busy}
+use Rattle.slate_protocol.specs.declared.party.State.TheVariants.{Resting, Busy, Halted}
 use Rattle.slate_protocol.specs.declared.position.Ended.{Ended}
 use Rattle.slate_protocol.specs.declared.position.Phrase.{Phrase}
 use Rattle.slate_protocol.specs.declared.position.Position.{Position}
 use Rattle.slate_protocol.specs.declared.tally.Tally.{Tally}
-use Rattle.slate_laws.proofs.Stores.{IsTidy, same_bytes, bytes_same, at_else}
+use Rattle.slate_laws.proofs.Stores.{IsTidy, decides, same_name, at_else}
 use Rattle.slate_laws.proofs.Maps.{number_order, set_here, set_else, insert_here, insert_else}
 use Rattle.slate_laws.proofs.Links.{same_or_not}
 use Rattle.slate_laws.proofs.Facts.{IsSound, Grows}
@@ -48,7 +48,8 @@ use Rattle.slate_protocol.specs.declared.position.Phrase.TheVariants.{Read, Comm
 -- what a party knows, by its state: its call stands at its own database
 abbrev pub StateKnows : Store → Chains → ℕ → Facts → State → Type 0
 StateKnows s chains n facts Resting = Unit {0}
-StateKnows s chains n facts (Busy call purpose position) = (position.db ≡ facts.db) × PhraseKnows s (chains facts.db) facts.db (record { party = n; facts = facts; call = call }) purpose position.phrase
+StateKnows s chains n facts (Busy call purpose position) = (position.db ≡ facts.db) × PhraseKnows s (chains facts.db) facts.db (author_of n facts call purpose) purpose position.phrase
+StateKnows s chains n facts Halted = Unit {0}
 
 pub record PartyKnows (w : World) (chains : Chains) (n : ℕ) (p : Party) : Type 0 where
   pub has : HasDb w p.facts.db
@@ -67,13 +68,14 @@ pub record Inv (w : World) (chains : Chains) : Type 0 where
 
 phrase_kept : (s : Store) (c : Chain) (s' : Store) (c' : Chain) (db : List ℕ) → Grows manifests db s c s' c' → (author : Author) (purpose : Purpose) (phrase : Phrase) → PhraseKnows s c db author purpose phrase → PhraseKnows s' c' db author purpose phrase
 phrase_kept s c s' c' db g author Reading (Read phase) h = kept_read manifests db s c s' c' g phase h
-phrase_kept s c s' c' db g author Committing (Commit phase) h = kept_commit manifests db s c s' c' g author phase h
+phrase_kept s c s' c' db g author (Committing now) (Commit phase) h = kept_commit manifests db s c s' c' g author phase h
 phrase_kept s c s' c' db g author Reading (Commit phase) h = absurd h
-phrase_kept s c s' c' db g author Committing (Read phase) h = absurd h
+phrase_kept s c s' c' db g author (Committing now) (Read phase) h = absurd h
 
 state_kept : (s : Store) (chains : Chains) (s' : Store) (chains' : Chains) (n : ℕ) (facts : Facts) → Grows manifests facts.db s (chains facts.db) s' (chains' facts.db) → (state : State) → StateKnows s chains n facts state → StateKnows s' chains' n facts state
 state_kept s chains s' chains' n facts g Resting h = tt
-state_kept s chains s' chains' n facts g (Busy call purpose position) h = (h.0, phrase_kept s (chains facts.db) s' (chains' facts.db) facts.db g (record { party = n; facts = facts; call = call }) purpose position.phrase h.1)
+state_kept s chains s' chains' n facts g Halted h = tt
+state_kept s chains s' chains' n facts g (Busy call purpose position) h = (h.0, phrase_kept s (chains facts.db) s' (chains' facts.db) facts.db g (author_of n facts call purpose) purpose position.phrase h.1)
 
 -- ---- a change of one party alone
 
@@ -124,16 +126,6 @@ moved_inv w chains n p q i at own =
 
 -- ---- a step
 
-decides : (d db : List ℕ) → (bytes_eq d db ≡ true → d ≡ db) × (bytes_eq d db ≡ false → d ≢ db)
-decides d db = (same_bytes d db, λ f e. absurd (cc (f, bytes_same d, e)))
-
-same_name : (d db : List ℕ) → (d ≡ db) ⊎ (d ≢ db)
-same_name d db = test (bytes_eq d db) refl
-  where
-    test : (b : Bool) → bytes_eq d db ≡ b → (d ≡ db) ⊎ (d ≢ db)
-    test true e = inl ((decides d db).0 e)
-    test false e = inr ((decides d db).1 e)
-
 -- the logs of the other databases
 module _ (s s' : Store) (db d : List ℕ) (c : Chain) (named : is_db_path d ≡ true) (own : is_db_path db ≡ true) (ne : d ≢ db) where
   other_grows : StoreAfter db s s' → Grows manifests d s c s' c
@@ -155,16 +147,16 @@ module _ (w : World) (chains : Chains) (i : Inv w chains) (n : ℕ) (p : Party) 
   facts = p.facts
 
   abbrev author : Author
-  author = record { party = n; facts = facts; call = call }
+  author = author_of n facts call purpose
 
   abbrev s' : Store
   s' = (effect mark (asks position) moment w.store).store
 
   abbrev next : Next
-  next = follow facts call purpose (goes position (effect mark (asks position) moment w.store).answer)
+  next = follow facts call purpose moment (goes position (effect mark (asks position) moment w.store).answer)
 
   abbrev chains' : Chains
-  chains' = chains_stepped w n facts call position moment mark chains
+  chains' = chains_stepped w n facts call purpose position moment mark chains
 
   has : HasDb w position.db
   has = subst (λ d. HasDb w d) (sym knows.0) (i.parties n p at).has
@@ -210,7 +202,7 @@ module _ (w : World) (chains : Chains) (i : Inv w chains) (n : ℕ) (p : Party) 
   own_next : NextKnows s' (chains' facts.db) n facts call next
   own_next =
       let b = subst (λ d. PhraseBrings s' (chains' d) d author purpose (goes position (effect mark (asks position) moment w.store).answer)) knows.0 after.brings in
-      follow_reaches s' (chains' facts.db) n facts call (log_after facts.db (i.parties n p at).has).sound purpose (goes position (effect mark (asks position) moment w.store).answer) b
+      follow_reaches s' (chains' facts.db) n facts call (log_after facts.db (i.parties n p at).has).sound purpose moment (goes position (effect mark (asks position) moment w.store).answer) b
 
   abbrev w' : World
   w' = (stepped w n facts call purpose position moment mark).world
@@ -243,10 +235,11 @@ module _ (w : World) (chains : Chains) (i : Inv w chains) (n : ℕ) (p : Party) 
 step_inv : (w : World) (chains : Chains) (n : ℕ) (p : Party) (moment : ℤ) (mark : Mark) → Inv w chains → party_of n w.parties ≡ Some p → (state : State) → StateKnows w.store chains n p.facts state
     → Inv (step_state w n p.facts state moment mark).world (chains_state w n p.facts state moment mark chains)
 step_inv w chains n p moment mark i at Resting k = i
+step_inv w chains n p moment mark i at Halted k = i
 step_inv w chains n p moment mark i at (Busy call purpose position) k = test (is_due position) (stepped_inv w chains i n p at call purpose position k moment mark)
   where
-    test : (b : Bool) → Inv (stepped w n p.facts call purpose position moment mark).world (chains_stepped w n p.facts call position moment mark chains)
-        → Inv (if b then stepped w n p.facts call purpose position moment mark else noted n w).world (if b then chains_stepped w n p.facts call position moment mark chains else chains)
+    test : (b : Bool) → Inv (stepped w n p.facts call purpose position moment mark).world (chains_stepped w n p.facts call purpose position moment mark chains)
+        → Inv (if b then stepped w n p.facts call purpose position moment mark else noted n w).world (if b then chains_stepped w n p.facts call purpose position moment mark chains else chains)
     test true h = h
     test false h = i
 
@@ -259,6 +252,24 @@ start_inv w chains n p call i at Resting =
       knows = settle_knows w.store chains n p.facts call next (begin_reaches w.store (chains p.facts.db) n p.facts call (i.logs p.facts.db has));
     })
 start_inv w chains n p call i at (Busy under purpose position) = i
+start_inv w chains n p call i at Halted = i
+
+-- ids that are carried change nothing of it
+carried_inv : (w : World) (chains : Chains) (n : ℕ) (call : Call) → Inv w chains → Inv (carrying n call w) chains
+carried_inv w chains n call i = record {
+  tidy = i.tidy;
+  named = i.named;
+  logs = i.logs;
+  told = i.told;
+  unmoved = i.unmoved;
+  parties = λ k p at. let known = i.parties k p at in record { has = known.has; knows = known.knows };
+}
+
+-- nor does a stop
+stop_inv : (w : World) (chains : Chains) (n : ℕ) (p : Party) → Inv w chains → party_of n w.parties ≡ Some p → (state : State) → Inv (stop_state w n p.facts state).world chains
+stop_inv w chains n p i at Halted = i
+stop_inv w chains n p i at Resting = moved_inv w chains n p (halted p.facts) i at (record { has = (i.parties n p at).has; knows = tt })
+stop_inv w chains n p i at (Busy call purpose position) = moved_inv w chains n p (halted p.facts) i at (record { has = (i.parties n p at).has; knows = tt })
 
 open_inv : (w : World) (chains : Chains) (n : ℕ) (kind : PartyKind) (db : List ℕ) (t : Tally) → Inv w chains → party_of n w.parties ≡ None → tally_of db w.tallies ≡ Some t → Inv (record w { parties = insert_entry nat_cmp w.parties n (newcomer kind db) }) chains
 open_inv w chains n kind db t i none found =
@@ -283,13 +294,13 @@ event_inv w chains (Open n kind db) d h i = opened (party_of n w.parties) (tally
     opened (Some p) t none found h = absurd cc
 event_inv w chains (Start n call) d h i = started (party_of n w.parties) refl h
   where
-    test : (p : Party) (b : Bool) → party_of n w.parties ≡ Some p → (if b then Some (start_state w n p.facts p.state call) else None) ≡ Some d → Inv d.world chains
-    test p true at h = let same : start_state w n p.facts p.state call ≡ d = cc in subst (λ (r : Done). Inv r.world chains) same (start_inv w chains n p call i at p.state)
+    test : (p : Party) (b : Bool) → party_of n w.parties ≡ Some p → (if b then Some (start_state (carrying n call w) n p.facts p.state call) else None) ≡ Some d → Inv d.world chains
+    test p true at h = let same : start_state (carrying n call w) n p.facts p.state call ≡ d = cc in subst (λ (r : Done). Inv r.world chains) same (start_inv (carrying n call w) chains n p call (carried_inv w chains n call i) at p.state)
     test p false at h = absurd cc
 
     started : (o : Option Party) → party_of n w.parties ≡ o → start_at w n call o ≡ Some d → Inv d.world chains
     started None at h = absurd cc
-    started (Some p) at h = test p (has_call p.facts.kind call) at h
+    started (Some p) at h = test p (may_start w call p) at h
 event_inv w chains (Step n moment mark) d h i = went (party_of n w.parties) refl h
   where
     went : (o : Option Party) → party_of n w.parties ≡ o → step_at w n moment mark o ≡ Some d → Inv d.world (chains_at w n o moment mark chains)
@@ -297,6 +308,14 @@ event_inv w chains (Step n moment mark) d h i = went (party_of n w.parties) refl
     went (Some p) at h =
         let same : step_state w n p.facts p.state moment mark ≡ d = cc in
         subst (λ (r : Done). Inv r.world (chains_state w n p.facts p.state moment mark chains)) same (step_inv w chains n p moment mark i at p.state (i.parties n p at).knows)
+
+event_inv w chains (Stop n) d h i = went (party_of n w.parties) refl h
+  where
+    went : (o : Option Party) → party_of n w.parties ≡ o → stop_at w n o ≡ Some d → Inv d.world chains
+    went None at h = absurd cc
+    went (Some p) at h =
+        let same : stop_state w n p.facts p.state ≡ d = cc in
+        subst (λ (r : Done). Inv r.world chains) same (stop_inv w chains n p i at p.state)
 
 -- so does a list of events, up to the first bad one
 pub run_inv : (es : List Event) (w : World) (chains : Chains) → Inv w chains → Inv (world_after es w) (chains_of es w chains)

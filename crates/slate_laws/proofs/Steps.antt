@@ -2,16 +2,17 @@
 use Rattle.std.proofs.Common.{◌≡◌, ◌≢◌, ℕ, ℤ, ◌+◌, ◌<◌, ◌≤◌, ◌^◌, max, nat_lt, Bool, true, false, List, [], ◌∷◌, Option, Some, None, is_some, Result, Ok, Err, ◌⊎◌, ⊎_elim, inl, inr, refl, sym, ap, ◌∙◌, subst, arith}
 use Rattle.std.specs.Prelude.{if◌then◌else◌, bytes_eq}
 use Rattle.slate_ids.specs.Ids.{is_db_path}
+use Rattle.slate_model.specs.Normal.{normal}
 use Rattle.slate_model.specs.declared.manifest.Manifest.{Manifest}
 use Rattle.slate_store.specs.Machines.{Goes, Stay, End}
 use Rattle.slate_store.specs.Store.{Store, effect}
 use Rattle.slate_store.specs.declared.mark.Mark.{Mark}
-use Rattle.slate_txn.specs.Commit.{commit_asks, commit_goes}
-use Rattle.slate_txn.specs.Read.{read_asks, read_goes}
-use Rattle.slate_txn.specs.declared.commit.CommitPhase.{CommitPhase}
-use Rattle.slate_txn.specs.declared.commit.CommitPhase.TheVariants.{Putting, Bounding, Over}
-use Rattle.slate_txn.specs.declared.log_kind.LogKind.TheVariants.{Manifest as ManifestLog}
-use Rattle.slate_txn.specs.declared.read.ReadPhase.{ReadPhase}
+use Rattle.slate_log.specs.Commit.{commit_asks, commit_goes}
+use Rattle.slate_log.specs.Read.{read_asks, read_goes}
+use Rattle.slate_log.specs.declared.commit.CommitPhase.{CommitPhase}
+use Rattle.slate_log.specs.declared.commit.CommitPhase.TheVariants.{Putting, Bounding, Over}
+use Rattle.slate_log.specs.declared.log_kind.LogKind.TheVariants.{Manifest as ManifestLog}
+use Rattle.slate_log.specs.declared.read.ReadPhase.{ReadPhase}
 use Rattle.slate_protocol.specs.Chains.{Link, Log, link_at, with_link}
 use Rattle.slate_protocol.specs.Logs.{Author, Chain, Chains, manifests, put_by, with_put, chains_put}
 use Rattle.slate_protocol.specs.Phrases.{asks, goes, phrase_asks, phrase_goes, read_on, commit_on}
@@ -32,14 +33,14 @@ use Rattle.slate_laws.proofs.Turns.{chain_if, read_step, bound_step, put_step}
 -- what a party knows while it is in a phrase with a purpose: it reads to go on, and commits what it made
 abbrev pub PhraseKnows : Store → Chain → List ℕ → Author → Purpose → Phrase → Type 0
 PhraseKnows s c db author Reading (Read phase) = ReadKnows manifests db s c phase
-PhraseKnows s c db author Committing (Commit phase) = CommitKnows manifests db s c author phase
+PhraseKnows s c db author (Committing now) (Commit phase) = CommitKnows manifests db s c author phase
 PhraseKnows s c db author Reading (Commit phase) = ⊥
-PhraseKnows s c db author Committing (Read phase) = ⊥
+PhraseKnows s c db author (Committing now) (Read phase) = ⊥
 
 abbrev pub EndBrings : Chain → Ended → Type 0
 EndBrings c NoVersion = Unit {0}
 EndBrings c (Version n m) = IsValue c n m
-EndBrings c (Committed n m) = IsValue c n m
+EndBrings c (Committed n m) = IsValue c n (normal m)
 
 -- what a phrase's answer brings
 abbrev pub PhraseBrings : Store → Chain → List ℕ → Author → Purpose → Goes Position Ended → Type 0
@@ -53,10 +54,10 @@ read_around s c db author (End phase (Ok (Some version))) h = h
 read_around s c db author (End phase (Ok None)) h = tt
 read_around s c db author (End phase (Err e)) h = tt
 
-commit_around : (s : Store) (c : Chain) (db : List ℕ) (author : Author) (g : Goes (CommitPhase Manifest) (ℕ × Manifest)) → CommitBrings manifests db s c author g → PhraseBrings s c db author Committing (commit_on db g)
-commit_around s c db author (Stay phase) h = (refl, h)
-commit_around s c db author (End phase (Ok version)) h = h
-commit_around s c db author (End phase (Err e)) h = tt
+commit_around : (s : Store) (c : Chain) (db : List ℕ) (author : Author) (now : ℤ) (g : Goes (CommitPhase Manifest) (ℕ × Manifest)) → CommitBrings manifests db s c author g → PhraseBrings s c db author (Committing now) (commit_on db g)
+commit_around s c db author now (Stay phase) h = (refl, h)
+commit_around s c db author now (End phase (Ok version)) h = h
+commit_around s c db author now (End phase (Err e)) h = tt
 
 -- ---- the chain of this database after a step, and those of the others
 
@@ -97,19 +98,19 @@ module _ (s : Store) (chains : Chains) (db : List ℕ) (author : Author) (named 
   phrase_step Reading (Read phase) h =
       let r = read_step manifests manifests_log db s (chains db) i tidy phase mark moment h in
       still Reading (Read phase) refl r.same (read_around s (chains db) db author (read_goes ManifestLog manifests.decoded phase (effect mark (read_asks db ManifestLog phase) moment s).answer) r.brings)
-  phrase_step Committing (Commit (Bounding n m)) h =
+  phrase_step (Committing now) (Commit (Bounding n m)) h =
       let r = bound_step manifests manifests_log db s (chains db) i author n m mark moment h in
-      still Committing (Commit (Bounding n m)) refl r.same (commit_around s (chains db) db author (commit_goes (Bounding n m) (effect mark (commit_asks db ManifestLog (Bounding n m)) moment s).answer) r.brings)
-  phrase_step Committing (Commit (Putting n bytes m)) h =
+      still (Committing now) (Commit (Bounding n m)) refl r.same (commit_around s (chains db) db author now (commit_goes (Bounding n m) (effect mark (commit_asks db ManifestLog (Bounding n m)) moment s).answer) r.brings)
+  phrase_step (Committing now) (Commit (Putting n bytes m)) h =
       let o = effect mark (commit_asks db ManifestLog (Putting n bytes m)) moment s in
-      let l : Link Manifest Author = record { number = n; bytes = bytes; value = m; by = Some author } in
+      let l : Link Manifest Author = record { number = n; bytes = bytes; value = normal m; by = Some author } in
       let r = put_step manifests manifests_log db s (chains db) i author named n bytes m moment h mark in
       let chain = own_put (wrote s o.store) db l chains in
       record {
         leaves = subst (λ (c : Chain). Leaves manifests db author s (chains db) o.store c) (sym chain) r.leaves;
-        brings = subst (λ (c : Chain). PhraseBrings o.store c db author Committing (commit_on db (commit_goes (Putting n bytes m) o.answer))) (sym chain)
-            (commit_around o.store (chain_if (wrote s o.store) l (chains db)) db author (commit_goes (Putting n bytes m) o.answer) r.brings);
+        brings = subst (λ (c : Chain). PhraseBrings o.store c db author (Committing now) (commit_on db (commit_goes (Putting n bytes m) o.answer))) (sym chain)
+            (commit_around o.store (chain_if (wrote s o.store) l (chains db)) db author now (commit_goes (Putting n bytes m) o.answer) r.brings);
       }
-  phrase_step Committing (Commit Over) h = absurd h
+  phrase_step (Committing now) (Commit Over) h = absurd h
   phrase_step Reading (Commit phase) h = absurd h
-  phrase_step Committing (Read phase) h = absurd h
+  phrase_step (Committing now) (Read phase) h = absurd h

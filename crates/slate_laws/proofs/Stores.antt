@@ -1,5 +1,5 @@
 -- What a look-up finds after a put.
-use Rattle.std.proofs.Common.{◌≡◌, ◌≢◌, ℕ, ℤ, ◌+◌, Bool, true, false, List, [], ◌∷◌, Option, Some, None, is_some, refl, sym, ap, ◌∙◌, subst, true≢false, cond}
+use Rattle.std.proofs.Common.{◌≡◌, ◌≢◌, ℕ, ℤ, ◌+◌, Bool, true, false, List, [], ◌∷◌, Option, Some, None, is_some, ◌⊎◌, inl, inr, refl, sym, ap, ◌∙◌, subst, true≢false, cond}
 use Rattle.std.specs.Map.{lookup}
 use Rattle.std.specs.BTreeMap.{is_at, insert_entry}
 use Rattle.std.specs.Ordering.{nat_cmp, is_eq, match_ordering}
@@ -29,6 +29,17 @@ no_bytes xs ys ne = test (bytes_eq xs ys) (same_bytes xs ys)
     test : (b : Bool) → (b ≡ true → xs ≡ ys) → b ≡ false
     test true f = absurd (ne (f refl))
     test false f = refl
+
+-- names are told apart
+pub decides : (d db : List ℕ) → (bytes_eq d db ≡ true → d ≡ db) × (bytes_eq d db ≡ false → d ≢ db)
+decides d db = (same_bytes d db, λ f e. absurd (cc (f, bytes_same d, e)))
+
+pub same_name : (d db : List ℕ) → (d ≡ db) ⊎ (d ≢ db)
+same_name d db = test (bytes_eq d db) refl
+  where
+    test : (b : Bool) → bytes_eq d db ≡ b → (d ≡ db) ⊎ (d ≢ db)
+    test true e = inl ((decides d db).0 e)
+    test false e = inr ((decides d db).1 e)
 
 -- the test of a look-up compares texts
 test_is : (p q : ObjectPath) → is_at (path_cmp p) q ≡ bytes_eq (path_text p) (path_text q)

@@ -3,16 +3,17 @@ use Rattle.std.proofs.Common.{◌≡◌, ◌≢◌, ℕ, ℤ, ◌+◌, ◌<◌, 
 use Rattle.std.specs.Prelude.{bytes_eq, if◌then◌else◌}
 use Rattle.slate_ids.specs.Ids.{is_db_path}
 use Rattle.slate_ids.specs.declared.object_path.ObjectPath.{ObjectPath}
+use Rattle.slate_model.specs.Normal.{normal}
 use Rattle.slate_model.specs.declared.manifest.Manifest.{Manifest}
 use Rattle.slate_store.specs.Store.{Store, object_at, stored, put_new, under, taken, effect}
 use Rattle.slate_store.specs.declared.mark.Mark.{Mark}
 use Rattle.slate_store.specs.declared.mark.Mark.TheVariants.{Good, Fail, Lost}
 use Rattle.slate_store.specs.declared.object.StoredObject.{StoredObject}
 use Rattle.slate_store.specs.declared.store_call.StoreCall.TheVariants.{PutNew}
-use Rattle.slate_txn.specs.LogPaths.{version_path}
-use Rattle.slate_txn.specs.declared.commit.CommitPhase.TheVariants as committing
-use Rattle.slate_txn.specs.declared.log_kind.LogKind.TheVariants.{Manifest as ManifestLog}
-use Rattle.slate_txn.specs.declared.read.ReadPhase.TheVariants as reading
+use Rattle.slate_log.specs.LogPaths.{version_path}
+use Rattle.slate_log.specs.declared.commit.CommitPhase.TheVariants as committing
+use Rattle.slate_log.specs.declared.log_kind.LogKind.TheVariants.{Manifest as ManifestLog}
+use Rattle.slate_log.specs.declared.read.ReadPhase.TheVariants as reading
 use Rattle.slate_protocol.specs.Chains.{Link, link_at, top, if_new, with_link}
 use Rattle.slate_protocol.specs.Logs.{Author, Chain, Chains, manifests, put_by, chains_put}
 use Rattle.slate_protocol.specs.Phrases.{phrase_asks}
@@ -60,13 +61,13 @@ store_after s c db author Good moment Reading (Read (reading.Bounding n m)) h = 
 store_after s c db author Fail moment Reading (Read (reading.Bounding n m)) h = Same refl
 store_after s c db author Lost moment Reading (Read (reading.Bounding n m)) h = Same refl
 store_after s c db author mark moment Reading (Read reading.Over) h = absurd h
-store_after s c db author mark moment Committing (Commit (committing.Putting n bytes m)) h = put_after db n bytes moment s h.small (object_at (version_path ManifestLog db n) s) (taken mark (PutNew (version_path ManifestLog db n) bytes) s)
-store_after s c db author Good moment Committing (Commit (committing.Bounding n m)) h = Same refl
-store_after s c db author Fail moment Committing (Commit (committing.Bounding n m)) h = Same refl
-store_after s c db author Lost moment Committing (Commit (committing.Bounding n m)) h = Same refl
-store_after s c db author mark moment Committing (Commit committing.Over) h = absurd h
+store_after s c db author mark moment (Committing now) (Commit (committing.Putting n bytes m)) h = put_after db n bytes moment s h.small (object_at (version_path ManifestLog db n) s) (taken mark (PutNew (version_path ManifestLog db n) bytes) s)
+store_after s c db author Good moment (Committing now) (Commit (committing.Bounding n m)) h = Same refl
+store_after s c db author Fail moment (Committing now) (Commit (committing.Bounding n m)) h = Same refl
+store_after s c db author Lost moment (Committing now) (Commit (committing.Bounding n m)) h = Same refl
+store_after s c db author mark moment (Committing now) (Commit committing.Over) h = absurd h
 store_after s c db author mark moment Reading (Commit phase) h = absurd h
-store_after s c db author mark moment Committing (Read phase) h = absurd h
+store_after s c db author mark moment (Committing now) (Read phase) h = absurd h
 
 pub tidy_after : (db : List ℕ) (s s' : Store) → is_db_path db ≡ true → StoreAfter db s s' → IsTidy s.objects → IsTidy s'.objects
 tidy_after db s s' named (Same e) h = subst (λ (t : Store). IsTidy t.objects) (sym e) h
@@ -108,7 +109,7 @@ module _ (s : Store) (chains : Chains) (db : List ℕ) (author : Author) (tallie
   -- a put that wrote: the greater of the tally and its number is the top again
   module _ (n : ℕ) (bytes : List ℕ) (m : Manifest) (h : IsNext manifests (chains db) author n bytes m) where
     abbrev put : Link Manifest Author
-    put = record { number = n; bytes = bytes; value = m; by = Some author }
+    put = record { number = n; bytes = bytes; value = normal m; by = Some author }
 
     put_top : (b : ℕ) (o : Option (Link Manifest Author)) → link_at n (chains db) ≡ o → b ≡ top (chains db) → max b n ≡ top (if_new o put (chains db))
     put_top b None e same =
@@ -152,8 +153,8 @@ module _ (s : Store) (chains : Chains) (db : List ℕ) (author : Author) (tallie
   tallies_after decides Reading (Read (reading.Getting n)) b h = tallies_same tallies chains _ told (none_put b db chains)
   tallies_after decides Reading (Read (reading.Bounding n m)) b h = tallies_same tallies chains _ told (none_put b db chains)
   tallies_after decides Reading (Read reading.Over) b h = absurd h
-  tallies_after decides Committing (Commit (committing.Putting n bytes m)) b h = puts_tallies n bytes m h decides b
-  tallies_after decides Committing (Commit (committing.Bounding n m)) b h = tallies_same tallies chains _ told (none_put b db chains)
-  tallies_after decides Committing (Commit committing.Over) b h = absurd h
+  tallies_after decides (Committing now) (Commit (committing.Putting n bytes m)) b h = puts_tallies n bytes m h decides b
+  tallies_after decides (Committing now) (Commit (committing.Bounding n m)) b h = tallies_same tallies chains _ told (none_put b db chains)
+  tallies_after decides (Committing now) (Commit committing.Over) b h = absurd h
   tallies_after decides Reading (Commit phase) b h = absurd h
-  tallies_after decides Committing (Read phase) b h = absurd h
+  tallies_after decides (Committing now) (Read phase) b h = absurd h

@@ -1,28 +1,28 @@
 -- The trail alone tells the store and what is committed.
 use Rattle.std.proofs.Common.{◌≡◌, ◌≢◌, ℕ, ℤ, ◌+◌, ◌==◌, Bool, true, false, List, [], ◌∷◌, ◌++◌, map, Option, Some, None, is_some, refl, sym, ap, ◌∙◌, subst}
 use Rattle.std.specs.Prelude.{if◌then◌else◌, bytes_eq}
+use Rattle.slate_model.specs.Normal.{normal}
 use Rattle.slate_model.specs.declared.manifest.Manifest.{Manifest}
 use Rattle.slate_store.specs.Store.{Store, effect}
 use Rattle.slate_store.specs.declared.mark.Mark.{Mark}
 use Rattle.slate_script.specs.declared.call.Call.{Call}
 use Rattle.slate_script.specs.declared.entry.Entry.{Entry}
 use Rattle.slate_script.specs.declared.event.Event.{Event}
-use Rattle.slate_script.specs.declared.event.Event.TheVariants.{Open, Start, Step}
+use Rattle.slate_script.specs.declared.event.Event.TheVariants.{Open, Start, Step, Stop}
 use Rattle.slate_script.specs.declared.party_kind.PartyKind.{PartyKind}
-use Rattle.slate_txn.specs.declared.commit.CommitPhase.TheVariants as committing
-use Rattle.slate_txn.specs.declared.read.ReadPhase.TheVariants as reading
+use Rattle.slate_log.specs.declared.commit.CommitPhase.TheVariants as committing
+use Rattle.slate_log.specs.declared.read.ReadPhase.TheVariants as reading
 use Rattle.slate_protocol.specs.ByRows.{Standings, party_in, standings_after, entry_by, entry_store, trail_by}
-use Rattle.slate_protocol.specs.Calls.{has_call}
 use Rattle.slate_protocol.specs.Chains.{Link, link_at, if_new, with_link}
-use Rattle.slate_protocol.specs.Logs.{Author, Chain, Chains, put_by, with_put, chains_put, chains_stepped, chains_state, chains_at, chains_after, world_after, chains_of}
+use Rattle.slate_protocol.specs.Logs.{Author, Chain, Chains, author_of, put_by, with_put, chains_put, chains_stepped, chains_state, chains_at, chains_after, world_after, chains_of}
 use Rattle.slate_protocol.specs.Phrases.{asks, phrase_asks, is_due}
 use Rattle.slate_protocol.specs.Runs.{Course, Ran, going_on, run}
 use Rattle.slate_protocol.specs.Trails.{Firsts, has_number, first_put, told_by, entry_told, store_of, told, numbered}
-use Rattle.slate_protocol.specs.World.{World, Done, party_of, tally_of, wrote, noted, stepped, step_state, start_state, open_at, start_at, step_at, happens}
+use Rattle.slate_protocol.specs.World.{World, Done, party_of, tally_of, wrote, noted, stepped, step_state, start_state, stop_state, carrying, may_start, open_at, start_at, step_at, stop_at, happens}
 use Rattle.slate_protocol.specs.declared.party.Facts.{Facts}
 use Rattle.slate_protocol.specs.declared.party.Party.{Party}
 use Rattle.slate_protocol.specs.declared.party.State.{State}
-use Rattle.slate_protocol.specs.declared.party.State.TheVariants.{Resting, Busy}
+use Rattle.slate_protocol.specs.declared.party.State.TheVariants.{Resting, Busy, Halted}
 use Rattle.slate_protocol.specs.declared.position.Phrase.{Phrase}
 use Rattle.slate_protocol.specs.declared.position.Phrase.TheVariants.{Read, Commit}
 use Rattle.slate_protocol.specs.declared.tally.Tally.{Tally}
@@ -62,7 +62,7 @@ phrase_told firsts chains db author h (Read reading.Listing) true = silent first
 phrase_told firsts chains db author h (Read (reading.Getting n)) true = silent firsts chains db h true
 phrase_told firsts chains db author h (Read (reading.Bounding n m)) true = silent firsts chains db h true
 phrase_told firsts chains db author h (Read reading.Over) true = silent firsts chains db h true
-phrase_told firsts chains db author h (Commit (committing.Putting n bytes m)) true = λ d. put_told firsts chains db (record { number = n; bytes = bytes; value = m; by = Some author }) h d (bytes_eq d db)
+phrase_told firsts chains db author h (Commit (committing.Putting n bytes m)) true = λ d. put_told firsts chains db (record { number = n; bytes = bytes; value = normal m; by = Some author }) h d (bytes_eq d db)
 phrase_told firsts chains db author h (Commit (committing.Bounding n m)) true = silent firsts chains db h true
 phrase_told firsts chains db author h (Commit committing.Over) true = silent firsts chains db h true
 phrase_told firsts chains db author h phrase false = h
@@ -70,17 +70,24 @@ phrase_told firsts chains db author h phrase false = h
 step_told : (w : World) (n : ℕ) (facts : Facts) (state : State) (moment : ℤ) (mark : Mark) (firsts : Firsts) (chains : Chains) → Tells firsts chains
     → Tells (entry_told (step_state w n facts state moment mark).entry w.store firsts) (chains_state w n facts state moment mark chains)
 step_told w n facts Resting moment mark firsts chains h = h
+step_told w n facts Halted moment mark firsts chains h = h
 step_told w n facts (Busy call purpose position) moment mark firsts chains h =
-    test (is_due position) (phrase_told firsts chains position.db (record { party = n; facts = facts; call = call }) h position.phrase (wrote w.store (effect mark (asks position) moment w.store).store))
+    test (is_due position) (phrase_told firsts chains position.db (author_of n facts call purpose) h position.phrase (wrote w.store (effect mark (asks position) moment w.store).store))
   where
-    test : (b : Bool) → Tells (entry_told (stepped w n facts call purpose position moment mark).entry w.store firsts) (chains_stepped w n facts call position moment mark chains)
-        → Tells (entry_told (if b then stepped w n facts call purpose position moment mark else noted n w).entry w.store firsts) (if b then chains_stepped w n facts call position moment mark chains else chains)
+    test : (b : Bool) → Tells (entry_told (stepped w n facts call purpose position moment mark).entry w.store firsts) (chains_stepped w n facts call purpose position moment mark chains)
+        → Tells (entry_told (if b then stepped w n facts call purpose position moment mark else noted n w).entry w.store firsts) (if b then chains_stepped w n facts call purpose position moment mark chains else chains)
     test true k = k
     test false k = h
 
 start_told : (w : World) (n : ℕ) (facts : Facts) (state : State) (call : Call) (firsts : Firsts) (chains : Chains) → Tells firsts chains → Tells (entry_told (start_state w n facts state call).entry w.store firsts) chains
 start_told w n facts Resting call firsts chains h = h
 start_told w n facts (Busy under purpose position) call firsts chains h = h
+start_told w n facts Halted call firsts chains h = h
+
+stop_told : (w : World) (n : ℕ) (facts : Facts) (state : State) (firsts : Firsts) (chains : Chains) → Tells firsts chains → Tells (entry_told (stop_state w n facts state).entry w.store firsts) chains
+stop_told w n facts Resting firsts chains h = h
+stop_told w n facts (Busy call purpose position) firsts chains h = h
+stop_told w n facts Halted firsts chains h = h
 
 event_told : (w : World) (e : Event) (d : Done) (firsts : Firsts) (chains : Chains) → Tells firsts chains → happens w e ≡ Some d → Tells (entry_told d.entry w.store firsts) (chains_after w e chains)
 event_told w (Open n kind db) d firsts chains h is = opened (party_of n w.parties) (tally_of db w.tallies) is
@@ -91,13 +98,13 @@ event_told w (Open n kind db) d firsts chains h is = opened (party_of n w.partie
     opened (Some p) t is = absurd cc
 event_told w (Start n call) d firsts chains h is = started (party_of n w.parties) is
   where
-    test : (p : Party) (b : Bool) → (if b then Some (start_state w n p.facts p.state call) else None) ≡ Some d → Tells (entry_told d.entry w.store firsts) chains
-    test p true is = let same : start_state w n p.facts p.state call ≡ d = cc in subst (λ (r : Done). Tells (entry_told r.entry w.store firsts) chains) same (start_told w n p.facts p.state call firsts chains h)
+    test : (p : Party) (b : Bool) → (if b then Some (start_state (carrying n call w) n p.facts p.state call) else None) ≡ Some d → Tells (entry_told d.entry w.store firsts) chains
+    test p true is = let same : start_state (carrying n call w) n p.facts p.state call ≡ d = cc in subst (λ (r : Done). Tells (entry_told r.entry w.store firsts) chains) same (start_told (carrying n call w) n p.facts p.state call firsts chains h)
     test p false is = absurd cc
 
     started : (o : Option Party) → start_at w n call o ≡ Some d → Tells (entry_told d.entry w.store firsts) chains
     started None is = absurd cc
-    started (Some p) is = test p (has_call p.facts.kind call) is
+    started (Some p) is = test p (may_start w call p) is
 event_told w (Step n moment mark) d firsts chains h is = went (party_of n w.parties) is
   where
     went : (o : Option Party) → step_at w n moment mark o ≡ Some d → Tells (entry_told d.entry w.store firsts) (chains_at w n o moment mark chains)
@@ -105,6 +112,14 @@ event_told w (Step n moment mark) d firsts chains h is = went (party_of n w.part
     went (Some p) is =
         let same : step_state w n p.facts p.state moment mark ≡ d = cc in
         subst (λ (r : Done). Tells (entry_told r.entry w.store firsts) (chains_state w n p.facts p.state moment mark chains)) same (step_told w n p.facts p.state moment mark firsts chains h)
+
+event_told w (Stop n) d firsts chains h is = went (party_of n w.parties) is
+  where
+    went : (o : Option Party) → stop_at w n o ≡ Some d → Tells (entry_told d.entry w.store firsts) chains
+    went None is = absurd cc
+    went (Some p) is =
+        let same : stop_state w n p.facts p.state ≡ d = cc in
+        subst (λ (r : Done). Tells (entry_told r.entry w.store firsts) chains) same (stop_told w n p.facts p.state firsts chains h)
 
 -- what the entries of a run tell, where the run led from c to v
 pub record RunTells (xs : List Entry) (c v : Course) (firsts : Firsts) (chains : Chains) : Type 0 where

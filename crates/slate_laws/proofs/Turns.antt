@@ -14,14 +14,14 @@ use Rattle.slate_store.specs.declared.object.StoredObject.{StoredObject}
 use Rattle.slate_store.specs.declared.store_answer.StoreAnswer.{StoreAnswer}
 use Rattle.slate_store.specs.declared.store_answer.StoreAnswer.TheVariants.{Fault}
 use Rattle.slate_store.specs.declared.store_call.StoreCall.TheVariants.{PutNew}
-use Rattle.slate_txn.specs.Boundary.{boundary_got, greatest}
-use Rattle.slate_txn.specs.LogPaths.{version_path, boundary_path, folder}
-use Rattle.slate_txn.specs.Read.{read_asks, read_goes, listed_goes, got_goes, decoded_goes, boundary_goes}
-use Rattle.slate_txn.specs.Commit.{commit_asks, commit_goes, bounded_goes}
-use Rattle.slate_txn.specs.declared.commit.CommitPhase.{CommitPhase}
-use Rattle.slate_txn.specs.declared.commit.CommitPhase.TheVariants as committing
-use Rattle.slate_txn.specs.declared.read.ReadPhase.{ReadPhase}
-use Rattle.slate_txn.specs.declared.read.ReadPhase.TheVariants as reading
+use Rattle.slate_log.specs.Boundary.{boundary_got, greatest}
+use Rattle.slate_log.specs.LogPaths.{version_path, boundary_path, folder}
+use Rattle.slate_log.specs.Read.{read_asks, read_goes, listed_goes, got_goes, decoded_goes, boundary_goes}
+use Rattle.slate_log.specs.Commit.{commit_asks, commit_goes, bounded_goes}
+use Rattle.slate_log.specs.declared.commit.CommitPhase.{CommitPhase}
+use Rattle.slate_log.specs.declared.commit.CommitPhase.TheVariants as committing
+use Rattle.slate_log.specs.declared.read.ReadPhase.{ReadPhase}
+use Rattle.slate_log.specs.declared.read.ReadPhase.TheVariants as reading
 use Rattle.slate_protocol.specs.Chains.{Link, Log, link_at, top, with_link, IsChain, bytes_of, link_bytes}
 use Rattle.slate_protocol.specs.World.{wrote}
 use Rattle.slate_laws.proofs.Stores.{IsTidy}

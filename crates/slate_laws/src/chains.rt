@@ -5,15 +5,15 @@ ghost use Rattle.slate_store.specs.Store.{Store, stands_at, listed, effect};
 ghost use Rattle.slate_store.specs.declared.list_dir.ListDir.TheVariants.{Manifests};
 ghost use Rattle.slate_store.specs.declared.mark.Mark.{Mark};
 ghost use Rattle.slate_store.specs.declared.store_call.StoreCall.TheVariants.{PutNew};
-ghost use Rattle.slate_txn.specs.Boundary.{greatest};
-ghost use Rattle.slate_txn.specs.declared.log_kind.LogKind.TheVariants.{Manifest as ManifestLog};
+ghost use Rattle.slate_log.specs.Boundary.{greatest};
+ghost use Rattle.slate_log.specs.declared.log_kind.LogKind.TheVariants.{Manifest as ManifestLog};
 ghost use Rattle.slate_script.specs.declared.db_spec.DbSpec.{DbSpec};
 ghost use Rattle.slate_script.specs.declared.event.Event.{Event};
 ghost use Rattle.slate_protocol.specs.ByRows.{party_in};
 ghost use Rattle.slate_protocol.specs.Chains.{Changed, top};
 ghost use Rattle.slate_protocol.specs.Lawful.{IsAccepted, HasDb, chains_at_end};
 ghost use Rattle.slate_protocol.specs.Logs.{chains_after, world_after};
-ghost use Rattle.slate_protocol.specs.Runs.{opening_world};
+ghost use Rattle.slate_protocol.specs.Specs.{opening_world};
 
 /// An event leaves the chain of a database, or puts one version on top, by the party of the event.
 pub fn changed()

@@ -18,10 +18,10 @@ use Rattle.slate_script.specs.declared.reply.Reply.TheVariants as reply
 use Rattle.slate_txn.specs.Apply.{renewed}
 use Rattle.slate_txn.specs.FencedUpdating.{unless}
 use Rattle.slate_txn.specs.Fencing.{fence}
-use Rattle.slate_txn.specs.declared.read.ReadPhase.TheVariants.{Listing}
-use Rattle.slate_txn.specs.declared.commit.CommitPhase.{CommitPhase}
-use Rattle.slate_txn.specs.declared.right.Right.{Right}
-use Rattle.slate_txn.specs.declared.right.Right.TheVariants.{Plain}
+use Rattle.slate_log.specs.declared.read.ReadPhase.TheVariants.{Listing}
+use Rattle.slate_log.specs.declared.commit.CommitPhase.{CommitPhase}
+use Rattle.slate_log.specs.declared.right.Right.{Right}
+use Rattle.slate_log.specs.declared.right.Right.TheVariants.{Plain}
 use Rattle.slate_protocol.specs.Manifests.{manifest_refusal, raised_writer, flushed}
 use Rattle.slate_protocol.specs.Phrases.{at_read, at_commit}
 use Rattle.slate_protocol.specs.declared.party.Facts.{Facts}

@@ -3,9 +3,9 @@ use Rattle.std.specs.Prelude.{◌≡◌, ℕ, ◌+◌, ◌≤◌, ◌==◌, List
 use Rattle.slate_ids.specs.declared.error.SlateDBError.{SlateDBError}
 use Rattle.slate_store.specs.Store.{Store, object_at}
 use Rattle.slate_store.specs.declared.object.StoredObject.{StoredObject}
-use Rattle.slate_txn.specs.LogPaths.{version_path}
-use Rattle.slate_txn.specs.declared.log_kind.LogKind.{LogKind}
-use Rattle.slate_txn.specs.declared.right.Right.{Right}
+use Rattle.slate_log.specs.LogPaths.{version_path}
+use Rattle.slate_log.specs.declared.log_kind.LogKind.{LogKind}
+use Rattle.slate_log.specs.declared.right.Right.{Right}
 
 -- a committed version: its number, the bytes that were put, their value, and who put them; the opening version has no author
 pub record Link (V A : Type 0) : Type 0 where

@@ -8,7 +8,7 @@ use Rattle.slate_model.specs.Epochs.{with_writer_epoch}
 use Rattle.slate_model.specs.Lawful.{refusal_of_update}
 use Rattle.slate_model.specs.Tracker.{inserted}
 use Rattle.slate_txn.specs.Raise.{next_epoch}
-use Rattle.slate_txn.specs.declared.right.Right.{Right}
+use Rattle.slate_log.specs.declared.right.Right.{Right}
 
 abbrev pub refused_by : Option UpdateRule → Option SlateDBError
 refused_by None = None

@@ -6,11 +6,11 @@ use Rattle.slate_model.specs.Codec.{decoded}
 use Rattle.slate_store.specs.declared.store_call.StoreCall.{StoreCall}
 use Rattle.slate_store.specs.declared.store_answer.StoreAnswer.{StoreAnswer}
 use Rattle.slate_store.specs.Machines.{Goes, Stay, End}
-use Rattle.slate_txn.specs.Read.{read_asks, read_goes, read_due}
-use Rattle.slate_txn.specs.Commit.{commit_asks, commit_goes, commit_due}
-use Rattle.slate_txn.specs.declared.read.ReadPhase.{ReadPhase}
-use Rattle.slate_txn.specs.declared.commit.CommitPhase.{CommitPhase}
-use Rattle.slate_txn.specs.declared.log_kind.LogKind.TheVariants.{Manifest as ManifestLog}
+use Rattle.slate_log.specs.Read.{read_asks, read_goes, read_due}
+use Rattle.slate_log.specs.Commit.{commit_asks, commit_goes, commit_due}
+use Rattle.slate_log.specs.declared.read.ReadPhase.{ReadPhase}
+use Rattle.slate_log.specs.declared.commit.CommitPhase.{CommitPhase}
+use Rattle.slate_log.specs.declared.log_kind.LogKind.TheVariants.{Manifest as ManifestLog}
 use Rattle.slate_protocol.specs.declared.position.Phrase.{Phrase}
 use Rattle.slate_protocol.specs.declared.position.Phrase.TheVariants.{Read, Commit}
 use Rattle.slate_protocol.specs.declared.position.Position.{Position}

@@ -2,7 +2,7 @@
 
 use slate_ids::DbPath;
 use slate_model::Manifest;
-use slate_txn::{CommitPhase, ReadPhase};
+use slate_log::{CommitPhase, ReadPhase};
 
 /// The phrase under way, at its phase.
 #[derive(Debug, Drop)]

@@ -1,6 +1,6 @@
 use Rattle.slate_protocol.specs.Lawful.{chains_at_end}
 use Rattle.slate_protocol.specs.Logs.{world_after}
-use Rattle.slate_protocol.specs.Runs.{opening_world}
+use Rattle.slate_protocol.specs.Specs.{opening_world}
 use Rattle.slate_laws.proofs.Listed.{list_top}
 use Rattle.slate_laws.proofs.EveryRun.{after_inv}
 use Rattle.slate_laws.proofs.chains.list_top.Goals as goal
