@@ -14,14 +14,14 @@ use Rattle.slate_store.specs.declared.store_answer.StoreAnswer.{StoreAnswer}
 use Rattle.slate_store.specs.declared.store_answer.StoreAnswer.TheVariants.{Found, Got, Created}
 use Rattle.slate_script.specs.declared.call.Call.{Call}
 use Rattle.slate_script.specs.declared.reply.Reply.TheVariants.{Refused}
-use Rattle.slate_txn.specs.Boundary.{boundary_got, greatest}
-use Rattle.slate_txn.specs.Read.{read_goes, listed_goes, decoded_goes, boundary_goes}
-use Rattle.slate_txn.specs.Commit.{commit_goes, created_goes, bounded_goes}
-use Rattle.slate_txn.specs.declared.log_kind.LogKind.TheVariants.{Manifest as ManifestLog}
-use Rattle.slate_txn.specs.declared.read.ReadPhase.{ReadPhase}
-use Rattle.slate_txn.specs.declared.read.ReadPhase.TheVariants as reading
-use Rattle.slate_txn.specs.declared.commit.CommitPhase.{CommitPhase}
-use Rattle.slate_txn.specs.declared.commit.CommitPhase.TheVariants as committing
+use Rattle.slate_log.specs.Boundary.{boundary_got, greatest}
+use Rattle.slate_log.specs.Read.{read_goes, listed_goes, decoded_goes, boundary_goes}
+use Rattle.slate_log.specs.Commit.{commit_goes, created_goes, bounded_goes}
+use Rattle.slate_log.specs.declared.log_kind.LogKind.TheVariants.{Manifest as ManifestLog}
+use Rattle.slate_log.specs.declared.read.ReadPhase.{ReadPhase}
+use Rattle.slate_log.specs.declared.read.ReadPhase.TheVariants as reading
+use Rattle.slate_log.specs.declared.commit.CommitPhase.{CommitPhase}
+use Rattle.slate_log.specs.declared.commit.CommitPhase.TheVariants as committing
 use Rattle.slate_protocol.specs.Phrases.{asks, goes, phrase_goes, read_on, commit_on}
 use Rattle.slate_protocol.specs.Calls.{follow}
 use Rattle.slate_protocol.specs.declared.party.Facts.{Facts}
@@ -112,8 +112,8 @@ kept_by purpose from to e h (inl step) = absurd (true≢false (sym h ∙ never_m
 kept_by purpose from to e h (inr held) = record { same_purpose = refl; same_position = held.1.kept; contents = held.1.made.contents }
 
 -- any other refusal is the reply
-pub refused_by : (facts : Facts) (call : Call) (purpose : Purpose) (from to : Position) {old new : Told} {moment : ℤ} (e : SlateDBError) → is_memory e ≡ false
+pub refused_by : (facts : Facts) (call : Call) (purpose : Purpose) (from to : Position) {old new : Told} (moment : ℤ) (e : SlateDBError) → is_memory e ≡ false
     → OrMemory {X = Ended} (Err e) (Held old new (asks from) moment from to) (Stepped old new (asks from) moment (goes from) (End to (Err e)))
     → Followed facts call purpose from old new moment purpose to (Some (Refused e))
-refused_by facts call purpose from to e h (inl step) = record { answer = step.answer; makes = step.makes; next = ap (follow facts call purpose) step.gives }
-refused_by facts call purpose from to e h (inr held) = absurd (true≢false (sym held.0 ∙ h))
+refused_by facts call purpose from to moment e h (inl step) = record { answer = step.answer; makes = step.makes; next = ap (follow facts call purpose moment) step.gives }
+refused_by facts call purpose from to moment e h (inr held) = absurd (true≢false (sym held.0 ∙ h))

@@ -4,9 +4,11 @@ use Rattle.std.proofs.lemmas.List.{append-nil}
 use Rattle.slate_store.specs.Counts.{Rose}
 use Rattle.slate_script.specs.Scripts.{script_of}
 use Rattle.slate_script.specs.declared.script.Script.{Script}
+use Rattle.slate_script.specs.declared.cluster_cause.ClusterCause.{ClusterCause}
 use Rattle.slate_script.specs.declared.script.ScriptPlace.{ScriptPlace}
+use Rattle.slate_protocol.specs.Specs.{cause_of_specs}
 use Rattle.slate_cluster.specs.Commands.{help_text, version_text}
-use Rattle.slate_cluster.specs.Endings.{End, GoesWell, Stays, Fails, ReadsWhole, ReadsTooLong, WritesWhole, WritesFront, Writes, after_fault, Delivers, Answers, IfAnswered, Runs, Outcome, ExactlyEnds, EndsTooLong, text_for, status_for, run_status, ran_of, limit}
+use Rattle.slate_cluster.specs.Endings.{End, GoesWell, Stays, Fails, ReadsWhole, ReadsTooLong, WritesWhole, WritesFront, Writes, after_fault, Delivers, Answers, IfAnswered, Runs, Outcome, ExactlyEnds, EndsTooLong, text_for, status_for, script_status, run_status, ran_of, limit}
 use Rattle.slate_cluster.specs.declared.command.Command.{Command}
 use Rattle.slate_cluster.specs.declared.command.Command.TheVariants.{Run, Help, Version}
 use Rattle.slate_cluster.specs.declared.status.Status.{Status}
@@ -18,6 +20,7 @@ use Rattle.slate_cluster.specs.declared.status.Status.TheVariants as status
 abbrev IsAsked : Status → Type 0
 IsAsked status.Ok = Unit {0}
 IsAsked (status.BadScript p) = Unit {0}
+IsAsked (status.BadCluster c) = Unit {0}
 IsAsked (status.BadEvent n) = Unit {0}
 IsAsked _ = ⊥
 
@@ -25,13 +28,18 @@ run-asks : (bad : Option ℕ) → IsAsked (run_status bad)
 run-asks None = tt
 run-asks (Some n) = tt
 
+script-asks : (o : Option ClusterCause) (script : Script) → IsAsked (script_status o script)
+script-asks None script = run-asks (ran_of script).bad
+script-asks (Some c) script = tt
+
 input-asks : (read : Result Script ScriptPlace) → IsAsked (status_for read)
-input-asks (Ok script) = run-asks (ran_of script).bad
+input-asks (Ok script) = script-asks (cause_of_specs script.databases) script
 input-asks (Err p) = tt
 
 whole-answers : (read : Result Script ScriptPlace) (old new : End) (asked : Status) → IsAsked asked → status_for read ≡ asked → WritesWhole (text_for read) old new → Answers read old new asked
 whole-answers read old new status.Ok is e h = (e, h)
 whole-answers read old new (status.BadScript p) is e h = (e, inl h)
+whole-answers read old new (status.BadCluster c) is e h = (e, inl h)
 whole-answers read old new (status.BadEvent n) is e h = (e, inl h)
 whole-answers read old new status.BadWords is e h = absurd is
 whole-answers read old new status.ReadFault is e h = absurd is
@@ -42,6 +50,7 @@ whole-answers read old new status.OutOfMemory is e h = absurd is
 front-answers : (read : Result Script ScriptPlace) (old new : End) (asked : Status) → IsAsked asked → status_for read ≡ asked → WritesFront (text_for read) old new → Answers read old new (after_fault asked)
 front-answers read old new status.Ok is e h = (e, h)
 front-answers read old new (status.BadScript p) is e h = (e, inr h)
+front-answers read old new (status.BadCluster c) is e h = (e, inr h)
 front-answers read old new (status.BadEvent n) is e h = (e, inr h)
 front-answers read old new status.BadWords is e h = absurd is
 front-answers read old new status.ReadFault is e h = absurd is
@@ -62,6 +71,7 @@ if_answered status.ReadFault P h = h
 if_answered status.WriteFault P h = h
 if_answered status.TooLong P h = h
 if_answered (status.BadScript p) P h = h
+if_answered (status.BadCluster c) P h = h
 if_answered (status.BadEvent n) P h = h
 
 -- ---- the input
@@ -96,6 +106,8 @@ run-exact input f source' sink sink' status.Ok h short calm quiet =
 run-exact input f source' sink sink' status.WriteFault h short calm quiet = absurd (quiet (front-fails (text_for (script_of h.1)) sink sink' h.3.1))
 run-exact input f source' sink sink' (status.BadScript p) h short calm quiet =
     along (status.BadScript p) sink sink' input h.1 (input_is input h.1 source'.bytes f source'.faults h.2) (ends-whole (script_of h.1) sink sink' (status.BadScript p) h.3.0 quiet h.3.1)
+run-exact input f source' sink sink' (status.BadCluster c) h short calm quiet =
+    along (status.BadCluster c) sink sink' input h.1 (input_is input h.1 source'.bytes f source'.faults h.2) (ends-whole (script_of h.1) sink sink' (status.BadCluster c) h.3.0 quiet h.3.1)
 run-exact input f source' sink sink' (status.BadEvent n) h short calm quiet =
     along (status.BadEvent n) sink sink' input h.1 (input_is input h.1 source'.bytes f source'.faults h.2) (ends-whole (script_of h.1) sink sink' (status.BadEvent n) h.3.0 quiet h.3.1)
 run-exact input f source' sink sink' status.BadWords h short calm quiet = absurd h
@@ -114,6 +126,7 @@ run-too_long : (input : List ℕ) (f : ℕ) (source' sink sink' : End) (st : Sta
 run-too_long input f source' sink sink' status.Ok h long calm = long-absurd input h.1 f source' long h.2
 run-too_long input f source' sink sink' status.WriteFault h long calm = long-absurd input h.1 f source' long h.2
 run-too_long input f source' sink sink' (status.BadScript p) h long calm = long-absurd input h.1 f source' long h.2
+run-too_long input f source' sink sink' (status.BadCluster c) h long calm = long-absurd input h.1 f source' long h.2
 run-too_long input f source' sink sink' (status.BadEvent n) h long calm = long-absurd input h.1 f source' long h.2
 run-too_long input f source' sink sink' status.BadWords h long calm = absurd h
 run-too_long input f source' sink sink' status.ReadFault h long calm = absurd (calm h.0)
@@ -156,6 +169,7 @@ run-tells : (source source' sink sink' : End) (st : Status) → Runs source sour
 run-tells source source' sink sink' status.Ok h = record { words = (λ e. cc, λ e. cc); read_fault = λ e. cc; no_read_fault = λ e. h.0; write_fault = λ e. cc; no_write_fault = λ e. h.3.1.1 }
 run-tells source source' sink sink' status.WriteFault h = record { words = (λ e. cc, λ e. cc); read_fault = λ e. cc; no_read_fault = λ e. h.0; write_fault = λ e. h.3.1.3; no_write_fault = λ e. cc }
 run-tells source source' sink sink' (status.BadScript p) h = record { words = (λ e. cc, λ e. cc); read_fault = λ e. cc; no_read_fault = λ e. h.0; write_fault = λ e. cc; no_write_fault = λ e. cc }
+run-tells source source' sink sink' (status.BadCluster c) h = record { words = (λ e. cc, λ e. cc); read_fault = λ e. cc; no_read_fault = λ e. h.0; write_fault = λ e. cc; no_write_fault = λ e. cc }
 run-tells source source' sink sink' (status.BadEvent n) h = record { words = (λ e. cc, λ e. cc); read_fault = λ e. cc; no_read_fault = λ e. h.0; write_fault = λ e. cc; no_write_fault = λ e. cc }
 run-tells source source' sink sink' status.BadWords h = absurd h
 run-tells source source' sink sink' status.ReadFault h = record { words = (λ e. cc, λ e. cc); read_fault = λ e. h.0; no_read_fault = λ e. absurd (e refl); write_fault = λ e. cc; no_write_fault = λ e. cc }

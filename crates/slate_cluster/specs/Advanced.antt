@@ -5,9 +5,9 @@ use Rattle.slate_store.specs.Calls.{Told}
 use Rattle.slate_store.specs.Machines.{Steps}
 use Rattle.slate_store.specs.declared.step.Step.{Step}
 use Rattle.slate_store.specs.declared.step.Step.TheVariants.{Done}
-use Rattle.slate_txn.specs.declared.read.ReadPhase.{ReadPhase}
-use Rattle.slate_txn.specs.declared.read.ReadPhase.TheVariants.{Bounding}
-use Rattle.slate_txn.specs.declared.commit.CommitPhase.{CommitPhase}
+use Rattle.slate_log.specs.declared.read.ReadPhase.{ReadPhase}
+use Rattle.slate_log.specs.declared.read.ReadPhase.TheVariants.{Bounding}
+use Rattle.slate_log.specs.declared.commit.CommitPhase.{CommitPhase}
 use Rattle.slate_protocol.specs.Phrases.{asks, goes, at_read, at_commit}
 use Rattle.slate_protocol.specs.declared.position.Position.{Position}
 use Rattle.slate_protocol.specs.declared.position.Ended.{Ended}

@@ -28,7 +28,7 @@ help_text =
     ++ line []
     ++ line (codes "Exit codes: 0 done, 2 no such command, 3 reading failed,")
     ++ line (codes "4 writing failed, 5 more than 64 MiB of input, 6 no script,")
-    ++ line (codes "8 a bad event, 9 out of memory.")
+    ++ line (codes "7 refused databases, 8 a bad event, 9 out of memory.")
 
 -- the name and the version of the program
 unfoldable pub version_text : List ℕ

@@ -5,8 +5,10 @@ use Rattle.slate_store.specs.Counts.{Rose}
 use Rattle.slate_script.specs.Scripts.{script_of}
 use Rattle.slate_script.specs.declared.script.Script.{Script}
 use Rattle.slate_script.specs.declared.script.ScriptPlace.{ScriptPlace}
-use Rattle.slate_script.specs.declared.script.ScriptPlace.TheVariants as place
+use Rattle.slate_script.specs.declared.cluster_cause.ClusterCause.{ClusterCause}
+use Rattle.slate_script.specs.Lines.{place_text, cause_text}
 use Rattle.slate_protocol.specs.Runs.{Ran, opening, run}
+use Rattle.slate_protocol.specs.Specs.{cause_of_specs}
 use Rattle.slate_protocol.specs.Lawful.{Lawful}
 use Rattle.slate_protocol.specs.Reports.{report_text}
 use Rattle.slate_cluster.specs.Commands.{help_text, version_text}
@@ -21,18 +23,22 @@ use Rattle.slate_cluster.specs.declared.status.Status.TheVariants as status
 abbrev pub ran_of : Script → Ran
 ran_of script = run script.events 0 (opening script.databases)
 
--- the name of a place
-abbrev pub place_text : ScriptPlace → List ℕ
-place_text place.Json = codes "json"
-place_text place.Top = codes "top"
-
 -- the line of an input that is no script
 abbrev pub bad_script_line : ScriptPlace → List ℕ
 bad_script_line p = codes "bad script " ++ place_text p ++ 10 ∷ []
 
+-- the line of a script whose databases are refused
+abbrev pub bad_cluster_line : ClusterCause → List ℕ
+bad_cluster_line c = codes "bad cluster " ++ cause_text c ++ 10 ∷ []
+
+-- what is written for a script, by what refuses its databases
+abbrev pub script_text : Option ClusterCause → Script → List ℕ
+script_text None script = report_text (ran_of script)
+script_text (Some c) script = bad_cluster_line c
+
 -- what is written for what the bytes stand for
 abbrev pub text_for : Result Script ScriptPlace → List ℕ
-text_for (Ok script) = report_text (ran_of script)
+text_for (Ok script) = script_text (cause_of_specs script.databases) script
 text_for (Err p) = bad_script_line p
 
 -- the status of a run with this first bad event
@@ -40,9 +46,14 @@ abbrev pub run_status : Option ℕ → Status
 run_status None = status.Ok
 run_status (Some n) = status.BadEvent n
 
+-- the status that a script asks for, by what refuses its databases
+abbrev pub script_status : Option ClusterCause → Script → Status
+script_status None script = run_status (ran_of script).bad
+script_status (Some c) script = status.BadCluster c
+
 -- the status that the input asks for
 abbrev pub status_for : Result Script ScriptPlace → Status
-status_for (Ok script) = run_status (ran_of script).bad
+status_for (Ok script) = script_status (cause_of_specs script.databases) script
 status_for (Err p) = status.BadScript p
 
 -- the exit code of a status
@@ -53,6 +64,7 @@ exit_code_of status.ReadFault = 3
 exit_code_of status.WriteFault = 4
 exit_code_of status.TooLong = 5
 exit_code_of (status.BadScript p) = 6
+exit_code_of (status.BadCluster c) = 7
 exit_code_of (status.BadEvent n) = 8
 exit_code_of status.OutOfMemory = 9
 
@@ -119,13 +131,18 @@ abbrev pub Answers : Result Script ScriptPlace → End → End → Status → Ty
 Answers read old new status.Ok = (status_for read ≡ status.Ok) × WritesWhole (text_for read) old new
 Answers read old new status.WriteFault = (status_for read ≡ status.Ok) × WritesFront (text_for read) old new
 Answers read old new (status.BadScript p) = (status_for read ≡ status.BadScript p) × Writes (text_for read) old new
+Answers read old new (status.BadCluster c) = (status_for read ≡ status.BadCluster c) × Writes (text_for read) old new
 Answers read old new (status.BadEvent n) = (status_for read ≡ status.BadEvent n) × Writes (text_for read) old new
 Answers read old new status.OutOfMemory = Stays old new
 Answers read old new _ = ⊥
 
--- the run of a script is lawful
+-- the run of a script is lawful, where there is one
+abbrev pub IsLawfulScript : Option ClusterCause → Script → Type 0
+IsLawfulScript None script = Lawful (ran_of script).course
+IsLawfulScript (Some c) script = Unit {0}
+
 abbrev pub IsLawfulRun : Result Script ScriptPlace → Type 0
-IsLawfulRun (Ok script) = Lawful (ran_of script).course
+IsLawfulRun (Ok script) = IsLawfulScript (cause_of_specs script.databases) script
 IsLawfulRun (Err p) = Unit {0}
 
 -- the whole input was read, and answered; the run that was reported is lawful
@@ -145,6 +162,7 @@ Runs source source' sink sink' status.OutOfMemory = GoesWell source source' × S
 Runs source source' sink sink' status.Ok = AnswersWhole source source' sink sink' status.Ok
 Runs source source' sink sink' status.WriteFault = AnswersWhole source source' sink sink' status.WriteFault
 Runs source source' sink sink' (status.BadScript p) = AnswersWhole source source' sink sink' (status.BadScript p)
+Runs source source' sink sink' (status.BadCluster c) = AnswersWhole source source' sink sink' (status.BadCluster c)
 Runs source source' sink sink' (status.BadEvent n) = AnswersWhole source source' sink sink' (status.BadEvent n)
 Runs source source' sink sink' status.BadWords = ⊥
 

@@ -3,6 +3,7 @@ pub mod Recorded
 pub mod Followed
 pub mod Stepped
 pub mod Numbered
+pub mod Opened
 pub mod Ran
 pub mod Commands
 pub mod Endings

@@ -12,7 +12,7 @@ use Rattle.slate_protocol.specs.declared.party.Facts.{Facts}
 use Rattle.slate_protocol.specs.declared.party.Party.{Party}
 use Rattle.slate_protocol.specs.declared.party.Purpose.{Purpose}
 use Rattle.slate_protocol.specs.declared.party.State.{State}
-use Rattle.slate_protocol.specs.declared.party.State.TheVariants.{Resting, Busy}
+use Rattle.slate_protocol.specs.declared.party.State.TheVariants.{Resting, Busy, Halted}
 use Rattle.slate_protocol.specs.declared.position.Position.{Position}
 
 -- the one store call was made under a mark, its answer is the store's, and the call goes on as its row says
@@ -20,12 +20,13 @@ pub record IsStepped (facts : Facts) (under : Call) (purpose : Purpose) (positio
   pub call : made.call ≡ asks position
   pub answer : made.answer ≡ (effect mark (asks position) moment old).answer
   pub store : new ≡ (effect mark (asks position) moment old).store
-  pub next : follow facts under purpose (goes position (effect mark (asks position) moment old).answer) ≡ to
+  pub next : follow facts under purpose moment (goes position (effect mark (asks position) moment old).answer) ≡ to
 
 -- whether a store call is due in a party's call
 abbrev pub is_busy : State → Bool
 is_busy Resting = false
 is_busy (Busy call purpose position) = is_due position
+is_busy Halted = false
 
 -- a party's call went one step, and the party stands there
 pub record Moves (facts : Facts) (under : Call) (purpose : Purpose) (position : Position) (moment : ℤ) (mark : Mark) (old new : Store) (made : Made) (reply : Option Reply) (party : Party) : Type 0 where
@@ -37,4 +38,5 @@ pub record Moves (facts : Facts) (under : Call) (purpose : Purpose) (position : 
 -- a step of a party, which has a call
 abbrev pub PartyStepped : Facts → State → ℤ → Mark → Store → Store → Made → Option Reply → Party → Type 0
 PartyStepped facts Resting moment mark old new made reply party = ⊥
+PartyStepped facts Halted moment mark old new made reply party = ⊥
 PartyStepped facts (Busy call purpose position) moment mark old new made reply party = Moves facts call purpose position moment mark old new made reply party

@@ -1,15 +1,15 @@
 //! The cluster: parties over one store, with the trail of what happened.
-ghost use Rattle.std.specs.Prelude.{◌≡◌, IfOk};
-ghost use Rattle.slate_script.specs.Scripts.{IsOneNew};
-ghost use Rattle.slate_protocol.specs.Lawful.{IsAccepted, Lawful};
-ghost use Rattle.slate_protocol.specs.Runs.{opening};
+ghost use Rattle.std.specs.Prelude.{◌≡◌};
+ghost use Rattle.slate_protocol.specs.Lawful.{Lawful};
+ghost use Rattle.slate_cluster.specs.Opened.{Opens};
 ghost use Rattle.slate_cluster.specs.Ran.{HasRun};
 
+use crate::opening::names;
 use crate::progress::Progress;
-use slate_ids::DbPath;
+use slate_ids::{DbPath, OutOfMemory};
 use slate_laws::{begins, goes_on, lawful, stops};
 use slate_protocol::Tally;
-use slate_script::{DbSpec, Entry, Event};
+use slate_script::{ClusterCause, DbSpec, Entry, Event};
 use slate_store::MemoryStore;
 use std::alloc::Global;
 use std::collections::BTreeMap;
@@ -36,8 +36,20 @@ impl Model for Cluster {
 /// Why a cluster was not made.
 #[derive(Clone, Copy, Debug, PartialEq, Eq)]
 pub enum NewError {
+    /// The databases can't begin a run, and this is the first cause.
+    BadCluster(ClusterCause),
     /// Memory ran out.
     OutOfMemory,
+}
+
+impl From<OutOfMemory> for NewError {
+    ghost use Rattle.slate_cluster.specs.declared.cluster.NewError.TheVariants.{OutOfMemory as NoMemory};
+
+    ghost from_gives = { λ _ e. e ≡ NoMemory };
+
+    fn from(_e: OutOfMemory) -> NewError {
+        NewError::OutOfMemory
+    }
 }
 
 /// How a run ended early. Places count the events of this run from 0.
@@ -55,31 +67,17 @@ pub struct Report {
     pub entries: Vec<Entry>,
 }
 
-// One new database is accepted, since its path is a name.
-fn accepted(specs: &[DbSpec])
-    requires { IsOneNew specs.now }
-    ensures { IsAccepted specs.now }
-{
-    match specs {
-        [spec] => {
-            let _ = spec.path.letters();
-        }
-        _ => unreachable!(),
-    }
-}
-
 impl Cluster {
-    /// A cluster over one new database, with no party.
+    /// A cluster over these databases, with no party. Each has its first manifest, with tags by path. Refused are, in this
+    /// order: two databases of one path (`Path`), a checkpoint id that comes twice (`Ids`), a manifest that has no bytes or
+    /// isn't what is read back of them (`Value`), and a checkpoint that names another version than the first (`Checkpoints`).
     pub fn new(alloc: Global, specs: Vec<DbSpec>) -> Result<Cluster, NewError>
-        requires { IsOneNew specs.items }
-        ensures { IfOk result (λ cluster. cluster ≡ opening specs.items) }
+        ensures { Opens specs.items result }
     {
-        accepted(specs.as_slice());
+        names(specs.as_slice());
         begins();
-        match Progress::new(alloc, specs) {
-            Ok(progress) => Ok(Cluster { progress }),
-            Err(_) => Err(NewError::OutOfMemory),
-        }
+        let progress = Progress::new(alloc, specs)?;
+        Ok(Cluster { progress })
     }
 
     /// Does the events in order, up to the first bad one.

@@ -1,35 +1,26 @@
 //! The commit that a call makes of the manifest read.
 ghost use Rattle.std.specs.Prelude.{◌≡◌};
 ghost use Rattle.slate_ids.specs.Answers.{Gives};
-ghost use Rattle.slate_script.specs.declared.call.Call.TheVariants as calls;
-ghost use Rattle.slate_protocol.specs.Manifests.{raised_writer, next_manifest, flushed};
-ghost use Rattle.slate_protocol.specs.Calls.{fenced, commit_of};
+ghost use Rattle.slate_model.specs.Codec.{encoded};
+ghost use Rattle.slate_txn.specs.Apply.{renewed};
+ghost use Rattle.slate_protocol.specs.Calls.{new_value as made_by, right_of as held_by, fenced, fence_of, commit_of};
+ghost use Rattle.slate_protocol.specs.Manifests.{manifest_refusal};
 
-use crate::flushing::flush;
 use crate::rules::ManifestRules;
+use crate::values::new_value;
 use slate_ids::{Millis, SlateDBError, StateCause};
-use slate_model::{FirstManifestCodec, Manifest, WriterEpochs};
+use slate_log::{CommitPhase, Right, prepare};
+use slate_model::{FirstManifestCodec, Manifest};
 use slate_protocol::Facts;
 use slate_script::Call;
-use slate_txn::{CommitPhase, Right, fence, prepare, prepare_raise};
+use slate_txn::fence;
 use std::alloc::Global;
 
-// The commit of a manifest that was read with its writer epoch plus one.
-fn raise_writer(
-    alloc: Global,
-    n: u64,
-    value: &Manifest,
-) -> Result<CommitPhase<Manifest>, SlateDBError>
-    ensures { Gives result (raised_writer n value.now) }
+// Under which right a call commits.
+fn right_of(_call: &Call) -> Right
+    ensures { result ≡ held_by _call.now }
 {
-    prepare_raise(
-        alloc,
-        &FirstManifestCodec,
-        &ManifestRules,
-        &WriterEpochs,
-        n,
-        value,
-    )
+    Right::Plain
 }
 
 // Why a version with the epoch `read` refuses a party.
@@ -42,57 +33,57 @@ fn refusal_at(own: Option<u64>, read: u64) -> Option<SlateDBError>
     }
 }
 
-// The commit of what a flush makes of the manifest that was read.
-fn commit_flushed(
-    alloc: Global,
-    seq: u64,
-    tick: Millis,
-    n: u64,
-    value: &Manifest,
-) -> Result<CommitPhase<Manifest>, SlateDBError>
-    ensures { Gives result (next_manifest n value.now (flushed seq tick value.now) Right.Plain) }
+// Why the version read refuses a call: a flush alone is fenced.
+fn fence_at(facts: &Facts, call: &Call, manifest: &Manifest) -> Option<SlateDBError>
+    ensures { result ≡ fence_of facts.now call.now manifest.now }
 {
-    let new = flush(alloc, seq, tick, value)?;
-    prepare(
-        alloc,
-        &FirstManifestCodec,
-        &ManifestRules,
-        n,
-        value,
-        new,
-        &Right::Plain,
-    )
-}
-
-// A flush is refused where the version read has a writer epoch above the party's.
-fn commit_flush(
-    alloc: Global,
-    facts: &Facts,
-    seq: u64,
-    tick: Millis,
-    n: u64,
-    value: &Manifest,
-) -> Result<CommitPhase<Manifest>, SlateDBError>
-    ensures { Gives result (commit_of facts.now (calls.Flush seq tick) n value.now) }
-{
-    match refusal_at(facts.epoch, value.writer_epoch) {
-        Some(refusal) => Err(refusal),
-        None => commit_flushed(alloc, seq, tick, n, value),
+    match call {
+        Call::Flush { .. } => refusal_at(facts.epoch, manifest.writer_epoch),
+        _ => None,
     }
 }
 
-/// The commit of what a call makes of the manifest that was read, or why there is none.
+// The commit of what a call makes of version `n`, or none, or why there is none.
+fn renew(
+    alloc: Global,
+    call: &Call,
+    now: Millis,
+    n: u64,
+    manifest: &Manifest,
+) -> Result<Option<CommitPhase<Manifest>>, SlateDBError>
+    ensures { Gives result (renewed (made_by call.now now) manifest_refusal encoded (held_by call.now) n manifest.now) }
+{
+    match new_value(alloc, call, now, n, manifest)? {
+        None => Ok(None),
+        Some(new) => {
+            let right = right_of(call);
+            Ok(Some(prepare(
+                alloc,
+                &FirstManifestCodec,
+                &ManifestRules,
+                n,
+                manifest,
+                new,
+                &right,
+            )?))
+        }
+    }
+}
+
+/// The commit of what a call makes at a moment of the version read; or none, where nothing is to be committed; or why there
+/// is none.
 pub(crate) fn commit_call(
     alloc: Global,
     facts: &Facts,
-    call: Call,
+    call: &Call,
+    now: Millis,
     n: u64,
-    value: &Manifest,
-) -> Result<CommitPhase<Manifest>, SlateDBError>
-    ensures { Gives result (commit_of facts.now call n value.now) }
+    manifest: &Manifest,
+) -> Result<Option<CommitPhase<Manifest>>, SlateDBError>
+    ensures { Gives result (commit_of facts.now call.now now n manifest.now) }
 {
-    match call {
-        Call::OpenWriter => raise_writer(alloc, n, value),
-        Call::Flush { seq, tick } => commit_flush(alloc, facts, seq, tick, n, value),
+    match fence_at(facts, call, manifest) {
+        Some(refusal) => Err(refusal),
+        None => renew(alloc, call, now, n, manifest),
     }
 }

@@ -1,8 +1,10 @@
 //! A cluster of parties over one store, and the program over it.
 #![tactic(auto)]
 
+mod carried;
 #[cfg(test)]
 mod checking;
+mod checkpoints;
 mod cluster;
 #[cfg(test)]
 mod cluster_tests;
@@ -15,6 +17,7 @@ mod flushing;
 mod interleaving_tests;
 #[cfg(test)]
 mod open_tests;
+mod opening;
 mod parties;
 mod party_calls;
 mod party_steps;
@@ -32,6 +35,7 @@ mod status;
 mod steps;
 mod tallies;
 mod top_call;
+mod values;
 
 pub use cluster::{Cluster, ClusterError, NewError, Report};
 pub use command::Command;

@@ -2,9 +2,9 @@
 ghost use Rattle.std.specs.Prelude.{◌≡◌, true, OnOk, OnErr, IfOk, option_copied, IsSome};
 ghost use Rattle.std.specs.BTreeMap.{insert_entry};
 ghost use Rattle.std.specs.Ordering.{nat_cmp};
-ghost use Rattle.slate_protocol.specs.Calls.{has_call as offers};
+ghost use Rattle.slate_protocol.specs.Calls as has;
 ghost use Rattle.slate_protocol.specs.World.{party_of, with_party, newcomer};
-ghost use Rattle.slate_cluster.specs.Numbered.{IsBusyAt, NumberStarted, NumberStepped};
+ghost use Rattle.slate_cluster.specs.Numbered.{IsBusyAt, NumberStarted, NumberStepped, NumberStopped};
 
 use crate::party_calls::{begin_call, step_busy};
 use crate::party_steps::Stepped;
@@ -17,12 +17,33 @@ use std::collections::BTreeMap;
 
 pub(crate) type Parties = BTreeMap<u32, Party>;
 
-// Whether a kind of party has a call.
-fn has_call(kind: PartyKind, call: Call) -> bool
-    ensures { result ≡ offers kind call }
+// Whether a call is a writer's.
+fn writer_has(call: &Call) -> bool
+    ensures { result ≡ has.writer_has call.now }
 {
-    match (kind, call) {
-        (PartyKind::Writer, Call::OpenWriter | Call::Flush { .. }) => true,
+    matches!(call, Call::OpenWriter | Call::Flush { .. })
+}
+
+// Whether a call is a holder's: it refreshes a checkpoint to a lifetime.
+fn holder_has(call: &Call) -> bool
+    ensures { result ≡ has.holder_has call.now }
+{
+    match call {
+        Call::WriteCheckpoint { .. } => true,
+        Call::ReplaceCheckpoint { .. } => true,
+        Call::RefreshCheckpoint { lifetime, .. } => lifetime.is_some(),
+        Call::DeleteCheckpoint { .. } => true,
+        _ => false,
+    }
+}
+
+/// Whether a kind of party has a call.
+pub(crate) fn has_call(kind: PartyKind, call: &Call) -> bool
+    ensures { result ≡ has.has_call kind call.now }
+{
+    match kind {
+        PartyKind::Writer => writer_has(call),
+        PartyKind::Holder => holder_has(call),
     }
 }
 
@@ -69,28 +90,42 @@ fn put_back(parties: &mut Parties, number: u32, party: Party)
     }
 }
 
-/// Starts a call of a party. None where the event is bad.
-pub(crate) fn start(parties: &mut Parties, number: u32, call: Call) -> Option<Entry>
+/// Starts a call of a party.
+pub(crate) fn start(parties: &mut Parties, number: u32, call: Call) -> Entry
+    requires { IsSome (party_of number parties.old.entries) }
     ensures { NumberStarted number call parties.old.entries (party_of number parties.old.entries) result parties.new.entries }
 {
     match find(parties, number) {
-        None => None,
-        Some(party) => {
-            if !has_call(party.facts.kind, call) {
-                return None;
-            }
-            match &party.state {
-                State::Busy(_, _, _) => Some(Entry::Idle { party: number }),
-                State::Resting => {
-                    let begun = begin_call(&party.facts, call);
-                    put_back(parties, number, begun.party);
-                    Some(Entry::Started {
-                        party: number,
-                        reply: begun.reply,
-                    })
+        None => unreachable!(),
+        Some(party) => match &party.state {
+            State::Busy(_, _, _) | State::Halted => Entry::Idle { party: number },
+            State::Resting => {
+                let begun = begin_call(&party.facts, call);
+                put_back(parties, number, begun.party);
+                Entry::Started {
+                    party: number,
+                    reply: begun.reply,
                 }
             }
-        }
+        },
+    }
+}
+
+/// Stops a party. None where the event is bad.
+pub(crate) fn stop(parties: &mut Parties, number: u32) -> Option<Entry>
+    ensures { NumberStopped number parties.old.entries (party_of number parties.old.entries) result parties.new.entries }
+{
+    match find(parties, number) {
+        None => None,
+        Some(party) => match &party.state {
+            State::Halted => Some(Entry::Idle { party: number }),
+            State::Resting | State::Busy(_, _, _) => {
+                let facts = party.facts;
+                let state = State::Halted;
+                put_back(parties, number, Party { facts, state });
+                Some(Entry::Stopped { party: number })
+            }
+        },
     }
 }
 

@@ -10,7 +10,7 @@ use slate_ids::{Millis, OutOfMemory, SlateDBError, StateCause};
 use slate_protocol::{Facts, Party, Phrase, Position, Purpose, State};
 use slate_script::{Call, Reply};
 use slate_store::{Mark, MemoryStore};
-use slate_txn::ReadPhase;
+use slate_log::ReadPhase;
 use std::alloc::Global;
 
 // The facts after a reply: an open that succeeded gives its epoch.
@@ -19,7 +19,7 @@ fn take_reply(facts: &mut Facts, reply: &Reply)
 {
     match reply {
         Reply::Epoch(epoch) => facts.epoch = Some(*epoch),
-        Reply::Done | Reply::Refused(_) => {}
+        Reply::Done | Reply::Checkpoint(_, _) | Reply::Refused(_) => {}
     }
 }
 
@@ -79,8 +79,8 @@ pub(crate) fn begin_call(facts: &Facts, call: Call) -> Begun
     ensures reply { result.reply ≡ reply_of (begin facts.now call) }
 {
     match call {
-        Call::OpenWriter => begin_read(facts, call),
         Call::Flush { .. } => begin_flush(facts, call),
+        _ => begin_read(facts, call),
     }
 }
 
@@ -89,7 +89,7 @@ pub(crate) fn has_due_call(state: &State) -> bool
     ensures { result ≡ is_busy state.now }
 {
     match state {
-        State::Resting => false,
+        State::Resting | State::Halted => false,
         State::Busy(_, _, position) => is_due(position),
     }
 }
@@ -109,9 +109,8 @@ pub(crate) fn step_busy(
 {
     let facts = party.facts;
     match &mut party.state {
-        State::Resting => unreachable!(),
+        State::Resting | State::Halted => unreachable!(),
         State::Busy(call, purpose, position) => {
-            let call = *call;
             let stepped = step_party(alloc, &facts, call, purpose, position, store, moment, mark)?;
             if let Some(reply) = &stepped.reply {
                 take_reply(&mut party.facts, reply);

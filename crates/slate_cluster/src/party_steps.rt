@@ -25,7 +25,7 @@ pub(crate) struct Stepped {
 fn step_over(
     alloc: Global,
     facts: &Facts,
-    call: Call,
+    call: &Call,
     purpose: &mut Purpose,
     position: &mut Position,
     recorder: &mut Recorder,
@@ -33,7 +33,7 @@ fn step_over(
 ) -> Result<Stepped, OutOfMemory>
     requires due { due_at position.old ≡ true }
     requires fresh { recorder.old.made.items ≡ [] }
-    ensures ok { IfOk result (λ s. IsStepped facts.now call purpose.old position.old moment (next_mark recorder.old.store.marks) recorder.old.store.store recorder.new.store.store s.made (next_by purpose.new position.new s.reply)) }
+    ensures ok { IfOk result (λ s. IsStepped facts.now call.now purpose.old position.old moment (next_mark recorder.old.store.marks) recorder.old.store.store recorder.new.store.store s.made (next_by purpose.new position.new s.reply)) }
     ensures kept_purpose { OnErr result (purpose.new ≡ purpose.old) }
     ensures kept_position { OnErr result (position.new ≡ position.old) }
     ensures kept_store { OnErr result (recorder.new.store.store ≡ recorder.old.store.store) }
@@ -50,7 +50,7 @@ fn step_over(
 pub(crate) fn step_party(
     alloc: Global,
     facts: &Facts,
-    call: Call,
+    call: &Call,
     purpose: &mut Purpose,
     position: &mut Position,
     store: &mut MemoryStore,
@@ -58,7 +58,7 @@ pub(crate) fn step_party(
     mark: Mark,
 ) -> Result<Stepped, OutOfMemory>
     requires { due_at position.old ≡ true }
-    ensures ok { IfOk result (λ s. IsStepped facts.now call purpose.old position.old moment mark store.old.store store.new.store s.made (next_by purpose.new position.new s.reply)) }
+    ensures ok { IfOk result (λ s. IsStepped facts.now call.now purpose.old position.old moment mark store.old.store store.new.store s.made (next_by purpose.new position.new s.reply)) }
     ensures kept_purpose { OnErr result (purpose.new ≡ purpose.old) }
     ensures kept_position { OnErr result (position.new ≡ position.old) }
     ensures kept_store { OnErr result (store.new.store ≡ store.old.store) }

@@ -1,8 +1,8 @@
 //! The phrase under way, as a machine over any store.
 ghost use Rattle.std.specs.Prelude.{◌≡◌, true};
 ghost use Rattle.slate_store.specs.Machines.{Steps};
-ghost use Rattle.slate_txn.specs.Read.{read_due};
-ghost use Rattle.slate_txn.specs.Commit.{commit_due};
+ghost use Rattle.slate_log.specs.Read.{read_due};
+ghost use Rattle.slate_log.specs.Commit.{commit_due};
 ghost use Rattle.slate_protocol.specs.Phrases.{asks, goes, is_due as due_at};
 ghost use Rattle.slate_cluster.specs.Advanced.{ReadSteps, ReadAtEnd, CommitSteps, AtEnd};
 
@@ -10,7 +10,7 @@ use slate_ids::{DbPath, Millis};
 use slate_model::{FirstManifestCodec, Manifest};
 use slate_protocol::{Ended, Phrase, Position};
 use slate_store::{ObjectStore, Step};
-use slate_txn::{CommitPhase, LogKind, ReadPhase, Sequenced};
+use slate_log::{CommitPhase, LogKind, ReadPhase, Sequenced};
 use std::alloc::Global;
 
 /// The log of manifests of a database.

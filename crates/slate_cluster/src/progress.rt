@@ -1,10 +1,10 @@
 //! What a cluster did so far, event by event.
 ghost use Rattle.std.specs.Prelude.{◌≡◌, ◌++◌, ◌∷◌, [], ◌<◌, IfOk, OnOk, vec_len, vec_capacity, map};
-ghost use Rattle.slate_script.specs.Scripts.{IsOneNew};
-ghost use Rattle.slate_protocol.specs.Runs.{opening, opening_world};
+ghost use Rattle.slate_cluster.specs.Opened.{Opens};
 ghost use Rattle.slate_cluster.specs.Ran.{HasRun};
 
-use crate::cluster::{ClusterError, Report};
+use crate::cluster::{ClusterError, NewError, Report};
+use crate::opening::opened;
 use crate::state::ClusterState;
 use slate_ids::{DbPath, OutOfMemory};
 use slate_protocol::Tally;
@@ -38,17 +38,6 @@ fn keep(trail: &mut Vec<Entry>, entry: Entry)
     let _ = trail.push(entry);
 }
 
-// The state as a run of one new database begins.
-fn opening_state(alloc: Global, specs: &[DbSpec]) -> Result<ClusterState, OutOfMemory>
-    requires { IsOneNew specs.now }
-    ensures { IfOk result (λ state. state ≡ opening_world specs.now) }
-{
-    match specs {
-        [spec] => ClusterState::new(alloc, spec),
-        _ => unreachable!(),
-    }
-}
-
 // Equal entries.
 fn copy_entries(alloc: Global, entries: &[Entry]) -> Result<Vec<Entry>, OutOfMemory>
     ensures { IfOk result (λ copied. copied.items ≡ entries.now) }
@@ -61,12 +50,11 @@ fn copy_entries(alloc: Global, entries: &[Entry]) -> Result<Vec<Entry>, OutOfMem
 }
 
 impl Progress {
-    /// As a run of one new database begins, with no party.
-    pub fn new(alloc: Global, specs: Vec<DbSpec>) -> Result<Progress, OutOfMemory>
-        requires { IsOneNew specs.items }
-        ensures { IfOk result (λ progress. progress ≡ opening specs.items) }
+    /// As a run of these databases begins, with no party, or the first cause that refuses them.
+    pub fn new(alloc: Global, specs: Vec<DbSpec>) -> Result<Progress, NewError>
+        ensures { Opens specs.items result }
     {
-        let state = opening_state(alloc, specs.as_slice())?;
+        let state = opened(alloc, specs.as_slice())?;
         Ok(Progress {
             specs,
             trail: Vec::new(alloc),

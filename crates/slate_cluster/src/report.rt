@@ -1,18 +1,19 @@
 //! The text that is written for an input, and the status that goes with it.
 ghost use Rattle.std.specs.Prelude.{◌≡◌, ◌++◌, Ok, IfOk, OnOk, string_bytes};
 ghost use Rattle.std.specs.List.{flat_map};
-ghost use Rattle.slate_script.specs.Scripts.{script_of, IsOneNew};
+ghost use Rattle.slate_script.specs.Scripts.{script_of};
 ghost use Rattle.slate_protocol.specs.Lawful.{Lawful};
-ghost use Rattle.slate_protocol.specs.Runs.{opening, run};
+ghost use Rattle.slate_protocol.specs.Runs.{run};
 ghost use Rattle.slate_protocol.specs.Reports.{commits_line, state_text, end_line, report_text};
-ghost use Rattle.slate_cluster.specs.Endings.{bad_script_line, text_for, run_status, status_for, IsLawfulRun};
+ghost use Rattle.slate_cluster.specs.Endings.{bad_cluster_line, bad_script_line, text_for, run_status, status_for, IsLawfulRun};
 
-use crate::cluster::{Cluster, ClusterError};
+use crate::cluster::{Cluster, ClusterError, NewError};
 use crate::status::Status;
 use slate_ids::{DbPath, OutOfMemory};
 use slate_protocol::Tally;
 use slate_script::{
-    DbSpec, Event, Script, ScriptError, ScriptPlace, push_entries, push_left, read_script,
+    ClusterCause, Event, Script, ScriptError, ScriptPlace, push_cause, push_entries, push_left,
+    push_place, read_script,
 };
 use std::alloc::{AllocError, Global};
 use std::collections::BTreeMap;
@@ -80,17 +81,6 @@ fn report(alloc: Global, cluster: &Cluster, bad: Option<u64>) -> Result<String, 
     Ok(text)
 }
 
-// A cluster over the one database of a script.
-fn opened(alloc: Global, databases: Vec<DbSpec>) -> Result<Cluster, OutOfMemory>
-    requires { IsOneNew databases.items }
-    ensures { IfOk result (λ cluster. cluster ≡ opening databases.items) }
-{
-    match Cluster::new(alloc, databases) {
-        Ok(cluster) => Ok(cluster),
-        Err(_) => Err(OutOfMemory),
-    }
-}
-
 // Does the events, and answers the place of the first bad one.
 fn done(alloc: Global, cluster: &mut Cluster, events: &[Event]) -> Result<Option<u64>, OutOfMemory>
     ensures run { IfOk result (λ bad. run events.now 0 cluster.old ≡ record { course = cluster.new; bad = bad }) }
@@ -112,30 +102,54 @@ fn status_of(bad: Option<u64>) -> Status
     }
 }
 
-// What is written for a script.
-fn answer_script(alloc: Global, script: Script) -> Result<Written, OutOfMemory>
-    requires { IsOneNew script.databases }
-    ensures text { IfOk result (λ a. string_bytes a.text ≡ text_for (Ok script)) }
-    ensures status { IfOk result (λ a. a.status ≡ status_for (Ok script)) }
-    ensures lawful { IfOk result (λ _. IsLawfulRun (Ok script)) }
+// What is written for a script whose databases begin a run.
+fn answer_run(alloc: Global, cluster: Cluster, events: &[Event]) -> Result<Written, OutOfMemory>
+    ensures text { IfOk result (λ a. string_bytes a.text ≡ report_text (run events.now 0 cluster)) }
+    ensures status { IfOk result (λ a. a.status ≡ run_status (run events.now 0 cluster).bad) }
+    ensures lawful { IfOk result (λ _. Lawful (run events.now 0 cluster).course) }
 {
-    let mut cluster = opened(alloc, script.databases.into_vec())?;
-    let bad = done(alloc, &mut cluster, script.events.as_slice())?;
+    let mut cluster = cluster;
+    let bad = done(alloc, &mut cluster, events)?;
     Ok(Written {
         text: report(alloc, &cluster, bad)?,
         status: status_of(bad),
     })
 }
 
+// The line of databases that are refused.
+fn bad_cluster(alloc: Global, cause: ClusterCause) -> Result<String, OutOfMemory>
+    ensures { IfOk result (λ text. string_bytes text ≡ bad_cluster_line cause) }
+{
+    let mut line = String::from_str(alloc, "bad cluster ")?;
+    push_cause(&mut line, cause)?;
+    line.push_str("\n")?;
+    Ok(line)
+}
+
+// What is written for a script.
+fn answer_script(alloc: Global, script: Script) -> Result<Written, OutOfMemory>
+    ensures text { IfOk result (λ a. string_bytes a.text ≡ text_for (Ok script)) }
+    ensures status { IfOk result (λ a. a.status ≡ status_for (Ok script)) }
+    ensures lawful { IfOk result (λ _. IsLawfulRun (Ok script)) }
+{
+    match Cluster::new(alloc, script.databases.into_vec()) {
+        Ok(cluster) => answer_run(alloc, cluster, script.events.as_slice()),
+        Err(NewError::BadCluster(cause)) => Ok(Written {
+            text: bad_cluster(alloc, cause)?,
+            status: Status::BadCluster(cause),
+        }),
+        Err(NewError::OutOfMemory) => Err(OutOfMemory),
+    }
+}
+
 // The line of an input that is no script.
 fn bad_script(alloc: Global, place: ScriptPlace) -> Result<String, OutOfMemory>
     ensures { IfOk result (λ text. string_bytes text ≡ bad_script_line place) }
 {
-    let line = match place {
-        ScriptPlace::Json => "bad script json\n",
-        ScriptPlace::Top => "bad script top\n",
-    };
-    Ok(String::from_str(alloc, line)?)
+    let mut line = String::from_str(alloc, "bad script ")?;
+    push_place(&mut line, place)?;
+    line.push_str("\n")?;
+    Ok(line)
 }
 
 /// What is written for an input. It is made whole in memory, and the run is done by then.

@@ -2,11 +2,12 @@
 ghost use Rattle.slate_protocol.specs.Manifests.{manifest_refusal};
 
 use slate_ids::SlateDBError;
+use slate_log::{Right, Rules};
 use slate_model::{Manifest, refusal_of_update};
-use slate_txn::{Right, Rules};
 use std::alloc::Global;
 
-/// Which manifests may follow which: epochs and floor don't fall.
+/// Which manifests may follow which: epochs and floor don't fall, and a checkpoint names the new version or one that the old
+/// manifest names.
 #[derive(Clone, Copy, Debug)]
 pub struct ManifestRules;
 
@@ -16,12 +17,12 @@ impl Rules<Manifest> for ManifestRules {
     fn check(
         &self,
         _alloc: Global,
-        _old_id: u64,
+        old_id: u64,
         old: &Manifest,
         new: &Manifest,
         _right: &Right,
     ) -> Result<(), SlateDBError> {
-        match refusal_of_update(old, new) {
+        match refusal_of_update(old_id, old, new) {
             None => Ok(()),
             Some(rule) => Err(SlateDBError::UpdateRefused(rule)),
         }

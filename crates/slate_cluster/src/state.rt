@@ -1,29 +1,29 @@
 //! The state of a cluster, and what an event does to it.
-ghost use Rattle.std.specs.Prelude.{◌≡◌, ◌∷◌, [], Some, IfOk, OnErr};
+ghost use Rattle.std.specs.Prelude.{◌≡◌, [], Some, IfOk, OnErr};
 ghost use Rattle.slate_script.specs.declared.event.Event.TheVariants as events;
-ghost use Rattle.slate_model.specs.Bytes.{manifest_bytes};
-ghost use Rattle.slate_protocol.specs.Runs.{opening_of};
+ghost use Rattle.slate_protocol.specs.World.{party_of, refuses_start};
 ghost use Rattle.slate_cluster.specs.Ran.{Happened};
 
-use crate::parties::{Parties, add, find, start, step};
+use crate::carried::{Carried, carry, is_stale};
+use crate::parties::{Parties, add, find, has_call, start, step, stop};
 use crate::party_calls::has_due_call;
 use crate::party_steps::Stepped;
 use crate::tallies::{Tallies, count, tally};
-use slate_ids::{DbPath, Millis, ObjectPath, OutOfMemory};
-use slate_model::{Manifest, encode_manifest};
-use slate_protocol::Tally;
-use slate_script::{Call, DbSpec, Entry, Event, PartyKind};
-use slate_store::{Mark, MemoryStore, ObjectStore};
+use slate_ids::{DbPath, Millis, OutOfMemory};
+use slate_script::{Call, Entry, Event, PartyKind};
+use slate_store::{Mark, MemoryStore};
 use std::alloc::Global;
 use std::marker::Model;
 
-/// The databases with their greatest committed numbers, the count of deletes, the store and the parties.
+/// The databases with their greatest committed numbers, the count of deletes, the store, the parties, and the ids that were
+/// carried.
 #[derive(Drop)]
 pub(crate) struct ClusterState {
     tallies: Tallies,
     deleted: u64,
     store: MemoryStore,
     parties: Parties,
+    carried: Carried,
 }
 
 impl Model for ClusterState {
@@ -31,56 +31,21 @@ impl Model for ClusterState {
 
     ghost Value = { World };
 
-    ghost view = { λ a. record { tallies = a.tallies.entries; deleted = a.deleted; store = a.store.store; parties = a.parties.entries } };
-}
-
-// The bytes of the first manifest of a database.
-fn first_bytes(alloc: Global, manifest: &Manifest) -> Result<Vec<u8>, OutOfMemory>
-    ensures { IfOk result (λ bytes. bytes.items ≡ manifest_bytes manifest.now) }
-{
-    match encode_manifest(alloc, manifest) {
-        Ok(bytes) => Ok(bytes),
-        Err(_) => Err(OutOfMemory),
-    }
-}
-
-// The store as a run of a database begins: its first manifest stands.
-fn opening_store(alloc: Global, spec: &DbSpec) -> Result<MemoryStore, OutOfMemory>
-    ensures { IfOk result (λ s. s.store ≡ (opening_of spec.now).store) }
-{
-    let bytes = first_bytes(alloc, &spec.manifest)?;
-    let mut store = MemoryStore::new(alloc, Vec::new(alloc));
-    let path = ObjectPath::Manifest(spec.path, 1);
-    match store.put_new(alloc, &path, bytes.as_slice(), spec.modified) {
-        Ok(_) => Ok(store),
-        Err(_) => Err(OutOfMemory),
-    }
-}
-
-// The one database, whose greatest manifest is the first.
-fn opening_tallies(alloc: Global, path: DbPath) -> Result<Tallies, OutOfMemory>
-    ensures { IfOk result (λ t. t.entries ≡ (path, record { manifest = 1; compactions = 0 }) ∷ []) }
-{
-    let mut tallies = Tallies::new(alloc);
-    let tally = Tally {
-        manifest: 1,
-        compactions: 0,
-    };
-    tallies.insert(path, tally)?;
-    Ok(tallies)
+    ghost view = { λ a. record { tallies = a.tallies.entries; deleted = a.deleted; store = a.store.store; parties = a.parties.entries; carried = a.carried.entries } };
 }
 
 impl ClusterState {
-    /// The state as a run of this database begins.
-    pub fn new(alloc: Global, spec: &DbSpec) -> Result<ClusterState, OutOfMemory>
-        ensures { IfOk result (λ state. state ≡ opening_of spec.now) }
+    /// The state of these parts, with no party.
+    pub fn of(alloc: Global, tallies: Tallies, carried: Carried, store: MemoryStore) -> ClusterState
+        ensures { result ≡ record { tallies = tallies.entries; deleted = 0; store = store.store; parties = []; carried = carried.entries } }
     {
-        Ok(ClusterState {
-            tallies: opening_tallies(alloc, spec.path)?,
+        ClusterState {
+            tallies,
             deleted: 0,
-            store: opening_store(alloc, spec)?,
+            store,
             parties: Parties::new(alloc),
-        })
+            carried,
+        }
     }
 
     /// The databases, with their greatest committed numbers.
@@ -123,11 +88,39 @@ impl ClusterState {
         }
     }
 
-    // A party starts a call.
-    fn start(&mut self, number: u32, call: Call) -> Option<Entry>
-        ensures { Happened self.old (events.Start number call) result self.new }
+    // Whether a start of a call by the party of a number is bad.
+    fn refuses_start(&self, number: u32, call: &Call) -> bool
+        ensures { result ≡ refuses_start self.now call.now (party_of number self.now.parties) }
     {
-        start(&mut self.parties, number, call)
+        match find(&self.parties, number) {
+            None => true,
+            Some(party) => !has_call(party.facts.kind, call) || is_stale(&self.carried, call),
+        }
+    }
+
+    // A party starts a call, whose ids are carried.
+    fn start(
+        &mut self,
+        alloc: Global,
+        number: u32,
+        call: &Call,
+    ) -> Result<Option<Entry>, OutOfMemory>
+        ensures ok { IfOk result (λ o. Happened self.old (events.Start number call.now) o self.new) }
+        ensures err { OnErr result (self.new ≡ self.old) }
+    {
+        if self.refuses_start(number, call) {
+            return Ok(None);
+        }
+        let started = call.copy(alloc)?;
+        carry(alloc, &mut self.carried, number, call)?;
+        Ok(Some(start(&mut self.parties, number, started)))
+    }
+
+    // A party stops.
+    fn stop(&mut self, number: u32) -> Option<Entry>
+        ensures { Happened self.old (events.Stop number) result self.new }
+    {
+        stop(&mut self.parties, number)
     }
 
     // A party that has a call makes its next store call.
@@ -182,7 +175,8 @@ impl ClusterState {
     {
         match event {
             Event::Open { party, kind, db } => self.open(*party, *kind, *db),
-            Event::Start { party, call } => Ok(self.start(*party, *call)),
+            Event::Start { party, call } => self.start(alloc, *party, call),
+            Event::Stop { party } => Ok(self.stop(*party)),
             Event::Step {
                 party,
                 moment,

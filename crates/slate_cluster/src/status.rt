@@ -2,7 +2,7 @@
 ghost use Rattle.std.specs.Prelude.{◌≡◌};
 ghost use Rattle.slate_cluster.specs.Endings.{exit_code_of};
 
-use slate_script::ScriptPlace;
+use slate_script::{ClusterCause, ScriptPlace};
 
 /// How the program ends.
 #[derive(Clone, Copy, Debug, Drop, PartialEq, Eq)]
@@ -20,6 +20,9 @@ pub enum Status {
     /// The input is no script, and this is the first place. The line that says so was written, or where a write failed a
     /// front of it.
     BadScript(ScriptPlace),
+    /// No run begins with the script's databases, and this is the first cause. The line that says so was written, or where a
+    /// write failed a front of it.
+    BadCluster(ClusterCause),
     /// The event at this place, counted from 0, is the first bad one. The report of the events before it was written, or
     /// where a write failed a front of it.
     BadEvent(u64),
@@ -39,6 +42,7 @@ impl Status {
             Status::WriteFault => 4,
             Status::TooLong => 5,
             Status::BadScript(_) => 6,
+            Status::BadCluster(_) => 7,
             Status::BadEvent(_) => 8,
             Status::OutOfMemory => 9,
         }

@@ -1,6 +1,7 @@
 //! One step of a call.
 ghost use Rattle.std.specs.Prelude.{◌≡◌, true, IfOk, OnErr};
-ghost use Rattle.slate_protocol.specs.Calls.{reply_to as replies};
+ghost use Rattle.slate_model.specs.Checkpoints.{checkpoint_at};
+ghost use Rattle.slate_protocol.specs.Calls.{reply_to as replies, checkpoint_reply as replied};
 ghost use Rattle.slate_protocol.specs.Phrases.{is_due};
 ghost use Rattle.slate_cluster.specs.Recorded.{told_by};
 ghost use Rattle.slate_cluster.specs.Followed.{Commits, Ends, Followed, Kept};
@@ -8,36 +9,61 @@ ghost use Rattle.slate_cluster.specs.Followed.{Commits, Ends, Followed, Kept};
 use crate::commits::commit_call;
 use crate::phrases::advance;
 use crate::recorder::Recorder;
-use slate_ids::{DbPath, Millis, OutOfMemory, SlateDBError};
-use slate_model::Manifest;
+use slate_ids::{CheckpointId, DbPath, Millis, OutOfMemory, SlateDBError};
+use slate_log::ReadPhase;
+use slate_model::{Manifest, find_checkpoint};
 use slate_protocol::{Ended, Facts, Phrase, Position, Purpose};
 use slate_script::{Call, Reply};
 use slate_store::Step;
-use slate_txn::ReadPhase;
 use std::alloc::Global;
+
+// The checkpoint of an id, as a reply.
+fn checkpoint_reply(id: CheckpointId, manifest: &Manifest) -> Reply
+    ensures { result ≡ replied id (checkpoint_at id manifest.now.checkpoints) }
+{
+    match find_checkpoint(manifest.checkpoints.as_slice(), &id) {
+        Some(checkpoint) => Reply::Checkpoint(checkpoint.id, checkpoint.manifest_id),
+        None => Reply::Refused(SlateDBError::CheckpointMissing(id)),
+    }
+}
+
+// The reply where a manifest was committed, or needed no commit.
+fn reply_to(call: &Call, manifest: &Manifest) -> Reply
+    ensures { result ≡ replies call.now manifest.now }
+{
+    match call {
+        Call::OpenWriter => Reply::Epoch(manifest.writer_epoch),
+        Call::Flush { .. } | Call::DeleteCheckpoint { .. } => Reply::Done,
+        Call::WriteCheckpoint { id, .. } => checkpoint_reply(*id, manifest),
+        Call::ReplaceCheckpoint { id, .. } => checkpoint_reply(*id, manifest),
+        Call::RefreshCheckpoint { id, .. } => checkpoint_reply(*id, manifest),
+    }
+}
 
 // The latest manifest was read. Want of memory puts the read back to its last phase.
 fn read_version(
     alloc: Global,
     facts: &Facts,
-    call: Call,
+    call: &Call,
     db: DbPath,
+    now: Millis,
     purpose: &mut Purpose,
     position: &mut Position,
     n: u64,
     value: Manifest,
 ) -> Result<Option<Reply>, OutOfMemory>
-    ensures { Commits facts.now call db purpose.old n value purpose.new position.new result }
+    ensures { Commits facts.now call.now db now purpose.old n value purpose.new position.new result }
 {
-    match commit_call(alloc, facts, call, n, &value) {
-        Ok(commit) => {
-            *purpose = Purpose::Committing;
+    match commit_call(alloc, facts, call, now, n, &value) {
+        Ok(Some(commit)) => {
+            *purpose = Purpose::Committing(now);
             *position = Position {
                 db: facts.db,
                 phrase: Phrase::Commit(commit),
             };
             Ok(None)
         }
+        Ok(None) => Ok(Some(reply_to(call, &value))),
         Err(e) => {
             if e.is_memory() {
                 *position = Position {
@@ -52,36 +78,27 @@ fn read_version(
     }
 }
 
-// The reply where the commit stood.
-fn reply_to(call: Call, value: &Manifest) -> Reply
-    ensures { result ≡ replies call value.now }
-{
-    match call {
-        Call::OpenWriter => Reply::Epoch(value.writer_epoch),
-        Call::Flush { .. } => Reply::Done,
-    }
-}
-
 // The phrase under way has ended. Want of memory puts it back to its last phase.
 fn end_phrase(
     alloc: Global,
     facts: &Facts,
-    call: Call,
+    call: &Call,
     db: DbPath,
+    now: Millis,
     purpose: &mut Purpose,
     position: &mut Position,
     ended: Ended,
 ) -> Result<Option<Reply>, OutOfMemory>
-    ensures { Ends facts.now call db purpose.old ended purpose.new position.new result }
+    ensures { Ends facts.now call.now db now purpose.old ended purpose.new position.new result }
 {
     match (*purpose, ended) {
         (_, Ended::NoVersion) => Ok(Some(Reply::Refused(
             SlateDBError::LatestTransactionalObjectVersionMissing,
         ))),
         (Purpose::Reading, Ended::Version(n, value)) => {
-            read_version(alloc, facts, call, db, purpose, position, n, value)
+            read_version(alloc, facts, call, db, now, purpose, position, n, value)
         }
-        (Purpose::Committing, Ended::Committed(_, value)) => Ok(Some(reply_to(call, &value))),
+        (Purpose::Committing(_), Ended::Committed(_, value)) => Ok(Some(reply_to(call, &value))),
         _ => Ok(Some(Reply::Refused(SlateDBError::StoreFault))),
     }
 }
@@ -91,20 +108,22 @@ fn end_phrase(
 pub(crate) fn step_call(
     alloc: Global,
     facts: &Facts,
-    call: Call,
+    call: &Call,
     purpose: &mut Purpose,
     position: &mut Position,
     store: &mut Recorder,
     moment: Millis,
 ) -> Result<Option<Reply>, OutOfMemory>
     requires { is_due position.old ≡ true }
-    ensures ok { IfOk result (λ reply. Followed facts.now call purpose.old position.old (told_by store.old) (told_by store.new) moment purpose.new position.new reply) }
+    ensures ok { IfOk result (λ reply. Followed facts.now call.now purpose.old position.old (told_by store.old) (told_by store.new) moment purpose.new position.new reply) }
     ensures err { OnErr result (Kept purpose.old position.old (told_by store.old) (told_by store.new) purpose.new position.new) }
 {
     let db = position.db;
     match advance(alloc, position, store, moment) {
         Step::Again => Ok(None),
-        Step::Done(Ok(ended)) => end_phrase(alloc, facts, call, db, purpose, position, ended),
+        Step::Done(Ok(ended)) => {
+            end_phrase(alloc, facts, call, db, moment, purpose, position, ended)
+        }
         Step::Done(Err(e)) => {
             if e.is_memory() {
                 Err(OutOfMemory)

@@ -23,7 +23,7 @@ Runs a script of parties at an object store, and reports.
 
 Exit codes: 0 done, 2 no such command, 3 reading failed,
 4 writing failed, 5 more than 64 MiB of input, 6 no script,
-8 a bad event, 9 out of memory.
+7 refused databases, 8 a bad event, 9 out of memory.
 ";
 
 const VERSION: &str = "buqtarel 0.1.0\n";

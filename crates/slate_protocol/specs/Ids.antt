@@ -54,9 +54,13 @@ is_stale carried call = is_stale_id carried (named_ids call) (fresh_id call)
 abbrev pub brought_by : ℕ → List ℕ → List ℕ × Carrier
 brought_by n id = (id, record { party = Some n; pin = false })
 
+-- what is known of an id that nobody brings
+abbrev pub nobodys : Carrier
+nobodys = record { party = None; pin = false }
+
 -- an id that nobody brings
 abbrev pub only_named : List ℕ → List ℕ × Carrier
-only_named id = (id, record { party = None; pin = false })
+only_named id = (id, nobodys)
 
 -- the ids that a call of a party carries
 abbrev pub ids_of : ℕ → Call → List (List ℕ × Carrier)

@@ -14,7 +14,7 @@ use Rattle.slate_store.specs.Store.{Store, stored}
 use Rattle.slate_script.specs.declared.cluster_cause.ClusterCause.{ClusterCause}
 use Rattle.slate_script.specs.declared.cluster_cause.ClusterCause.TheVariants as cause
 use Rattle.slate_script.specs.declared.db_spec.DbSpec.{DbSpec}
-use Rattle.slate_protocol.specs.Ids.{Carried, is_carried, only_named, with_id}
+use Rattle.slate_protocol.specs.Ids.{Carried, id_cmp, is_carried, nobodys}
 use Rattle.slate_protocol.specs.World.{World, db_cmp, tally_of}
 use Rattle.slate_protocol.specs.declared.tally.Tally.{Tally}
 
@@ -34,7 +34,7 @@ tallies_from tallies (spec ∷ specs) = if is_some (tally_of spec.path tallies) 
 -- the ids, beside those that were carried: none where one was carried already
 abbrev pub ids_from : Carried → List Checkpoint → Option Carried
 ids_from carried [] = Some carried
-ids_from carried (c ∷ cs) = if is_carried c.id carried then None else ids_from (with_id (only_named c.id) carried) cs
+ids_from carried (c ∷ cs) = if is_carried c.id carried then None else ids_from (insert_entry id_cmp carried c.id nobodys) cs
 
 abbrev pub and_ids : Option Carried → (Carried → Option Carried) → Option Carried
 and_ids None f = None

@@ -11,4 +11,4 @@ returns-then-is_memory-clause-err c =
 pub returns-else-is_memory-clause-ok : goal.returns-else-is_memory-clause-ok
 returns-else-is_memory-clause-ok c =
     let steps = rw (c.in-Done-Err.field-0-is, to_z-of_z w64 c.args.moment c.ranges.moment) at c.in-Done-Err.ensures.steps in
-    refused_by c.args.facts.now c.args.call c.args.purpose.now c.args.position.now c.advance.new.position c.in-Done-Err.e (sym c.is_memory.ensures ∙ c.if-is_memory.false) steps
+    refused_by c.args.facts.now c.args.call.now c.args.purpose.now c.args.position.now c.advance.new.position c.args.moment c.in-Done-Err.e (sym c.is_memory.ensures ∙ c.if-is_memory.false) steps
