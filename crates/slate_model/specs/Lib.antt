@@ -1,4 +1,6 @@
 pub mod Tracker
+pub mod Encodable
+pub mod Normal
 pub mod Initial
 pub mod Bytes
 pub mod Reading
