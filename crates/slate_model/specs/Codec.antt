@@ -29,14 +29,18 @@ is_checkpoint c = is_id c.id && is_u64 c.manifest_id && none_or is_i64 c.expire_
 abbrev pub is_manifest : Manifest → Bool
 is_manifest m = has_front m && is_tracker m.sequence_tracker && list_all is_checkpoint m.checkpoints && is_u64 m.floor
 
+-- the bytes of a manifest of its type
+abbrev pub typed_bytes : Manifest → Result (List ℕ) SlateDBError
+typed_bytes m = if is_manifest m then Ok (manifest_bytes m) else Err (Corrupt ManifestFormat)
+
 -- these bytes, where no field is without
-abbrev pub unless_unencodable : Option FieldName → List ℕ → Result (List ℕ) SlateDBError
-unless_unencodable None bytes = Ok bytes
+abbrev pub unless_unencodable : Option FieldName → Result (List ℕ) SlateDBError → Result (List ℕ) SlateDBError
+unless_unencodable None bytes = bytes
 unless_unencodable (Some field) bytes = Err (Unencodable field)
 
 -- the bytes of a manifest, or the field that has none
 abbrev pub encoded : Manifest → Result (List ℕ) SlateDBError
-encoded m = if is_manifest m then unless_unencodable (unencodable m) (manifest_bytes m) else Err (Corrupt ManifestFormat)
+encoded m = unless_unencodable (unencodable m) (typed_bytes m)
 
 -- the manifest of bytes
 abbrev pub decoded : List ℕ → Result Manifest SlateDBError

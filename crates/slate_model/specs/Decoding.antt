@@ -6,6 +6,7 @@ use Rattle.slate_model.specs.Reading.{◌>>=◌, after, bytes_in, flag_in, u32_i
 use Rattle.slate_model.specs.declared.checkpoint.Checkpoint.{Checkpoint}
 use Rattle.slate_model.specs.declared.manifest.Manifest.{Manifest}
 use Rattle.slate_model.specs.declared.read.Front.{Front}
+use Rattle.slate_model.specs.declared.read_checkpoint.CheckpointHead.{CheckpointHead}
 
 -- so many pairs, one after the other
 abbrev pub pairs_in : ℕ → List ℕ → Option (List (ℕ × ℤ) × List ℕ)
@@ -28,10 +29,18 @@ abbrev pub front_in : List ℕ → Option (Front × List ℕ)
 front_in bytes =
     after before_flag bytes >>= λ bytes. flag_in bytes >>= λ initialized. u64_in initialized.1 >>= λ writer. u64_in writer.1 >>= λ compactor. after before_tick compactor.1 >>= λ bytes. i64_in bytes >>= λ tick. u64_in tick.1 >>= λ seq. after no_snapshot seq.1 >>= λ bytes. Some (record { initialized = initialized.0; writer_epoch = writer.0; compactor_epoch = compactor.0; last_l0_clock_tick = tick.0; last_l0_seq = seq.0 }, bytes)
 
--- the id, the version that it names, the expiry, the creation and the name
+-- the id, the version that it names, the expiry and the creation
+abbrev pub head_in : List ℕ → Option (CheckpointHead × List ℕ)
+head_in bytes =
+    bytes_in 16 bytes >>= λ id. u64_in id.1 >>= λ version. option_in later_second_in version.1 >>= λ expiry. second_in expiry.1 >>= λ creation. Some (record { id = id.0; manifest_id = version.0; expire_time = expiry.0; create_time = creation.0 }, creation.1)
+
+-- the checkpoint of its parts
+abbrev pub named : CheckpointHead → Option (List ℕ) → Checkpoint
+named head name = record { id = head.id; manifest_id = head.manifest_id; expire_time = head.expire_time; create_time = head.create_time; name = name }
+
+-- what stands before the name, and the name
 abbrev pub checkpoint_in : List ℕ → Option (Checkpoint × List ℕ)
-checkpoint_in bytes =
-    bytes_in 16 bytes >>= λ id. u64_in id.1 >>= λ version. option_in later_second_in version.1 >>= λ expiry. second_in expiry.1 >>= λ creation. option_in text_in creation.1 >>= λ name. Some (record { id = id.0; manifest_id = version.0; expire_time = expiry.0; create_time = creation.0; name = name.0 }, name.1)
+checkpoint_in bytes = head_in bytes >>= λ head. option_in text_in head.1 >>= λ name. Some (named head.0 name.0, name.1)
 
 -- a count, and as many checkpoints
 abbrev pub checkpoints_in : List ℕ → Option (List Checkpoint × List ℕ)

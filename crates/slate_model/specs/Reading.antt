@@ -48,9 +48,13 @@ pair_in bytes = u64_in bytes >>= λ seq. i64_in seq.1 >>= λ moment. Some ((seq.
 abbrev pub bytes_in : ℕ → List ℕ → Option (List ℕ × List ℕ)
 bytes_in n bytes = if nat_le n (length bytes) then Some (take n bytes, drop n bytes) else None
 
--- a length, and as many bytes that are UTF-8
+-- a length, and as many bytes
+abbrev pub counted_bytes_in : List ℕ → Option (List ℕ × List ℕ)
+counted_bytes_in bytes = u32_in bytes >>= λ count. bytes_in count.0 count.1
+
+-- the same, where the bytes are UTF-8
 abbrev pub text_in : List ℕ → Option (List ℕ × List ℕ)
-text_in bytes = u32_in bytes >>= λ count. bytes_in count.0 count.1 >>= λ text. if is_utf8 text.0 then Some text else None
+text_in bytes = counted_bytes_in bytes >>= λ text. if is_utf8 text.0 then Some text else None
 
 -- a second, in milliseconds
 abbrev pub second_in : List ℕ → Option (ℤ × List ℕ)
