@@ -7,6 +7,8 @@ pub mod Reading
 pub mod Parts
 pub mod Decoding
 pub mod Codec
+pub mod Normals
+pub mod Readings
 pub mod Laws
 pub mod Epochs
 pub mod Checkpoints
