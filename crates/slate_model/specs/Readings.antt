@@ -267,10 +267,14 @@ small_all (b ∷ bytes) small = and_from _ _ (is_byte b (small.small 0)) (small_
     is_byte : (n : ℕ) → n < 256 → nat_lt n 256 ≡ true
     is_byte n h = grind (arith, nat_tests)
 
+-- sixteen bytes are an id
+pub id_fits : (id : List ℕ) → length id ≡ 16 → AreBytes id → is_id id ≡ true
+id_fits id counted small = and_from _ _ (ap (λ (n : ℕ). n == 16) counted) (small_all id small)
+
 id_only : (bytes id rest : List ℕ) → AreBytes bytes → bytes_in 16 bytes ≡ Some (id, rest) → (is_id id ≡ true) × IsFront id bytes rest
 id_only bytes id rest small h =
     let taken = bytes_only 16 bytes id rest small h in
-    (and_from _ _ (ap (λ (n : ℕ). n == 16) taken.counted) (small_all id taken.front_small), taken.front_is)
+    (id_fits id taken.counted taken.front_small, taken.front_is)
 
 record IsHead (head : CheckpointHead) (bytes rest : List ℕ) : Type 0 where
   id : is_id head.id ≡ true

@@ -1,5 +1,5 @@
 //! What of a manifest has no bytes.
-ghost use Rattle.std.specs.Prelude.{◌≡◌, ◌&&◌, length};
+ghost use Rattle.std.specs.Prelude.{◌≡◌};
 ghost use Rattle.std.specs.List.{list_all};
 ghost use Rattle.slate_model.specs.Encodable.{is_u32, has_expiry as expiry_fits, has_creation as creation_fits, has_length as length_fits, unencodable as first_unencodable};
 
@@ -51,9 +51,9 @@ fn have_creations(checkpoints: &[Checkpoint]) -> bool
 }
 
 fn have_lengths(checkpoints: &[Checkpoint]) -> bool
-    ensures { result ≡ is_u32 (length checkpoints.now) && list_all length_fits checkpoints.now }
+    ensures { result ≡ list_all length_fits checkpoints.now }
 {
-    is_short(checkpoints.len()) && checkpoints.iter().all(|c| has_length(c))
+    checkpoints.iter().all(|c| has_length(c))
 }
 
 /// The first field of a manifest that has no bytes: `ExpireTime`, where the second of some checkpoint's expiry is outside
@@ -67,7 +67,7 @@ pub fn unencodable(manifest: &Manifest) -> Option<FieldName>
         Some(FieldName::ExpireTime)
     } else if !have_creations(checkpoints) {
         Some(FieldName::CreateTime)
-    } else if !have_lengths(checkpoints) {
+    } else if !is_short(checkpoints.len()) || !have_lengths(checkpoints) {
         Some(FieldName::Length)
     } else {
         None

@@ -10,13 +10,14 @@ ghost use Rattle.slate_model.specs.Codec.{is_id, is_checkpoint};
 use crate::checkpoint::Checkpoint;
 use crate::put::{put, put_flag, put_u32, put_u64};
 use crate::seconds::second_of;
-use slate_ids::{CheckpointId, Millis, OutOfMemory, Text};
+use slate_ids::{Millis, OutOfMemory, Text};
 
-fn put_id(out: &mut Vec<u8>, id: &CheckpointId) -> Result<(), OutOfMemory>
+fn put_id(out: &mut Vec<u8>, id: &[u8; 16]) -> Result<(), OutOfMemory>
     ensures bytes { OnOk result (out.new.items ≡ out.old.items ++ id.now) }
     ensures fits { OnOk result (is_id id.now ≡ true) }
 {
-    put(out, id.as_bytes())
+    put(out, id)?;
+    Ok(())
 }
 
 fn put_second(out: &mut Vec<u8>, moment: Millis) -> Result<(), OutOfMemory>
@@ -46,7 +47,8 @@ fn put_text(out: &mut Vec<u8>, text: &str) -> Result<(), OutOfMemory>
     ensures fits { OnOk result (is_utf8 text.now ≡ true) }
 {
     put_u32(out, text.len() as u64)?;
-    put(out, text.as_bytes())
+    put(out, text.as_bytes())?;
+    Ok(())
 }
 
 fn put_name(out: &mut Vec<u8>, name: &Option<Text>) -> Result<(), OutOfMemory>
@@ -66,7 +68,7 @@ fn put_checkpoint(out: &mut Vec<u8>, checkpoint: &Checkpoint) -> Result<(), OutO
     ensures bytes { OnOk result (out.new.items ≡ out.old.items ++ checkpoint_bytes checkpoint.now) }
     ensures fits { OnOk result (is_checkpoint checkpoint.now ≡ true) }
 {
-    put_id(out, &checkpoint.id)?;
+    put_id(out, checkpoint.id.as_bytes())?;
     put_u64(out, checkpoint.manifest_id)?;
     put_expiry(out, checkpoint.expire_time)?;
     put_second(out, checkpoint.create_time)?;
