@@ -1,3 +1,5 @@
 pub mod Fronts
 pub mod Trackers
 pub mod Parts
+pub mod Items
+pub mod Found

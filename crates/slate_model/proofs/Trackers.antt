@@ -1,15 +1,9 @@
--- Pairs of a tracker: read one after the other, and in order.
+-- Pairs of a tracker in order.
 use Rattle.std.proofs.Common.{◌≡◌, ◌≤◌, ◌<◌, ◌+◌, ◌-◌, ℕ, suc, ℤ, List, [], ◌∷◌, ◌++◌, Option, Some, None, Bool, true, false, ◌&&◌, nat_le, length, drop, slice_get, refl, ap, sym, ◌∙◌, arith}
 use Rattle.std.proofs.lemmas.Bool.{and_parts, and_from, and_left, and_right}
 use Rattle.std.proofs.lemmas.Bool.Decides.{nat_tests}
 use Rattle.std.proofs.lemmas.List.{length-append, append_assoc}
 use Rattle.slate_model.specs.Tracker.{is_pair, is_after, follows, IsTracker, last_of}
-use Rattle.slate_model.specs.Reading.{◌>>=◌, pair_in}
-use Rattle.slate_model.specs.Decoding.{pairs_in}
-
--- what was read before, and what is still read
-abbrev pub with_front : List (ℕ × ℤ) → Option (List (ℕ × ℤ) × List ℕ) → Option (List (ℕ × ℤ) × List ℕ)
-with_front front read = read >>= λ pairs. Some (front ++ pairs.0, pairs.1)
 
 -- the last pair, or the one before them
 abbrev last_from : Option (ℕ × ℤ) → List (ℕ × ℤ) → Option (ℕ × ℤ)
@@ -77,19 +71,3 @@ follows_next last pairs i pair at fits after = ap (λ (l : List (ℕ × ℤ)). f
 -- the next pair isn't
 pub follows_not : (last : Option (ℕ × ℤ)) (pairs : List (ℕ × ℤ)) (i : ℕ) (pair : ℕ × ℤ) → drop i pairs ≡ pair ∷ drop (i + 1) pairs → is_after last pair ≡ false → follows last (drop i pairs) ≡ false
 follows_not last pairs i pair at after = ap (λ (l : List (ℕ × ℤ)). follows last l) at ∙ and_left _ _ (and_right (is_pair pair) (is_after last pair) after)
-
-found_with : List ℕ → List (ℕ × ℤ) → Option (List (ℕ × ℤ) × List ℕ)
-found_with rest pairs = Some (pairs, rest)
-
-joined_more : (front : List (ℕ × ℤ)) (pair : ℕ × ℤ) (read : Option (List (ℕ × ℤ) × List ℕ)) → with_front (front ++ pair ∷ []) read ≡ with_front front (read >>= λ pairs. Some (pair ∷ pairs.0, pairs.1))
-unfolding found_with
-joined_more front pair None = refl
-joined_more front pair (Some read) = ap (λ (l : List (ℕ × ℤ)). found_with read.1 l) (append_assoc front (pair ∷ []) read.0)
-
--- one pair more was read
-pub read_more : (front : List (ℕ × ℤ)) (pair : ℕ × ℤ) (left rest : List ℕ) (count i : ℕ) → i < count → pair_in left ≡ Some (pair, rest) → with_front (front ++ pair ∷ []) (pairs_in (count - (i + 1)) rest) ≡ with_front front (pairs_in (count - i) left)
-read_more front pair left rest count i within h =
-    let step : count - i ≡ suc (count - (i + 1)) = omega arith in
-    joined_more front pair (pairs_in (count - (i + 1)) rest)
-    ∙ ap (λ (o : Option ((ℕ × ℤ) × List ℕ)). with_front front (o >>= λ p. pairs_in (count - (i + 1)) p.1 >>= λ pairs. Some (p.0 ∷ pairs.0, pairs.1))) (sym h)
-    ∙ ap (λ (n : ℕ). with_front front (pairs_in n left)) (sym step)

@@ -1,10 +1,14 @@
 pub mod Tracker
+pub mod Encodable
+pub mod Normal
 pub mod Initial
 pub mod Bytes
 pub mod Reading
 pub mod Parts
 pub mod Decoding
 pub mod Codec
+pub mod Normals
+pub mod Readings
 pub mod Laws
 pub mod Epochs
 pub mod Checkpoints

@@ -2,13 +2,14 @@
 use Rattle.std.specs.Prelude.{◌≡◌, ℕ, zero, suc, ℤ, pos, negsuc, ◌<◌, ◌≤◌, ◌^◌, ◌-◌, ◌++◌, ◌==◌, nat_le, nat_lt, Bool, true, false, List, [], ◌∷◌, length, take, drop, get_or, Option, Some, None, if◌then◌else◌, refl, FitsSigned}
 use Rattle.std.proofs.Common.{ap, ◌∙◌, sym, subst, arith, ltb-true}
 use Rattle.std.specs.Int.{w32, w64, from_be_bytes, to_be_bytes, cast_signed, cast_unsigned}
-use Rattle.std.proofs.lemmas.List.{get_or-drop, take-append-drop, length-take-le}
+use Rattle.std.proofs.lemmas.List.{append_assoc, length-append, get_or-drop, take-append-drop, length-take-le}
+use Rattle.std.proofs.Math.Seq.{take-append_seam, drop-append_seam}
 use Rattle.std.proofs.lemmas.Nat.{be_bytes_8, be_bytes_4, from_be_bytes-to_be_bytes_8, from_be_bytes-to_be_bytes_4}
 use Rattle.std.proofs.lemmas.Int.{to_z-of_z, of_z-to_z}
 use Rattle.std.proofs.lemmas.Bool.Decides.{nat_tests}
 use Rattle.slate_model.specs.Tracker.{is_u64, is_i64}
 use Rattle.slate_model.specs.Bytes.{u32_bytes, u64_bytes, i64_bytes, flag_bytes}
-use Rattle.slate_model.specs.Reading.{◌>>=◌, after, flag_in, u32_in, u64_in, i64_in}
+use Rattle.slate_model.specs.Reading.{◌>>=◌, after, flag_in, u32_in, u64_in, i64_in, bytes_in}
 
 -- each is below 256
 pub record AreBytes (bytes : List ℕ) : Type 0 where
@@ -23,7 +24,7 @@ small_take (suc n) (b ∷ bytes) h (suc i) = small_take n bytes (λ k. h (suc k)
 AreBytes-drop : (n : ℕ) (bytes : List ℕ) → AreBytes bytes → AreBytes (drop n bytes)
 AreBytes-drop n bytes h = record { small = λ i. rw (get_or-drop n bytes i 0) (h.small _) }
 
-AreBytes-rest : (b : ℕ) (bytes : List ℕ) → AreBytes (b ∷ bytes) → AreBytes bytes
+pub AreBytes-rest : (b : ℕ) (bytes : List ℕ) → AreBytes (b ∷ bytes) → AreBytes bytes
 AreBytes-rest b bytes h = record { small = λ i. h.small (suc i) }
 
 -- what a reading of two steps found
@@ -36,10 +37,17 @@ pub steps : {A B : Type 0} (first : Option A) (next : A → Option B) (found : B
 steps (Some a) next found h = record { value = a; at_first = refl; at_next = h }
 steps None next found h = absurd (cc)
 
+-- a reading of two steps, where the first found a value
+pub bind_at : {A B : Type 0} (next : A → Option B) {first : Option A} {value : A} → first ≡ Some value → (first >>= next) ≡ next value
+bind_at {A} {B} next {first} {value} h = ap (λ (o : Option A). o >>= next) h
+
 -- the bytes are those of a value, and the rest
 pub record IsFront (front bytes rest : List ℕ) : Type 0 where
   pub is : front ++ rest ≡ bytes
   pub rest_small : AreBytes rest
+
+pub join_fronts : {a b bytes mid rest : List ℕ} → IsFront a bytes mid → IsFront b mid rest → IsFront (a ++ b) bytes rest
+join_fronts {a} {b} {bytes} {mid} {rest} h g = record { is = append_assoc a b rest ∙ ap (λ (l : List ℕ). a ++ l) g.is ∙ h.is; rest_small = g.rest_small }
 
 after_by_first : (t : Bool) (c b : ℕ) (constant bytes rest : List ℕ) → c == b ≡ t → (after constant bytes ≡ Some rest → IsFront constant bytes rest) → (if t then after constant bytes else None) ≡ Some rest → IsFront (c ∷ constant) (b ∷ bytes) rest
 after_by_first true c b constant bytes rest e more h =
@@ -54,7 +62,7 @@ after_only (c ∷ constant) [] rest small h = absurd (cc)
 after_only (c ∷ constant) (b ∷ bytes) rest small h = after_by_first (c == b) c b constant bytes rest refl (after_only constant bytes rest (AreBytes-rest b bytes small)) h
 
 -- a value and the rest
-abbrev found : {X : Type 0} → List ℕ → X → Option (X × List ℕ)
+abbrev pub found : {X : Type 0} → List ℕ → X → Option (X × List ℕ)
 found rest x = Some (x, rest)
 
 value_or : {X : Type 0} → X → Option (X × List ℕ) → X
@@ -156,6 +164,46 @@ u32_by_test bytes n rest false small long h = absurd (cc)
 pub u32_only : (bytes : List ℕ) (n : ℕ) (rest : List ℕ) → AreBytes bytes → u32_in bytes ≡ Some (n, rest) → IsFront (u32_bytes n) bytes rest
 unfolding u32_in u32_bytes
 u32_only bytes n rest small h = u32_by_test bytes n rest (nat_le 4 (length bytes)) small refl h
+
+below_32 : (bytes : List ℕ) → ((i : ℕ) → get_or bytes i 0 < 256) → from_be_bytes w32 bytes < 2 ^ 32
+below_32 bytes small =
+    let a = small 0 in let b = small 1 in let c = small 2 in let d = small 3 in omega arith
+
+u32_small_by : (bytes : List ℕ) (n : ℕ) (rest : List ℕ) (t : Bool) → AreBytes bytes → (if t then found (drop 4 bytes) (from_be_bytes w32 (take 4 bytes)) else None) ≡ Some (n, rest) → n < 2 ^ 32
+u32_small_by bytes n rest true small h = subst (λ (k : ℕ). k < 2 ^ 32) (same_found _ _ _ _ h).0 (below_32 (take 4 bytes) (small_take 4 bytes small.small))
+u32_small_by bytes n rest false small h = absurd (cc)
+
+pub u32_small : (bytes : List ℕ) (n : ℕ) (rest : List ℕ) → AreBytes bytes → u32_in bytes ≡ Some (n, rest) → n < 2 ^ 32
+unfolding u32_in
+u32_small bytes n rest small h = u32_small_by bytes n rest (nat_le 4 (length bytes)) small h
+
+-- ---- bytes
+
+pub bytes_back : (front rest : List ℕ) → bytes_in (length front) (front ++ rest) ≡ Some (front, rest)
+bytes_back front rest =
+    ap (λ (t : Bool). if t then found (drop (length front) (front ++ rest)) (take (length front) (front ++ rest)) else None) (long (length front) (length (front ++ rest)) (omega (arith, length-append front rest)))
+    ∙ ap (λ (l : List ℕ). found (drop (length front) (front ++ rest)) l) (take-append_seam front rest)
+    ∙ ap (λ (l : List ℕ). found l front) (drop-append_seam front rest)
+
+-- a front of so many bytes
+pub record IsTaken (n : ℕ) (front bytes rest : List ℕ) : Type 0 where
+  pub counted : length front ≡ n
+  pub front_is : IsFront front bytes rest
+  pub front_small : AreBytes front
+
+taken_by : (n : ℕ) (bytes front rest : List ℕ) (t : Bool) → AreBytes bytes → nat_le n (length bytes) ≡ t → (if t then found (drop n bytes) (take n bytes) else None) ≡ Some (front, rest) → IsTaken n front bytes rest
+taken_by n bytes front rest true small long h =
+    let e = same_found _ _ _ _ h in
+    let within : n ≤ length bytes = grind (arith, nat_tests) in
+    subst (λ (l : List ℕ). IsTaken n l bytes rest) e.0 (subst (λ (l : List ℕ). IsTaken n (take n bytes) bytes l) e.1 (record {
+      counted = length-take-le n bytes within;
+      front_is = record { is = take-append-drop n bytes; rest_small = AreBytes-drop n bytes small };
+      front_small = record { small = small_take n bytes small.small };
+    }))
+taken_by n bytes front rest false small long h = absurd (cc)
+
+pub bytes_only : (n : ℕ) (bytes front rest : List ℕ) → AreBytes bytes → bytes_in n bytes ≡ Some (front, rest) → IsTaken n front bytes rest
+bytes_only n bytes front rest small h = taken_by n bytes front rest (nat_le n (length bytes)) small refl h
 
 -- ---- signed numbers
 

@@ -1,6 +1,7 @@
 -- Reading bytes from the front: what was read and the rest, or `None`.
-use Rattle.std.specs.Prelude.{ℕ, ℤ, ◌==◌, nat_le, Bool, true, false, List, [], ◌∷◌, length, take, drop, Option, Some, None, if◌then◌else◌}
+use Rattle.std.specs.Prelude.{ℕ, zero, suc, ℤ, pos, ◌==◌, ◌*◌, nat_le, Bool, true, false, List, [], ◌∷◌, length, take, drop, Option, Some, None, if◌then◌else◌}
 use Rattle.std.specs.Int.{w32, w64, from_be_bytes, cast_signed}
+use Rattle.std.specs.Str.{is_utf8}
 
 infixl 10 ◌>>=◌
 -- the second reading, of what the first found
@@ -42,3 +43,37 @@ i64_in bytes = u64_in bytes >>= λ n. Some (cast_signed w64 n.0, n.1)
 -- a sequence number and its moment
 abbrev pub pair_in : List ℕ → Option ((ℕ × ℤ) × List ℕ)
 pair_in bytes = u64_in bytes >>= λ seq. i64_in seq.1 >>= λ moment. Some ((seq.0, moment.0), moment.1)
+
+-- so many bytes
+abbrev pub bytes_in : ℕ → List ℕ → Option (List ℕ × List ℕ)
+bytes_in n bytes = if nat_le n (length bytes) then Some (take n bytes, drop n bytes) else None
+
+-- a length, and as many bytes
+abbrev pub counted_bytes_in : List ℕ → Option (List ℕ × List ℕ)
+counted_bytes_in bytes = u32_in bytes >>= λ count. bytes_in count.0 count.1
+
+-- the same, where the bytes are UTF-8
+abbrev pub text_in : List ℕ → Option (List ℕ × List ℕ)
+text_in bytes = counted_bytes_in bytes >>= λ text. if is_utf8 text.0 then Some text else None
+
+-- a second, in milliseconds
+abbrev pub second_in : List ℕ → Option (ℤ × List ℕ)
+second_in bytes = u32_in bytes >>= λ second. Some (pos (second.0 * 1000), second.1)
+
+-- the same, where it isn't 0
+abbrev pub later_second_in : List ℕ → Option (ℤ × List ℕ)
+later_second_in bytes = u32_in bytes >>= λ second. if second.0 == 0 then None else Some (pos (second.0 * 1000), second.1)
+
+-- a value where the flag is yes, nothing where it is no
+abbrev pub value_in : {X : Type 0} → (List ℕ → Option (X × List ℕ)) → Bool → List ℕ → Option (Option X × List ℕ)
+value_in read false bytes = Some (None, bytes)
+value_in read true bytes = read bytes >>= λ value. Some (Some value.0, value.1)
+
+-- a flag, and a value where it is yes
+abbrev pub option_in : {X : Type 0} → (List ℕ → Option (X × List ℕ)) → List ℕ → Option (Option X × List ℕ)
+option_in read bytes = flag_in bytes >>= λ flag. value_in read flag.0 flag.1
+
+-- so many values, one after the other
+abbrev pub items_in : {X : Type 0} → (List ℕ → Option (X × List ℕ)) → ℕ → List ℕ → Option (List X × List ℕ)
+items_in read zero bytes = Some ([], bytes)
+items_in read (suc n) bytes = read bytes >>= λ item. items_in read n item.1 >>= λ items. Some (item.0 ∷ items.0, items.1)

@@ -2,6 +2,7 @@
 ghost use Rattle.std.specs.Prelude.{◌≡◌, Ok};
 ghost use Rattle.slate_model.specs.Codec.{encoded, decoded};
 ghost use Rattle.slate_model.specs.Laws.{round_trip};
+ghost use Rattle.slate_model.specs.Normal.{normal};
 
 use crate::manifest::Manifest;
 use crate::read::decode_manifest;
@@ -9,7 +10,8 @@ use crate::write::encode_manifest;
 use slate_ids::{ObjectCodec, OutOfMemory, SlateDBError};
 use std::alloc::Global;
 
-/// The bytes of manifests, by the first layout: version 2, with no handles, tables, checkpoints or entries.
+/// The bytes of manifests, by the first layout: version 2, with no handles, tables or entries. What is read back has the
+/// moments of its checkpoints cut down to whole seconds.
 #[derive(Clone, Copy, Debug)]
 pub struct FirstManifestCodec;
 
@@ -18,7 +20,7 @@ impl ObjectCodec<Manifest> for FirstManifestCodec {
 
     ghost decoded = { λ _ bytes. decoded bytes };
 
-    ghost normal = { λ _ manifest. manifest };
+    ghost normal = { λ _ manifest. normal manifest };
 
     fn encode(&self, alloc: Global, value: &Manifest) -> Result<Vec<u8>, SlateDBError> {
         encode_manifest(alloc, value)

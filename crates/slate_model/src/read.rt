@@ -7,10 +7,12 @@ ghost use Rattle.slate_model.specs.Decoding.{front_in, pairs_in, counted_in, tra
 ghost use Rattle.slate_model.specs.Tracker.{is_tracker};
 ghost use Rattle.slate_model.specs.Codec.{encoded, decoded};
 
+use crate::checkpoint::Checkpoint;
 use crate::manifest::Manifest;
+use crate::read_checkpoint::read_checkpoints;
 use crate::reader::Reader;
 use crate::tracker::SequenceTracker;
-use crate::write::{BEFORE_FLAG, BEFORE_FLOOR, BEFORE_TICK, NO_SNAPSHOT};
+use crate::write::{BEFORE_FLAG, BEFORE_TICK, NO_EXTERNAL, NO_SNAPSHOT};
 use slate_ids::{FormatName, Listed, OutOfMemory, SlateDBError};
 use std::alloc::Global;
 
@@ -110,13 +112,18 @@ fn read_tracker(
 fn read_floor(bytes: Reader<'_>) -> Option<u64>
     ensures { result ≡ floor_in bytes.entry }
 {
-    let bytes = bytes.after(&BEFORE_FLOOR)?;
+    let bytes = bytes.after(&NO_EXTERNAL)?;
     let (floor, rest) = bytes.u64()?;
     if rest.is_empty() { Some(floor) } else { None }
 }
 
-fn join(alloc: Global, front: &Front, sequence_tracker: SequenceTracker, floor: u64) -> Manifest
-    ensures { result ≡ joined front.now sequence_tracker floor }
+fn join(
+    front: &Front,
+    sequence_tracker: SequenceTracker,
+    checkpoints: Listed<Checkpoint>,
+    floor: u64,
+) -> Manifest
+    ensures { result ≡ joined front.now sequence_tracker checkpoints floor }
 {
     Manifest {
         initialized: front.initialized,
@@ -125,7 +132,7 @@ fn join(alloc: Global, front: &Front, sequence_tracker: SequenceTracker, floor: 
         last_l0_clock_tick: front.last_l0_clock_tick,
         last_l0_seq: front.last_l0_seq,
         sequence_tracker,
-        checkpoints: Listed::new(alloc),
+        checkpoints,
         floor,
     }
 }
@@ -143,6 +150,7 @@ pub fn decode_manifest(alloc: Global, bytes: &[u8]) -> Result<Manifest, SlateDBE
 {
     let (front, rest) = read_front(Reader::new(bytes)).ok_or(corrupt())?;
     let (tracker, rest) = read_tracker(alloc, rest)?.ok_or(corrupt())?;
+    let (checkpoints, rest) = read_checkpoints(alloc, rest)?.ok_or(corrupt())?;
     let floor = read_floor(rest).ok_or(corrupt())?;
-    Ok(join(alloc, &front, tracker, floor))
+    Ok(join(&front, tracker, checkpoints, floor))
 }

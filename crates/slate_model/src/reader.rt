@@ -1,7 +1,8 @@
 //! Reading bytes from the front.
 ghost use Rattle.std.specs.Prelude.{◌≡◌, ◌==◌, length};
-ghost use Rattle.slate_model.specs.Reading.{after, byte_in, flag_in, u32_in, u64_in, i64_in, pair_in};
+ghost use Rattle.slate_model.specs.Reading.{after, byte_in, flag_in, u32_in, u64_in, i64_in, pair_in, bytes_in, second_in, later_second_in};
 
+use slate_ids::Millis;
 use std::marker::Model;
 
 /// The bytes that are still to be read.
@@ -116,5 +117,42 @@ impl<'a> Reader<'a> {
         let (seq, rest) = self.u64()?;
         let (ts, rest) = rest.i64()?;
         Some(((seq, ts), rest))
+    }
+
+    /// So many bytes, for a reader of their own.
+    pub fn take(self, count: usize) -> Option<(Reader<'a>, Reader<'a>)>
+        ensures { result ≡ bytes_in count self.entry }
+    {
+        if self.rest.len() < count {
+            return None;
+        }
+        let (front, rest) = self.rest.split_at(count);
+        Some((Reader { rest: front }, Reader { rest }))
+    }
+
+    /// All that is left.
+    pub fn as_bytes(&self) -> &'a [u8]
+        ensures { result.now ≡ self.now }
+    {
+        self.rest
+    }
+
+    /// A second, in milliseconds.
+    pub fn second(self) -> Option<(Millis, Reader<'a>)>
+        ensures { result ≡ second_in self.entry }
+    {
+        let (second, rest) = self.u32()?;
+        Some((second as i64 * 1000, rest))
+    }
+
+    /// The same, where it isn't 0.
+    pub fn later_second(self) -> Option<(Millis, Reader<'a>)>
+        ensures { result ≡ later_second_in self.entry }
+    {
+        let (second, rest) = self.u32()?;
+        if second == 0 {
+            return None;
+        }
+        Some((second as i64 * 1000, rest))
     }
 }

@@ -1,18 +1,46 @@
 //! The rules on a new version.
-ghost use Rattle.std.specs.Prelude.{◌≡◌};
-ghost use Rattle.slate_model.specs.Lawful.{refusal_of_update as refused_by};
+ghost use Rattle.std.specs.Prelude.{◌≡◌, ◌==◌, ◌+◌};
+ghost use Rattle.slate_model.specs.Lawful.{falls as fallen, names_known as all_known, refusal_of_update as refused_by};
 
+use crate::checkpoint::is_named;
 use crate::manifest::Manifest;
 use slate_ids::UpdateRule;
 
-/// The rule that a new manifest breaks after the old one: no epoch and no floor falls.
-pub fn refusal_of_update(old: &Manifest, new: &Manifest) -> Option<UpdateRule>
-    ensures { result ≡ refused_by old.now new.now }
+fn falls(old: &Manifest, new: &Manifest) -> bool
+    ensures { result ≡ fallen old.now new.now }
 {
-    let falls = new.writer_epoch < old.writer_epoch
+    new.writer_epoch < old.writer_epoch
         || new.compactor_epoch < old.compactor_epoch
-        || new.floor < old.floor;
-    if falls { Some(UpdateRule::U1) } else { None }
+        || new.floor < old.floor
+}
+
+fn names_known(old_id: u64, old: &Manifest, new: &Manifest) -> bool
+    ensures { result ≡ all_known old_id old.now new.now }
+{
+    let named = old.checkpoints.as_slice();
+    new.checkpoints.as_slice().iter().all(|c| follows(c.manifest_id, old_id)
+        || is_named(c.manifest_id, named))
+}
+
+fn follows(n: u64, old_id: u64) -> bool
+    ensures { result ≡ (n == old_id + 1) }
+{
+    n > 0 && n - 1 == old_id
+}
+
+/// The rule that a new manifest breaks after the old one, whose number is `old_id`: no epoch and no floor falls, and
+/// each checkpoint names the new version or one that a checkpoint of the old one names. Takes no memory.
+pub fn refusal_of_update(old_id: u64, old: &Manifest, new: &Manifest) -> Option<UpdateRule>
+    ensures { result ≡ refused_by old_id old.now new.now }
+{
+    if falls(old, new) {
+        return Some(UpdateRule::U1);
+    }
+    if names_known(old_id, old, new) {
+        None
+    } else {
+        Some(UpdateRule::U2)
+    }
 }
 
 #[cfg(test)]
@@ -34,15 +62,15 @@ mod tests {
     fn numbers_do_not_fall(rt: HostRuntime) {
         let old = numbered(rt.alloc(), 2, 3, 4);
         assert!(rt;
-            refusal_of_update(&old, &numbered(rt.alloc(), 1, 3, 4)) == Some(UpdateRule::U1)
+            refusal_of_update(1, &old, &numbered(rt.alloc(), 1, 3, 4)) == Some(UpdateRule::U1)
         );
         assert!(rt;
-            refusal_of_update(&old, &numbered(rt.alloc(), 2, 2, 4)) == Some(UpdateRule::U1)
+            refusal_of_update(1, &old, &numbered(rt.alloc(), 2, 2, 4)) == Some(UpdateRule::U1)
         );
         assert!(rt;
-            refusal_of_update(&old, &numbered(rt.alloc(), 2, 3, 3)) == Some(UpdateRule::U1)
+            refusal_of_update(1, &old, &numbered(rt.alloc(), 2, 3, 3)) == Some(UpdateRule::U1)
         );
-        assert!(rt; refusal_of_update(&old, &old) == None);
-        assert!(rt; refusal_of_update(&old, &numbered(rt.alloc(), 3, 4, 5)) == None);
+        assert!(rt; refusal_of_update(1, &old, &old) == None);
+        assert!(rt; refusal_of_update(1, &old, &numbered(rt.alloc(), 3, 4, 5)) == None);
     }
 }

@@ -1,6 +1,6 @@
 use Rattle.std.proofs.Common.{◌≡◌, ◌-◌}
 use Rattle.slate_model.specs.Decoding.{pairs_in}
-use Rattle.slate_model.proofs.Trackers.{with_front}
+use Rattle.slate_model.proofs.Items.{with_front}
 use Rattle.slate_model.proofs.read.read_pairs.Given as goal
 
 abbrev pub invariant-loop : goal.invariant-loop

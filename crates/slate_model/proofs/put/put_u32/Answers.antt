@@ -1,6 +1,6 @@
 use Rattle.std.proofs.Common.{rules}
 use Rattle.slate_model.specs.Bytes.{u32_bytes}
-use Rattle.slate_model.proofs.write.put_count.Goals as goal
+use Rattle.slate_model.proofs.put.put_u32.Goals as goal
 
 pub returns : goal.returns
 unfolding u32_bytes
