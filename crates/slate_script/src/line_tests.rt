@@ -1,12 +1,13 @@
 //! The lines of single entries.
 
-use crate::{Entry, Reply, entry_line};
-use slate_ids::{DbPath, ObjectPath, SlateDBError, StateCause};
+use crate::{ClusterCause, Entry, Reply, ScriptPlace, entry_line, push_cause, push_place};
+use slate_ids::{CheckpointId, DbPath, ObjectPath, SlateDBError, StateCause};
 use slate_store::{Mark, StoreAnswer, StoreCall};
 use std::alloc::Global;
 use std::process::Abort;
 use std::test::Fail;
 
+// The line of an entry, and of a copy.
 fn check(
     rt: &impl Abort,
     alloc: Global,
@@ -16,6 +17,9 @@ fn check(
 ) -> Result<(), Fail> {
     let found = entry_line(alloc, place, entry)?;
     assert_eq!(rt; found.as_str(), line);
+    let copied = entry.copy(alloc)?;
+    let found = entry_line(alloc, place, &copied)?;
+    assert_eq!(rt; found.as_str(), line, "the copy");
     Ok(())
 }
 
@@ -23,6 +27,7 @@ fn check(
 fn entries_without_a_store_call(rt: HostRuntime) -> Result<(), Fail> {
     let alloc = rt.alloc();
     check(&rt, alloc, 0, &Entry::Opened { party: 7 }, "0 open 7\n")?;
+    check(&rt, alloc, 5, &Entry::Stopped { party: 7 }, "5 stop 7\n")?;
     check(&rt, alloc, 12, &Entry::Idle { party: 7 }, "12 idle 7\n")?;
     let started = Entry::Started {
         party: 1,
@@ -65,6 +70,14 @@ fn entries_with_a_store_call(rt: HostRuntime) -> Result<(), Fail> {
         &got_boundary(Some(Reply::Done))?,
         "3 call 1 get db/gc/manifest.boundary -> none reply done\n",
     )?;
+    let checkpoint = Reply::Checkpoint(CheckpointId::from_u64(8), 3);
+    check(
+        &rt,
+        alloc,
+        9,
+        &got_boundary(Some(checkpoint))?,
+        "9 call 1 get db/gc/manifest.boundary -> none reply checkpoint 00000000-0000-0000-0000-000000000008 3\n",
+    )?;
     let refusal = SlateDBError::Fenced { own: 1, read: 2 };
     check(
         &rt,
@@ -73,4 +86,32 @@ fn entries_with_a_store_call(rt: HostRuntime) -> Result<(), Fail> {
         &got_boundary(Some(Reply::Refused(refusal)))?,
         "4 call 1 get db/gc/manifest.boundary -> none reply refused 2 Fenced 1 2\n",
     )
+}
+
+#[test]
+fn places_and_causes(rt: HostRuntime) -> Result<(), Fail> {
+    let mut out = String::new(rt.alloc());
+    for place in [
+        ScriptPlace::Json,
+        ScriptPlace::Top,
+        ScriptPlace::Database(2),
+        ScriptPlace::Event(1_000_000),
+    ] {
+        push_place(&mut out, place)?;
+        out.push_str(", ")?;
+    }
+    for cause in [
+        ClusterCause::Path,
+        ClusterCause::Ids,
+        ClusterCause::Value,
+        ClusterCause::Checkpoints,
+    ] {
+        push_cause(&mut out, cause)?;
+        out.push_str(", ")?;
+    }
+    assert_eq!(rt;
+        out.as_str(),
+        "json, top, database 2, event 1000000, path, ids, value, checkpoints, "
+    );
+    Ok(())
 }
