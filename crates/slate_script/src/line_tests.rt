@@ -23,29 +23,38 @@ fn check(
     Ok(())
 }
 
+fn refused(refusal: SlateDBError) -> Option<Reply> {
+    Some(Reply::Refused(refusal))
+}
+
 #[test]
 fn entries_without_a_store_call(rt: HostRuntime) -> Result<(), Fail> {
-    let alloc = rt.alloc();
-    check(&rt, alloc, 0, &Entry::Opened { party: 7 }, "0 open 7\n")?;
-    check(&rt, alloc, 5, &Entry::Stopped { party: 7 }, "5 stop 7\n")?;
-    check(&rt, alloc, 12, &Entry::Idle { party: 7 }, "12 idle 7\n")?;
-    let started = Entry::Started {
-        party: 1,
-        reply: None,
-    };
-    check(&rt, alloc, 1, &started, "1 start 1\n")?;
-    let refusal = SlateDBError::InvalidDBState(StateCause::NotOpen);
-    let refused = Entry::Started {
-        party: 1,
-        reply: Some(Reply::Refused(refusal)),
-    };
-    check(
-        &rt,
-        alloc,
-        2,
-        &refused,
-        "2 start 1 reply refused 8 InvalidDBState\n",
-    )
+    let not_open = SlateDBError::InvalidDBState(StateCause::NotOpen);
+    let rows = [
+        (0, Entry::Opened { party: 7 }, "0 open 7\n"),
+        (6, Entry::Stopped { party: 7 }, "6 stop 7\n"),
+        (12, Entry::Idle { party: 7 }, "12 idle 7\n"),
+        (
+            1,
+            Entry::Started {
+                party: 1,
+                reply: None,
+            },
+            "1 start 1\n",
+        ),
+        (
+            2,
+            Entry::Started {
+                party: 1,
+                reply: refused(not_open),
+            },
+            "2 start 1 reply refused 8 InvalidDBState\n",
+        ),
+    ];
+    for (place, entry, line) in rows {
+        check(&rt, rt.alloc(), place, &entry, line)?;
+    }
+    Ok(())
 }
 
 fn got_boundary(reply: Option<Reply>) -> Result<Entry, Fail> {
@@ -62,30 +71,24 @@ fn got_boundary(reply: Option<Reply>) -> Result<Entry, Fail> {
 
 #[test]
 fn entries_with_a_store_call(rt: HostRuntime) -> Result<(), Fail> {
-    let alloc = rt.alloc();
-    check(
-        &rt,
-        alloc,
-        3,
-        &got_boundary(Some(Reply::Done))?,
-        "3 call 1 get db/gc/manifest.boundary -> none reply done\n",
-    )?;
-    let checkpoint = Reply::Checkpoint(CheckpointId::from_u64(8), 3);
-    check(
-        &rt,
-        alloc,
-        9,
-        &got_boundary(Some(checkpoint))?,
-        "9 call 1 get db/gc/manifest.boundary -> none reply checkpoint 00000000-0000-0000-0000-000000000008 3\n",
-    )?;
-    let refusal = SlateDBError::Fenced { own: 1, read: 2 };
-    check(
-        &rt,
-        alloc,
-        4,
-        &got_boundary(Some(Reply::Refused(refusal)))?,
-        "4 call 1 get db/gc/manifest.boundary -> none reply refused 2 Fenced 1 2\n",
-    )
+    let checkpoint = CheckpointId::from_u64(8);
+    let fenced = SlateDBError::Fenced { own: 1, read: 2 };
+    let rows = [
+        (None, "\n"),
+        (Some(Reply::Done), " reply done\n"),
+        (Some(Reply::Epoch(3)), " reply epoch 3\n"),
+        (
+            Some(Reply::Checkpoint(checkpoint, 3)),
+            " reply checkpoint 00000000-0000-0000-0000-000000000008 3\n",
+        ),
+        (refused(fenced), " reply refused 2 Fenced 1 2\n"),
+    ];
+    for (reply, end) in rows {
+        let alloc = rt.alloc();
+        let line = format!(in alloc; "4 call 1 get db/gc/manifest.boundary -> none{end}")?;
+        check(&rt, alloc, 4, &got_boundary(reply)?, line.as_str())?;
+    }
+    Ok(())
 }
 
 #[test]

@@ -4,6 +4,7 @@ use crate::{Call, DbSpec, Event, ScriptError, ScriptPlace, read_script};
 use slate_ids::{CheckpointId, Text};
 use slate_model::Checkpoint;
 use std::alloc::Global;
+use std::process::Abort;
 use std::test::Fail;
 
 /// A script with each kind of item and each optional field.
@@ -137,24 +138,31 @@ fn event_text(alloc: Global, event: &Event) -> Result<String, Fail> {
     })
 }
 
-// Each value, and a copy of each event.
-#[test]
-fn a_script_with_everything(rt: HostRuntime) -> Result<(), Fail> {
-    let alloc = rt.alloc();
-    let script = read_script(alloc, WHOLE.as_bytes())?;
-    let databases = script.databases.as_slice();
+fn check_databases(rt: &impl Abort, alloc: Global, databases: &[DbSpec]) -> Result<(), Fail> {
     assert_eq!(rt; databases.len(), DATABASES.len());
     for (spec, text) in databases.iter().zip(DATABASES) {
         assert_eq!(rt; database_text(alloc, spec)?.as_str(), text);
     }
-    let events = script.events.as_slice();
+    Ok(())
+}
+
+// Each event, and a copy of it.
+fn check_events(rt: &impl Abort, alloc: Global, events: &[Event]) -> Result<(), Fail> {
     assert_eq!(rt; events.len(), EVENTS.len());
     for (event, text) in events.iter().zip(EVENTS) {
-        assert_eq!(rt; event_text(alloc, event)?.as_str(), text);
         let copied = event.copy(alloc)?;
+        assert_eq!(rt; event_text(alloc, event)?.as_str(), text);
         assert_eq!(rt; event_text(alloc, &copied)?.as_str(), text);
     }
     Ok(())
+}
+
+#[test]
+fn a_script_with_everything(rt: HostRuntime) -> Result<(), Fail> {
+    let alloc = rt.alloc();
+    let script = read_script(alloc, WHOLE.as_bytes())?;
+    check_databases(&rt, alloc, script.databases.as_slice())?;
+    check_events(&rt, alloc, script.events.as_slice())
 }
 
 // Where the bytes are no script.
