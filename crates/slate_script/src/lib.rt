@@ -15,6 +15,8 @@ mod read_call;
 mod read_database;
 mod read_event;
 mod reading;
+#[cfg(test)]
+mod reading_tests;
 mod refusal;
 mod reply;
 mod report_lines;
