@@ -2,6 +2,8 @@ pub mod Around
 pub mod NeverMemory
 pub mod Events
 pub mod Stepping
+pub mod Starting
+pub mod Carrying
 pub mod Reports
 pub mod Outcomes
 pub mod Reached

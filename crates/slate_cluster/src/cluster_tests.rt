@@ -1,10 +1,10 @@
 //! A cluster by its own calls.
-ghost use Rattle.std.specs.Prelude.{IfOk};
-ghost use Rattle.slate_script.specs.Scripts.{IsOneNew};
 
-use crate::{Cluster, ClusterError};
-use slate_ids::{DbPath, ObjectPath};
-use slate_script::{Script, read_script};
+use crate::{Cluster, ClusterError, NewError};
+use slate_ids::{CheckpointId, DbPath, ObjectPath, SlateDBError, StateCause};
+use slate_model::{Checkpoint, Manifest, decode_manifest};
+use slate_script::{Call, ClusterCause, DbSpec, Entry, Event, PartyKind, Reply, Script, read_script};
+use slate_store::Mark;
 use std::alloc::Global;
 use std::process::Abort;
 use std::test::Fail;
@@ -27,7 +27,6 @@ const FLUSHED: [u8; 113] = [
 
 // The script of these events on the database `db`.
 fn script(alloc: Global, events: &str) -> Result<Script, Fail>
-    ensures { IfOk result (λ s. IsOneNew s.databases) }
 {
     let mut text = String::from_str(alloc, "{\"databases\":[{\"path\":\"db\"}],\"events\":[")?;
     text.push_str(events)?;
@@ -88,5 +87,129 @@ fn goes_on_after_a_bad_event(rt: HostRuntime) -> Result<(), Fail> {
     let report = cluster.run(alloc, second.events.as_slice())?;
     assert_eq!(rt; report.entries.len(), 2);
     assert_eq!(rt; cluster.trail().len(), 3);
+    Ok(())
+}
+
+// The database `db` with this manifest.
+fn database_of(alloc: Global, manifest: Manifest) -> Result<Vec<DbSpec>, Fail> {
+    let path = DbPath::from_text("db")?.ok_or("no path of a database")?;
+    let mut specs = Vec::new(alloc);
+    specs.push(DbSpec {
+        path,
+        manifest,
+        modified: 0,
+    })?;
+    Ok(specs)
+}
+
+// A checkpoint of the version of this number.
+fn checkpoint_of(version: u64) -> Checkpoint {
+    Checkpoint {
+        id: CheckpointId::from_u64(1),
+        manifest_id: version,
+        expire_time: None,
+        create_time: 0,
+        name: None,
+    }
+}
+
+#[test]
+fn opening_checkpoints_name_the_first_version(rt: HostRuntime) -> Result<(), Fail> {
+    let alloc = rt.alloc();
+    let mut manifest = Manifest::initial(alloc);
+    manifest.checkpoints.push(checkpoint_of(2))?;
+    assert!(rt;
+        matches!(
+            Cluster::new(alloc, database_of(alloc, manifest)?),
+            Err(NewError::BadCluster(ClusterCause::Checkpoints))
+        )
+    );
+    let mut manifest = Manifest::initial(alloc);
+    manifest.checkpoints.push(checkpoint_of(1))?;
+    assert!(rt; Cluster::new(alloc, database_of(alloc, manifest)?).is_ok());
+    Ok(())
+}
+
+// The events of a holder that writes a checkpoint, in five steps.
+fn writes_checkpoint(alloc: Global) -> Result<Vec<Event>, Fail> {
+    let db = DbPath::from_text("db")?.ok_or("no path of a database")?;
+    let mut events = Vec::new(alloc);
+    events.push(Event::Open {
+        party: 1,
+        kind: PartyKind::Holder,
+        db,
+    })?;
+    events.push(Event::Start {
+        party: 1,
+        call: Call::WriteCheckpoint {
+            id: CheckpointId::from_u64(7),
+            lifetime: Some(2500),
+            source: None,
+            name: None,
+        },
+    })?;
+    for _ in 0..5 {
+        events.push(Event::Step {
+            party: 1,
+            moment: 1500,
+            mark: Mark::Good,
+        })?;
+    }
+    Ok(events)
+}
+
+fn is_not_initialised(refusal: &SlateDBError) -> bool {
+    matches!(
+        refusal,
+        SlateDBError::InvalidDBState(StateCause::NotInitialised)
+    )
+}
+
+// Whether an entry replies that the database isn't initialised.
+fn tells_not_initialised(entry: &Entry) -> bool {
+    match entry {
+        Entry::Called { reply, .. } => match reply {
+            Some(Reply::Refused(refusal)) => is_not_initialised(refusal),
+            _ => false,
+        },
+        _ => false,
+    }
+}
+
+#[test]
+fn no_checkpoint_without_source_before_the_database_is_initialised(rt: HostRuntime) -> Result<(), Fail> {
+    let alloc = rt.alloc();
+    let mut manifest = Manifest::initial(alloc);
+    manifest.initialized = false;
+    let mut cluster = Cluster::new(alloc, database_of(alloc, manifest)?)?;
+    let events = writes_checkpoint(alloc)?;
+    cluster.run(alloc, events.as_slice())?;
+    assert!(rt; cluster.trail().iter().any(|e| tells_not_initialised(e)));
+    let db = DbPath::from_text("db")?.ok_or("no path of a database")?;
+    assert!(rt; cluster.store().object(&ObjectPath::Manifest(db, 2)).is_none());
+    Ok(())
+}
+
+// The checkpoint names the version that its commit makes; its moments are read back in whole seconds.
+#[test]
+fn a_checkpoint_stands_in_its_own_version(rt: HostRuntime) -> Result<(), Fail> {
+    let alloc = rt.alloc();
+    let mut cluster = Cluster::new(alloc, database_of(alloc, Manifest::initial(alloc))?)?;
+    let events = writes_checkpoint(alloc)?;
+    cluster.run(alloc, events.as_slice())?;
+    let db = DbPath::from_text("db")?.ok_or("no path of a database")?;
+    let object = cluster
+        .store()
+        .object(&ObjectPath::Manifest(db, 2))
+        .ok_or("no object")?;
+    let manifest = decode_manifest(alloc, object.bytes.as_slice())?;
+    let found = manifest
+        .checkpoints
+        .as_slice()
+        .first()
+        .ok_or("no checkpoint")?;
+    assert!(rt; found.id.is(&CheckpointId::from_u64(7)) && found.manifest_id == 2);
+    assert!(rt; found.expire_time == Some(4000) && found.create_time == 1000);
+    assert!(rt; manifest.checkpoints.as_slice().len() == 1);
     Ok(())
 }

@@ -1,6 +1,5 @@
 //! Every interleaving of a few calls. After each the chain is audited by reading the store.
-ghost use Rattle.std.specs.Prelude.{IfOk, ◌<◌};
-ghost use Rattle.slate_script.specs.Scripts.{IsOneNew};
+ghost use Rattle.std.specs.Prelude.{◌<◌};
 
 use crate::Cluster;
 use slate_ids::{DbPath, ObjectPath, SlateDBError};
@@ -17,9 +16,7 @@ fn database() -> Result<DbPath, Fail> {
     Ok(DbPath::from_text("db")?.ok_or("no path of a database")?)
 }
 
-fn one_new(alloc: Global) -> Result<Vec<DbSpec>, Fail>
-    ensures { IfOk result (λ specs. IsOneNew specs.items) }
-{
+fn one_new(alloc: Global) -> Result<Vec<DbSpec>, Fail> {
     let path = database()?;
     let manifest = Manifest::initial(alloc);
     let mut specs = Vec::new(alloc);
@@ -243,11 +240,8 @@ fn the_second_put_of_a_number_is_refused(rt: HostRuntime) -> Result<(), Fail> {
             let events = two_opens(alloc, mask)?;
             let cluster = run(alloc, events.as_slice())?;
             audit(&rt, alloc, &cluster)?;
-            let taken = cluster.trail().iter().filter(|e| is_taken(*e)).count();
-            assert_eq!(rt;
-                taken,
-                cluster.trail().iter().filter(|e| is_refused(*e)).count()
-            );
+            let taken = taken_in(cluster.trail());
+            assert_eq!(rt; taken, refused_in(cluster.trail()));
             refused = taken.saturating_add(refused);
             runs = runs.saturating_add(1);
         }
@@ -276,11 +270,35 @@ fn opens_and_flush(alloc: Global, mask: u32) -> Result<Vec<Event>, Fail> {
     Ok(events)
 }
 
-// All 3,003 orders of an open and a flush of one writer, and an open of another.
+fn is_done(entry: &Entry) -> bool {
+    match entry {
+        Entry::Called { reply, .. } => matches!(reply, Some(Reply::Done)),
+        _ => false,
+    }
+}
+
+fn is_fence(reply: &Option<Reply>) -> bool {
+    match reply {
+        Some(Reply::Refused(refusal)) => matches!(refusal, SlateDBError::Fenced { own: 1, read: 2 }),
+        _ => false,
+    }
+}
+
+fn is_fenced(entry: &Entry) -> bool {
+    match entry {
+        Entry::Called { reply, .. } => is_fence(reply),
+        _ => false,
+    }
+}
+
+// All 3,003 orders of an open and a flush of one writer, and an open of another: in 2,447 the flush is done, and in 31 it
+// reads the other's epoch.
 #[test]
 fn two_opens_and_a_flush_make_one_chain(rt: HostRuntime) -> Result<(), Fail> {
     let alloc = rt.alloc();
     let mut runs = 0u32;
+    let mut flushed = 0u32;
+    let mut fenced = 0u32;
     for mask in 0..32768 {
         let mask: u32 = mask;
         if mask.count_ones() == 5 {
@@ -288,8 +306,15 @@ fn two_opens_and_a_flush_make_one_chain(rt: HostRuntime) -> Result<(), Fail> {
             let cluster = run(alloc, events.as_slice())?;
             audit(&rt, alloc, &cluster)?;
             runs = runs.saturating_add(1);
+            if cluster.trail().iter().any(|e| is_done(e)) {
+                flushed = flushed.saturating_add(1);
+            }
+            if cluster.trail().iter().any(|e| is_fenced(e)) {
+                fenced = fenced.saturating_add(1);
+            }
         }
     }
     assert_eq!(rt; runs, 3003);
+    assert_eq!(rt; (flushed, fenced), (2447, 31));
     Ok(())
 }

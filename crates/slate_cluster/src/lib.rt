@@ -11,8 +11,12 @@ mod cluster_tests;
 mod command;
 mod commits;
 #[cfg(test)]
+mod databases_tests;
+#[cfg(test)]
 mod flush_tests;
 mod flushing;
+#[cfg(test)]
+mod holder_tests;
 #[cfg(test)]
 mod interleaving_tests;
 #[cfg(test)]

@@ -121,7 +121,7 @@ fn words(rt: HostRuntime) -> Result<(), Fail> {
         "  slate --version           writes the version\n\n",
         "Exit codes: 0 done, 2 no such command, 3 reading failed,\n",
         "4 writing failed, 5 more than 64 MiB of input, 6 no script,\n",
-        "8 a bad event, 9 out of memory.\n",
+        "7 refused databases, 8 a bad event, 9 out of memory.\n",
     ];
     let cases: [(&[&str], Status, &[&str]); 8] = [
         (&[], Status::BadWords, &[]),

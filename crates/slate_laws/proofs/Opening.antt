@@ -10,7 +10,8 @@ use Rattle.slate_log.specs.Boundary.{boundary_got}
 use Rattle.slate_log.specs.LogPaths.{version_path, boundary_path}
 use Rattle.slate_log.specs.declared.log_kind.LogKind.TheVariants.{Manifest as ManifestLog}
 use Rattle.slate_model.specs.Codec.{encoded, decoded}
-use Rattle.slate_model.specs.Laws.{round_trip, normal_is}
+use Rattle.slate_model.specs.Laws.{round_trip}
+use Rattle.slate_model.specs.Normals.{is_normal_only}
 use Rattle.slate_model.specs.Normal.{normal, is_normal}
 use Rattle.slate_model.specs.declared.manifest.Manifest.{Manifest}
 use Rattle.slate_script.specs.declared.cluster_cause.ClusterCause.{ClusterCause}
@@ -57,7 +58,7 @@ first_read m bytes h = by_bytes (encoded m) refl (is_normal m) refl h
     by_bytes : (r : Result (List ℕ) SlateDBError) → encoded m ≡ r → (b : Bool) → is_normal m ≡ b → bytes_where b r ≡ Some bytes → decoded bytes ≡ Ok m
     by_bytes (Ok l) is true normal_m h =
         let same : l ≡ bytes = cc in
-        round_trip m bytes (is ∙ ap (λ (x : List ℕ). Ok x) same) ∙ ap (λ (x : Manifest). Ok x) (normal_is m normal_m)
+        round_trip m bytes (is ∙ ap (λ (x : List ℕ). Ok x) same) ∙ ap (λ (x : Manifest). Ok x) (is_normal_only m normal_m)
     by_bytes (Ok l) is false normal_m h = absurd cc
     by_bytes (Err e) is b normal_m h = absurd cc
 

@@ -8,16 +8,16 @@ use Rattle.slate_store.specs.Machines.{Goes, Stay, End}
 use Rattle.slate_store.specs.declared.step.Step.{Step}
 use Rattle.slate_store.specs.declared.step.Step.TheVariants.{Again, Done}
 use Rattle.slate_txn.proofs.Fences.{Free, ran_free, commit_free}
-use Rattle.slate_txn.specs.Commit.{commit_goes}
-use Rattle.slate_txn.specs.Committing.{Committed}
-use Rattle.slate_txn.specs.FencedHolder.{FencedHolder}
-use Rattle.slate_txn.specs.FencedUpdating.{FencedUpdateSteps, state_within, goes_within}
+use Rattle.slate_log.specs.Commit.{commit_goes}
+use Rattle.slate_log.specs.Committing.{Committed}
+use Rattle.slate_txn.specs.FencedHolder.{FencedHolder, state_within}
+use Rattle.slate_txn.specs.FencedUpdating.{FencedUpdateSteps, goes_within}
 use Rattle.slate_txn.specs.Fencing.{NotFenced, NotFencedStep}
 use Rattle.slate_txn.specs.Holder.{Holder}
 use Rattle.slate_txn.specs.Updating.{Updated, UpdateBegan, UpdateState, UpdateSteps, done_of, held_goes, update_due}
-use Rattle.slate_txn.specs.declared.commit.CommitPhase.{CommitPhase}
+use Rattle.slate_log.specs.declared.commit.CommitPhase.{CommitPhase}
 use Rattle.slate_txn.specs.declared.update.UpdateMachine.{UpdateMachine}
-use Rattle.slate_txn.specs.declared.update.UpdateMachine.TheVariants.{Refused, Committing}
+use Rattle.slate_txn.specs.declared.update.UpdateMachine.TheVariants.{Refused, Nothing, Committing}
 
 done_free : {T : Type 0} (reply : Result (ℕ × T) SlateDBError) (result : Result (Unit {0}) SlateDBError) → NotFenced reply → done_of reply ≡ result → NotFenced result
 done_free (Ok version) result free done = λ own read same. absurd (let both : Ok tt ≡ Err (Fenced own read) = done ∙ same in cc)
@@ -40,6 +40,7 @@ update_free holder moment old new start result free (inr m) = λ own read same. 
 fenced_steps : {T C R E : Type 0} (old new : Told) (moment : ℤ) (fenced : FencedHolder T C R E) (machine to : UpdateMachine T) (held : Holder T C R) (step : Step (Unit {0}))
     → UpdateSteps old new moment (machine, fenced.holder) (to, held) step → FencedUpdateSteps old new moment (machine, fenced) (to, record fenced { holder = held }) step
 fenced_steps old new moment fenced (Refused e) to held step steps = (steps.0, ap (state_within fenced) steps.1)
+fenced_steps old new moment fenced Nothing to held step steps = (steps.0, steps.1, ap (state_within fenced) steps.2)
 fenced_steps old new moment fenced (Committing commit) to held Again stepped = record { answer = stepped.answer; makes = stepped.makes; gives = ap (goes_within fenced) stepped.gives }
 fenced_steps old new moment fenced (Committing commit) to held (Done r) (inl stepped) = inl (record { answer = stepped.answer; makes = stepped.makes; gives = ap (goes_within fenced) stepped.gives })
 fenced_steps old new moment fenced (Committing commit) to held (Done r) (inr m) = inr (m.0, record { kept = ap (state_within fenced) m.1.kept; made = m.1.made })
@@ -61,6 +62,7 @@ held_free holder (End commit (Err e)) state own read free = λ same.
 -- a step of an update in which a call is due doesn't answer Fenced
 pub update_step_free : {T C R : Type 0} (old new : Told) (moment : ℤ) (holder held : Holder T C R) (machine to : UpdateMachine T) (step : Step (Unit {0})) → update_due machine ≡ true → UpdateSteps old new moment (machine, holder) (to, held) step → NotFencedStep step
 update_step_free old new moment holder held (Refused e) to step due steps = absurd cc
+update_step_free old new moment holder held Nothing to step due steps = absurd cc
 update_step_free old new moment holder held (Committing commit) to Again due stepped = λ own read same. absurd cc
 update_step_free old new moment holder held (Committing commit) to (Done r) due (inl stepped) = λ own read same.
     let is : r ≡ Err (Fenced own read) = cc in

@@ -1,15 +1,10 @@
-pub mod Decimals
-pub mod Ascend
-pub mod Steps
-pub mod Once
-pub mod Faults
-pub mod ReadFaults
-pub mod Commits
 pub mod Updates
+pub mod Standing
 pub mod Loads
 pub mod Inits
 pub mod ApplyRuns
 pub mod ApplyFaults
 pub mod Fences
 pub mod Refreshes
+pub mod FencedRefreshes
 pub mod FencedUpdates

@@ -6,8 +6,8 @@ use Rattle.slate_txn.specs.Apply.{Ways, Applies}
 use Rattle.slate_txn.specs.FencedHolder.{FencedHolder, fenced_at}
 use Rattle.slate_txn.specs.Holder.{Holder}
 use Rattle.slate_txn.specs.Raise.{next_epoch}
-use Rattle.slate_txn.specs.declared.right.Right.{Right}
-use Rattle.slate_txn.specs.declared.right.Right.TheVariants.{Plain}
+use Rattle.slate_log.specs.declared.right.Right.{Right}
+use Rattle.slate_log.specs.declared.right.Right.TheVariants.{Plain}
 
 -- the raise of the epoch, as the change of an apply
 abbrev pub raising : {T C R E : Type 0} → (C → List ℕ → Result T SlateDBError) → (C → T → Result (List ℕ) SlateDBError) → (R → ℕ → T → T → Right → Option SlateDBError) → (E → T → ℕ) → (E → T → ℕ → T) → E → Ways T C R

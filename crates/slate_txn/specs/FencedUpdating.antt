@@ -1,17 +1,18 @@
 -- An update of the version that a fenced holder holds.
-use Rattle.std.specs.Prelude.{◌≡◌, ℤ, Option, Some, None, Result, Err}
+use Rattle.std.specs.Prelude.{◌≡◌, ℤ, Ok, Option, Some, None, Result, Err}
 use Rattle.slate_ids.specs.declared.error.SlateDBError.{SlateDBError}
 use Rattle.slate_store.specs.Calls.{Told}
 use Rattle.slate_store.specs.Machines.{Goes, Stay, End, Steps, AnswersAtOnce}
 use Rattle.slate_store.specs.declared.step.Step.{Step}
+use Rattle.slate_store.specs.declared.step.Step.TheVariants.{Done}
 use Rattle.slate_store.specs.declared.store_answer.StoreAnswer.{StoreAnswer}
-use Rattle.slate_txn.specs.Commit.{commit_asks}
-use Rattle.slate_txn.specs.FencedHolder.{FencedHolder}
+use Rattle.slate_log.specs.Commit.{commit_asks}
+use Rattle.slate_log.specs.declared.commit.CommitPhase.{CommitPhase}
+use Rattle.slate_log.specs.declared.commit.CommitPhase.TheVariants.{Over}
+use Rattle.slate_txn.specs.FencedHolder.{FencedHolder, state_within}
 use Rattle.slate_txn.specs.Updating.{UpdateState, update_goes}
-use Rattle.slate_txn.specs.declared.commit.CommitPhase.{CommitPhase}
-use Rattle.slate_txn.specs.declared.commit.CommitPhase.TheVariants.{Over}
 use Rattle.slate_txn.specs.declared.update.UpdateMachine.{UpdateMachine}
-use Rattle.slate_txn.specs.declared.update.UpdateMachine.TheVariants.{Refused, Committing}
+use Rattle.slate_txn.specs.declared.update.UpdateMachine.TheVariants.{Refused, Nothing, Committing}
 
 -- what begins unless a fence refuses it
 abbrev pub unless : {X : Type 0} → Option SlateDBError → Result X SlateDBError → Result X SlateDBError
@@ -22,9 +23,7 @@ unless None start = start
 abbrev pub FencedUpdateState : Type 0 → Type 0 → Type 0 → Type 0 → Type 0
 FencedUpdateState T C R E = UpdateMachine T × FencedHolder T C R E
 
-abbrev pub state_within : {T C R E : Type 0} → FencedHolder T C R E → UpdateState T C R → FencedUpdateState T C R E
-state_within fenced state = (state.0, record fenced { holder = state.1 })
-
+-- and so how it goes on
 abbrev pub goes_within : {T C R E : Type 0} → FencedHolder T C R E → Goes (UpdateState T C R) (Unit {0}) → Goes (FencedUpdateState T C R E) (Unit {0})
 goes_within fenced (Stay state) = Stay (state_within fenced state)
 goes_within fenced (End state reply) = End (state_within fenced state) reply
@@ -33,8 +32,9 @@ goes_within fenced (End state reply) = End (state_within fenced state) reply
 abbrev pub fenced_update_goes : {T C R E : Type 0} → CommitPhase T → FencedHolder T C R E → StoreAnswer → Goes (FencedUpdateState T C R E) (Unit {0})
 fenced_update_goes commit fenced answer = goes_within fenced (update_goes commit fenced.holder answer)
 
--- what next does: a refused update answers at once, and else the commit takes a step
+-- what next does: where nothing is committed it answers at once, and else the commit takes a step
 abbrev pub FencedUpdateSteps : {T C R E : Type 0} → Told → Told → ℤ → FencedUpdateState T C R E → FencedUpdateState T C R E → Step (Unit {0}) → Type 0
 FencedUpdateSteps old new moment (Refused e, fenced) to step = AnswersAtOnce old new e step × (to ≡ (Committing Over, fenced))
+FencedUpdateSteps old new moment (Nothing, fenced) to step = (new ≡ old) × (step ≡ Done (Ok tt)) × (to ≡ (Committing Over, fenced))
 FencedUpdateSteps old new moment (Committing commit, fenced) to step =
     Steps old new (commit_asks fenced.holder.sequenced.db fenced.holder.sequenced.log commit) moment (fenced_update_goes commit fenced) (Committing commit, fenced) to step

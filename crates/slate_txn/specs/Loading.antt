@@ -7,11 +7,11 @@ use Rattle.slate_store.specs.Machines.{Goes, Stay, End, Steps}
 use Rattle.slate_store.specs.declared.step.Step.{Step}
 use Rattle.slate_store.specs.declared.store_answer.StoreAnswer.{StoreAnswer}
 use Rattle.slate_txn.specs.Holder.{Holder}
-use Rattle.slate_txn.specs.Read.{read_asks, read_goes, read_due}
+use Rattle.slate_log.specs.Read.{read_asks, read_goes, read_due}
 use Rattle.slate_txn.specs.declared.load.LoadMachine.{LoadMachine}
 use Rattle.slate_txn.specs.declared.load.LoadMachine.TheVariants.{Reading, Over}
-use Rattle.slate_txn.specs.declared.read.ReadPhase.{ReadPhase}
-use Rattle.slate_txn.specs.declared.sequenced.Sequenced.{Sequenced}
+use Rattle.slate_log.specs.declared.read.ReadPhase.{ReadPhase}
+use Rattle.slate_log.specs.declared.sequenced.Sequenced.{Sequenced}
 
 abbrev pub holder_of : {T C R : Type 0} → Sequenced T C → R → ℕ × T → Holder T C R
 holder_of sequenced rules version = record { sequenced = sequenced; rules = rules; id = version.0; object = version.1 }

@@ -2,10 +2,10 @@
 use Rattle.std.specs.Prelude.{ℕ, ◌+◌, ◌-◌, ◌^◌, ◌==◌, List, Option, Result, Err, if◌then◌else◌, Ok, Some}
 use Rattle.slate_ids.specs.declared.error.SlateDBError.{SlateDBError}
 use Rattle.slate_ids.specs.declared.error.SlateDBError.TheVariants.{Exhausted}
-use Rattle.slate_txn.specs.Commit.{prepared}
-use Rattle.slate_txn.specs.declared.commit.CommitPhase.{CommitPhase}
-use Rattle.slate_txn.specs.declared.right.Right.{Right}
-use Rattle.slate_txn.specs.declared.right.Right.TheVariants.{Plain}
+use Rattle.slate_log.specs.Commit.{prepared}
+use Rattle.slate_log.specs.declared.commit.CommitPhase.{CommitPhase}
+use Rattle.slate_log.specs.declared.right.Right.{Right}
+use Rattle.slate_log.specs.declared.right.Right.TheVariants.{Plain}
 
 -- the commit of the value read with its epoch plus one, where there is such an epoch
 abbrev pub raised : {T : Type 0} → (ℕ → T → T → Right → Option SlateDBError) → (T → Result (List ℕ) SlateDBError) → (T → ℕ) → (T → ℕ → T) → ℕ → T → Result (CommitPhase T) SlateDBError

@@ -1,5 +1,5 @@
--- Holders: a load, and an update of the value held.
-use Rattle.std.specs.Prelude.{◌≡◌, ℕ, ℤ, ◌==◌, Bool, true, false, List, Option, None, Result, Ok, Err, if◌then◌else◌}
+-- An update of the value held, and the commit of what a function makes of it.
+use Rattle.std.specs.Prelude.{◌≡◌, ℕ, ℤ, ◌==◌, Bool, true, false, List, Option, Some, None, Result, Ok, Err, if◌then◌else◌}
 use Rattle.std.proofs.Common.{◌⊎◌}
 use Rattle.slate_ids.specs.Answers.{OrMemory}
 use Rattle.slate_ids.specs.declared.error.SlateDBError.{SlateDBError}
@@ -9,15 +9,15 @@ use Rattle.slate_store.specs.Machines.{Goes, Stay, End, Steps, AnswersAtOnce}
 use Rattle.slate_store.specs.declared.step.Step.{Step}
 use Rattle.slate_store.specs.declared.step.Step.TheVariants.{Again, Done}
 use Rattle.slate_store.specs.declared.store_answer.StoreAnswer.{StoreAnswer}
-use Rattle.slate_txn.specs.Commit.{prepared, commit_asks, commit_goes, commit_due}
-use Rattle.slate_txn.specs.Committing.{Committed, CommitBegan}
+use Rattle.slate_log.specs.Commit.{prepared, commit_asks, commit_goes, commit_due}
+use Rattle.slate_log.specs.Committing.{Committed, CommitBegan}
 use Rattle.slate_txn.specs.Holder.{Holder, at_version}
-use Rattle.slate_txn.specs.declared.commit.CommitPhase.{CommitPhase}
-use Rattle.slate_txn.specs.declared.commit.CommitPhase.TheVariants.{Over}
+use Rattle.slate_log.specs.declared.commit.CommitPhase.{CommitPhase}
+use Rattle.slate_log.specs.declared.commit.CommitPhase.TheVariants.{Over}
 use Rattle.slate_txn.specs.declared.stored.DirtyObject.{DirtyObject}
-use Rattle.slate_txn.specs.declared.right.Right.{Right}
+use Rattle.slate_log.specs.declared.right.Right.{Right}
 use Rattle.slate_txn.specs.declared.update.UpdateMachine.{UpdateMachine}
-use Rattle.slate_txn.specs.declared.update.UpdateMachine.TheVariants.{Refused, Committing}
+use Rattle.slate_txn.specs.declared.update.UpdateMachine.TheVariants.{Refused, Nothing, Committing}
 
 -- an update begins where the dirty value's number is the holder's: then it is the commit of that value
 abbrev pub started : {T C R : Type 0} → (R → ℕ → T → T → Right → Option SlateDBError) → (C → T → Result (List ℕ) SlateDBError) → Holder T C R → DirtyObject T → Right → Result (CommitPhase T) SlateDBError
@@ -52,14 +52,22 @@ abbrev pub update_of : {T : Type 0} → Result (CommitPhase T) SlateDBError → 
 update_of (Ok commit) = Committing commit
 update_of (Err e) = Refused e
 
+-- the machine of the commit of what a function makes of the value held, where it makes a value
+abbrev pub maybe_of : {T : Type 0} → Result (Option (CommitPhase T)) SlateDBError → UpdateMachine T
+maybe_of (Ok (Some commit)) = Committing commit
+maybe_of (Ok None) = Nothing
+maybe_of (Err e) = Refused e
+
 -- whether a call is due
 abbrev pub update_due : {T : Type 0} → UpdateMachine T → Bool
 update_due (Refused e) = false
+update_due Nothing = false
 update_due (Committing commit) = commit_due commit
 
 -- whether it has not ended
 abbrev pub update_open : {T : Type 0} → UpdateMachine T → Bool
 update_open (Refused e) = true
+update_open Nothing = true
 update_open (Committing commit) = commit_due commit
 
 -- the machine and the holder
@@ -74,9 +82,10 @@ held_goes holder (End commit reply) = End (Committing commit, held_of holder rep
 abbrev pub update_goes : {T C R : Type 0} → CommitPhase T → Holder T C R → StoreAnswer → Goes (UpdateState T C R) (Unit {0})
 update_goes commit holder answer = held_goes holder (commit_goes commit answer)
 
--- what next does: a refused update answers at once, and else the commit takes a step
+-- what next does: where nothing is committed it answers at once, and else the commit takes a step
 abbrev pub UpdateSteps : {T C R : Type 0} → Told → Told → ℤ → UpdateState T C R → UpdateState T C R → Step (Unit {0}) → Type 0
 UpdateSteps old new moment (Refused e, holder) to step = AnswersAtOnce old new e step × (to ≡ (Committing Over, holder))
+UpdateSteps old new moment (Nothing, holder) to step = (new ≡ old) × (step ≡ Done (Ok tt)) × (to ≡ (Committing Over, holder))
 UpdateSteps old new moment (Committing commit, holder) to step =
     Steps old new (commit_asks holder.sequenced.db holder.sequenced.log commit) moment (update_goes commit holder) (Committing commit, holder) to step
 

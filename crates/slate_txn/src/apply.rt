@@ -1,18 +1,16 @@
-//! Committing what a change makes of the version held, after a conflict too.
-ghost use Rattle.std.specs.Prelude.{◌≡◌, ◌<◌, IfOk, IfSome, true};
+//! Committing what a function makes of the version held, after a conflict too.
+ghost use Rattle.std.specs.Prelude.{◌≡◌, ◌<◌, ℕ, Option, Result, IfOk, IfSome, true};
 ghost use Rattle.slate_ids.specs.Answers.{Gives, OrMemory};
+ghost use Rattle.slate_ids.specs.declared.error.SlateDBError.{SlateDBError as Refusal};
 ghost use Rattle.slate_store.specs.Machines.{Steps, GoesOn, IsAgain};
-ghost use Rattle.slate_txn.specs.Commit.{is_putting};
-ghost use Rattle.slate_txn.specs.Due.{StillDue, WhereOut, FaultOf, FaultRose};
+ghost use Rattle.slate_log.specs.Commit.{is_putting};
+ghost use Rattle.slate_log.specs.Due.{StillDue, WhereOut, FaultOf, FaultRose};
+ghost use Rattle.slate_txn.specs.Changing.{ComputesWith};
 ghost use Rattle.slate_txn.specs.Apply.{renewed, apply_goes, apply_asks, apply_due, ApplyFalls, is_start, is_reading_phase, Applied, ApplyBegan, Applies, FaultFree};
 
-use crate::change::Change;
-use crate::commit::{CommitPhase, prepare};
-use crate::read::ReadPhase;
-use crate::right::Right;
-use crate::rules::Rules;
 use crate::stored::Stored;
 use slate_ids::{Millis, ObjectCodec, OutOfMemory, SlateDBError};
+use slate_log::{CommitPhase, ReadPhase, Right, Rules, prepare};
 use slate_store::{ObjectStore, Step, StoreAnswer, StoreCall, perform};
 use std::alloc::Global;
 
@@ -26,19 +24,25 @@ pub enum ApplyPhase<T> {
 }
 
 // The commit of what the change makes of a version.
-fn renew<T: Drop, C: ObjectCodec<T>, R: Rules<T>, X: Change<T>>(
+fn renew<
+    T: Drop,
+    C: ObjectCodec<T>,
+    R: Rules<T>,
+    F: Fn(&C, u64, &T) -> Result<Option<T>, SlateDBError>,
+>(
     alloc: Global,
     codec: &C,
     rules: &R,
-    change: &X,
+    change: &F,
     right: &Right,
     id: u64,
     value: &T,
 ) -> Result<Option<CommitPhase<T>>, SlateDBError>
-    ensures commit { Gives result (renewed (X.changed change.now) (R.refusal rules.now) (C.encoded codec.now) right.now id value.now) }
+    requires callable { F.IsAlwaysCallable change.now }
+    ensures commit { (made : ℕ → T → Result (Option T) Refusal) → ComputesWith (F.post change.now) made → Gives result (renewed made (R.refusal rules.now) (C.encoded codec.now) right.now id value.now) }
     ensures putting { IfOk result (λ commit. IfSome commit (λ c. is_putting c ≡ true)) }
 {
-    match change.change(alloc, codec, id, value)? {
+    match change(codec, id, value)? {
         None => Ok(None),
         Some(new) => Ok(Some(prepare(alloc, codec, rules, id, value, new, right)?)),
     }
@@ -80,15 +84,20 @@ impl<T: Drop> ApplyPhase<T> {
     }
 
     /// Goes on from the answer to that call. Want of memory leaves phase and holder as they were.
-    pub fn goes_on<C: ObjectCodec<T> + Drop, R: Rules<T> + Drop, X: Change<T>>(
+    pub fn goes_on<
+        C: ObjectCodec<T> + Drop,
+        R: Rules<T> + Drop,
+        F: Fn(&C, u64, &T) -> Result<Option<T>, SlateDBError>,
+    >(
         &mut self,
         alloc: Global,
         holder: &mut Stored<T, C, R>,
-        change: &X,
+        change: &F,
         right: &Right,
         answer: &StoreAnswer,
     ) -> Step<()>
-        ensures goes { GoesOn (apply_goes (record { decoded = C.decoded; encoded = C.encoded; refusal = R.refusal; changed = X.changed change.now; right = right.now }) (self.old, holder.old) answer.now)
+        requires callable { F.IsAlwaysCallable change.now }
+        ensures goes { (made : ℕ → T → Result (Option T) Refusal) → ComputesWith (F.post change.now) made → GoesOn (apply_goes (record { decoded = C.decoded; encoded = C.encoded; refusal = R.refusal; changed = made; right = right.now }) (self.old, holder.old) answer.now)
             (self.old, holder.old) (self.new, holder.new) result }
         ensures falls { IsAgain result → ApplyFalls self.old self.new }
         ensures due { StillDue result (apply_due self.new) }
@@ -152,22 +161,28 @@ impl<T: Drop> ApplyPhase<T> {
     }
 
     /// Makes the one call that is due. Want of memory leaves phase and holder as they were.
-    pub fn next<C: ObjectCodec<T> + Drop, R: Rules<T> + Drop, X: Change<T>, S: ObjectStore>(
+    pub fn next<
+        C: ObjectCodec<T> + Drop,
+        R: Rules<T> + Drop,
+        F: Fn(&C, u64, &T) -> Result<Option<T>, SlateDBError>,
+        S: ObjectStore,
+    >(
         &mut self,
         alloc: Global,
         holder: &mut Stored<T, C, R>,
-        change: &X,
+        change: &F,
         right: &Right,
         store: &mut S,
         moment: Millis,
     ) -> Step<()>
+        requires callable { F.IsAlwaysCallable change.now }
         requires due { apply_due self.now ≡ true }
-        ensures steps { Steps (S.told store.old) (S.told store.new) (apply_asks (self.old, holder.old)) moment
-            (apply_goes (record { decoded = C.decoded; encoded = C.encoded; refusal = R.refusal; changed = X.changed change.now; right = right.now }) (self.old, holder.old))
+        ensures steps { (made : ℕ → T → Result (Option T) Refusal) → ComputesWith (F.post change.now) made → Steps (S.told store.old) (S.told store.new) (apply_asks (self.old, holder.old)) moment
+            (apply_goes (record { decoded = C.decoded; encoded = C.encoded; refusal = R.refusal; changed = made; right = right.now }) (self.old, holder.old))
             (self.old, holder.old) (self.new, holder.new) result }
         ensures falls { IsAgain result → ApplyFalls self.old self.new }
         ensures due { StillDue result (apply_due self.new) }
-        ensures fault { FaultFree (record { decoded = C.decoded; encoded = C.encoded; refusal = R.refusal; changed = X.changed change.now; right = right.now }) → FaultRose (S.told store.old) (S.told store.new) result }
+        ensures fault { (made : ℕ → T → Result (Option T) Refusal) → ComputesWith (F.post change.now) made → FaultFree (record { decoded = C.decoded; encoded = C.encoded; refusal = R.refusal; changed = made; right = right.now }) → FaultRose (S.told store.old) (S.told store.new) result }
     {
         match self.asks(alloc, holder) {
             Ok(call) => match perform(alloc, store, &call, moment) {
@@ -181,22 +196,23 @@ impl<T: Drop> ApplyPhase<T> {
 
 impl<T: Drop, C: ObjectCodec<T> + Drop, R: Rules<T> + Drop> Stored<T, C, R> {
     // Goes on from a commit until it ends, or the tries are used up.
-    fn drive<X: Change<T>, S: ObjectStore>(
+    fn drive<F: Fn(&C, u64, &T) -> Result<Option<T>, SlateDBError>, S: ObjectStore>(
         &mut self,
         alloc: Global,
         commit: CommitPhase<T>,
-        change: &X,
+        change: &F,
         right: &Right,
         store: &mut S,
         moment: Millis,
         tries: u32,
     ) -> Result<(), SlateDBError>
+        requires callable { F.IsAlwaysCallable change.now }
         requires some { 0 < tries }
         requires putting { is_putting commit ≡ true }
-        ensures apply { OrMemory result
-            (ApplyBegan (record { decoded = C.decoded; encoded = C.encoded; refusal = R.refusal; changed = X.changed change.now; right = right.now }) moment tries (S.told store.old) (S.told store.new) commit self.old self.new)
-            (Applied (record { decoded = C.decoded; encoded = C.encoded; refusal = R.refusal; changed = X.changed change.now; right = right.now }) moment tries (S.told store.old) (S.told store.new) commit self.old self.new result) }
-        ensures fault { FaultFree (record { decoded = C.decoded; encoded = C.encoded; refusal = R.refusal; changed = X.changed change.now; right = right.now }) → FaultOf (S.told store.old) (S.told store.new) result }
+        ensures apply { (made : ℕ → T → Result (Option T) Refusal) → ComputesWith (F.post change.now) made → OrMemory result
+            (ApplyBegan (record { decoded = C.decoded; encoded = C.encoded; refusal = R.refusal; changed = made; right = right.now }) moment tries (S.told store.old) (S.told store.new) commit self.old self.new)
+            (Applied (record { decoded = C.decoded; encoded = C.encoded; refusal = R.refusal; changed = made; right = right.now }) moment tries (S.told store.old) (S.told store.new) commit self.old self.new result) }
+        ensures fault { (made : ℕ → T → Result (Option T) Refusal) → ComputesWith (F.post change.now) made → FaultFree (record { decoded = C.decoded; encoded = C.encoded; refusal = R.refusal; changed = made; right = right.now }) → FaultOf (S.told store.old) (S.told store.new) result }
     {
         let mut phase = ApplyPhase::Committing(commit);
         let mut left = tries;
@@ -214,33 +230,46 @@ impl<T: Drop, C: ObjectCodec<T> + Drop, R: Rules<T> + Drop> Stored<T, C, R> {
         }
     }
 
-    /// Commits what the change makes of the version held. After a conflict it reads the latest version, holds it, and
-    /// commits what the change makes of that: so often as there are tries, then `Contended`. Each conflict and each
-    /// restarted read uses one. The holder holds what was put or read last.
-    pub fn apply<X: Change<T>, S: ObjectStore>(
+    // The commit of what the change makes of the version held.
+    pub(crate) fn renew_held<F: Fn(&C, u64, &T) -> Result<Option<T>, SlateDBError>>(
+        &self,
+        alloc: Global,
+        change: &F,
+        right: &Right,
+    ) -> Result<Option<CommitPhase<T>>, SlateDBError>
+        requires callable { F.IsAlwaysCallable change.now }
+        ensures commit { (made : ℕ → T → Result (Option T) Refusal) → ComputesWith (F.post change.now) made → Gives result (renewed made (R.refusal self.now.rules) (C.encoded self.now.sequenced.codec) right.now self.now.id self.now.object) }
+        ensures putting { IfOk result (λ commit. IfSome commit (λ c. is_putting c ≡ true)) }
+    {
+        renew(
+            alloc,
+            &self.sequenced.codec,
+            &self.rules,
+            change,
+            right,
+            self.id,
+            &self.object,
+        )
+    }
+
+    // Commits what the change makes of the version held. After a conflict it reads the latest version, holds it, and
+    // commits what the change makes of that: so often as there are tries, then `Contended`. The holder holds what was put
+    // or read last.
+    pub(crate) fn apply<F: Fn(&C, u64, &T) -> Result<Option<T>, SlateDBError>, S: ObjectStore>(
         &mut self,
         alloc: Global,
-        change: &X,
+        change: &F,
         right: &Right,
         store: &mut S,
         moment: Millis,
         tries: u32,
     ) -> Result<(), SlateDBError>
-        requires { 0 < tries }
-        ensures apply { Applies (record { decoded = C.decoded; encoded = C.encoded; refusal = R.refusal; changed = X.changed change.now; right = right.now }) moment tries (S.told store.old) (S.told store.new) self.old self.new result }
-        ensures fault { FaultFree (record { decoded = C.decoded; encoded = C.encoded; refusal = R.refusal; changed = X.changed change.now; right = right.now }) → FaultOf (S.told store.old) (S.told store.new) result }
+        requires callable { F.IsAlwaysCallable change.now }
+        requires some { 0 < tries }
+        ensures apply { (made : ℕ → T → Result (Option T) Refusal) → ComputesWith (F.post change.now) made → Applies (record { decoded = C.decoded; encoded = C.encoded; refusal = R.refusal; changed = made; right = right.now }) moment tries (S.told store.old) (S.told store.new) self.old self.new result }
+        ensures fault { (made : ℕ → T → Result (Option T) Refusal) → ComputesWith (F.post change.now) made → FaultFree (record { decoded = C.decoded; encoded = C.encoded; refusal = R.refusal; changed = made; right = right.now }) → FaultOf (S.told store.old) (S.told store.new) result }
     {
-        let held = &*self;
-        let renewed = renew(
-            alloc,
-            &held.sequenced.codec,
-            &held.rules,
-            change,
-            right,
-            held.id,
-            &held.object,
-        );
-        match renewed {
+        match self.renew_held(alloc, change, right) {
             Err(e) => Err(e),
             Ok(None) => Ok(()),
             Ok(Some(commit)) => self.drive(alloc, commit, change, right, store, moment, tries),

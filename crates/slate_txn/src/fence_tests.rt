@@ -1,8 +1,9 @@
 //! Fenced holders over a store in memory: what fences them, their refreshes and their updates.
 
 use crate::number_logs::{Codec, First, Rising, again, code, ended, expect_due, log, store_with};
-use crate::{DirtyObject, Fenced, FencedUpdateMachine, RefreshMachine, Right, Stored, fence};
+use crate::{DirtyObject, Fenced, FencedRefreshMachine, FencedUpdateMachine, Stored, fence};
 use slate_ids::{NumberRange, ObjectPath, SlateDBError};
+use slate_log::Right;
 use slate_store::{Mark, MemoryStore, ObjectStore, Step};
 use std::alloc::Global;
 use std::ops::Bound;
@@ -131,7 +132,7 @@ fn refreshes_no_version(rt: HostRuntime) -> Result<(), Fail> {
 // The first two steps of a refresh.
 fn list_and_get(
     alloc: Global,
-    refresh: &mut RefreshMachine<(u64, u64)>,
+    refresh: &mut FencedRefreshMachine<(u64, u64)>,
     holder: &mut Holder,
     store: &mut MemoryStore,
 ) -> Result<(), Fail> {
@@ -211,7 +212,7 @@ fn faults_around_a_call(alloc: Global, store: &mut MemoryStore) -> Result<(u64, 
 // The last step of a refresh.
 fn last_step(
     alloc: Global,
-    refresh: &mut RefreshMachine<(u64, u64)>,
+    refresh: &mut FencedRefreshMachine<(u64, u64)>,
     holder: &mut Holder,
     store: &mut MemoryStore,
 ) -> Result<Option<(u64, u64)>, Fail> {

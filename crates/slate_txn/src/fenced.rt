@@ -2,16 +2,15 @@
 ghost use Rattle.std.specs.Prelude.{◌≡◌, ◌<◌, ◌⊎◌, IfOk, IfErr, IfSome, Some, Err, true};
 ghost use Rattle.slate_ids.specs.Answers.{is_memory};
 ghost use Rattle.slate_txn.specs.Apply.{FaultFree};
-ghost use Rattle.slate_txn.specs.Due.{FaultOf};
+ghost use Rattle.slate_log.specs.Due.{FaultOf};
 ghost use Rattle.slate_txn.specs.Fence.{FencedBy, raising};
 ghost use Rattle.slate_txn.specs.Fencing.{held_fence};
 
-use crate::change::NextEpoch;
 use crate::fencing::fence;
-use crate::right::Right;
-use crate::rules::Rules;
+use crate::next_value::next_epoch;
 use crate::stored::{DirtyObject, Stored};
 use slate_ids::{Epochs, Millis, ObjectCodec, SlateDBError};
+use slate_log::{Right, Rules};
 use slate_store::ObjectStore;
 use std::alloc::Global;
 use std::marker::Model;
@@ -53,12 +52,11 @@ impl<T: Drop, C: ObjectCodec<T> + Drop, R: Rules<T> + Drop, E: Epochs<T> + Drop>
         ensures fenced { FencedBy E.epoch (raising C.decoded C.encoded R.refusal E.epoch E.with_epoch epochs) moment tries (S.told store.old) (S.told store.new) stored epochs result }
         ensures fault { FaultFree (raising C.decoded C.encoded R.refusal E.epoch E.with_epoch epochs) → FaultOf (S.told store.old) (S.told store.new) result }
     {
-        let raise = NextEpoch { epochs };
         let mut stored = stored;
+        let raise = |codec: &C, id: u64, value: &T| next_epoch(alloc, codec, &epochs, id, value);
         match stored.apply(alloc, &raise, &Right::Plain, store, moment, tries) {
             Err(e) => Err(e),
             Ok(()) => {
-                let NextEpoch { epochs } = raise;
                 let epoch = epochs.get(stored.object());
                 Ok(Fenced {
                     stored,

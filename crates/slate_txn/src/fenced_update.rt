@@ -1,18 +1,18 @@
 //! An update of the version that a fenced holder holds.
-ghost use Rattle.std.specs.Prelude.{◌≡◌, ◌≢◌, ◌+◌, IfOk, OnOk, OnErr, Err, true};
+ghost use Rattle.std.specs.Prelude.{◌≡◌, ◌≢◌, ◌+◌, ◌⊎◌, IfOk, IfErr, OnOk, OnErr, Err, true, false};
 ghost use Rattle.slate_ids.specs.declared.error.SlateDBError.TheVariants.{StoreFault};
-ghost use Rattle.slate_txn.specs.Due.{FaultOf, FaultRose, StillDue};
+ghost use Rattle.slate_log.specs.Due.{FaultOf, FaultRose, StillDue};
+ghost use Rattle.slate_txn.specs.FencedHolder.{fenced_version};
 ghost use Rattle.slate_txn.specs.FencedUpdating.{unless, FencedUpdateSteps};
 ghost use Rattle.slate_txn.specs.Fencing.{held_fence, UnlessFenced, FencedOnly, NotFenced, NotFencedStep};
-ghost use Rattle.slate_txn.specs.Refreshing.{fenced_version};
+ghost use Rattle.slate_txn.specs.Standing.{SameContents, UpdateStands, may_stand};
 ghost use Rattle.slate_txn.specs.Updating.{started, Updates, update_of, update_due, update_open};
 
 use crate::fenced::Fenced;
-use crate::right::Right;
-use crate::rules::Rules;
 use crate::stored::DirtyObject;
 use crate::update::UpdateMachine;
 use slate_ids::{Epochs, Millis, ObjectCodec, OutOfMemory, SlateDBError};
+use slate_log::{Right, Rules};
 use slate_store::{ObjectStore, Step};
 use std::alloc::Global;
 use std::marker::Model;
@@ -39,7 +39,9 @@ impl<T: Drop, C: ObjectCodec<T> + Drop, R: Rules<T> + Drop, E: Epochs<T> + Drop>
 > {
     /// Commits a dirty value, in one try, as the update of a holder without a fence does. Refused with `Fenced` before any
     /// call where the epoch of the version held is above the own one. After Ok the holder holds what was put, and after a
-    /// refusal it is unchanged. The own epoch stays.
+    /// refusal it is unchanged. So are the store's contents, except that the put may stand where its answer was lost, where
+    /// the boundary read after it was at or above its number (`TransactionalObjectVersionExists` with a boundary), or where
+    /// the boundary couldn't be read. The own epoch stays.
     pub fn update<S: ObjectStore>(
         &mut self,
         alloc: Global,
@@ -52,6 +54,10 @@ impl<T: Drop, C: ObjectCodec<T> + Drop, R: Rules<T> + Drop, E: Epochs<T> + Drop>
             (Updates R.refusal C.encoded moment (S.told store.old) (S.told store.new) self.old.holder dirty right.now result) }
         ensures held { OnOk result (self.new ≡ fenced_version self.old (self.old.holder.id + 1) dirty.value) }
         ensures kept { OnErr result (self.new ≡ self.old) }
+        ensures before { IfErr (unless (held_fence E.epoch self.old) (started R.refusal C.encoded self.old.holder dirty right.now)) (λ e. S.told store.new ≡ S.told store.old) }
+        ensures put { OnOk result (UpdateStands self.old.holder moment (S.told store.old) (S.told store.new) (started R.refusal C.encoded self.old.holder dirty right.now)) }
+        ensures left { IfErr result (λ e. may_stand e ≡ false → SameContents (S.told store.old) (S.told store.new)) }
+        ensures stands { OnErr result (SameContents (S.told store.old) (S.told store.new) ⊎ UpdateStands self.old.holder moment (S.told store.old) (S.told store.new) (started R.refusal C.encoded self.old.holder dirty right.now)) }
         ensures epoch { self.new.epoch ≡ self.old.epoch }
         ensures fault { started R.refusal C.encoded self.old.holder dirty right.now ≢ Err StoreFault → FaultOf (S.told store.old) (S.told store.new) result }
         ensures fenced { NotFenced (started R.refusal C.encoded self.old.holder dirty right.now) → FencedOnly (held_fence E.epoch self.old) result }
@@ -80,8 +86,17 @@ impl<T: Drop, C: ObjectCodec<T> + Drop, R: Rules<T> + Drop, E: Epochs<T> + Drop>
     }
 }
 
+impl<T> FencedUpdateMachine<T> {
+    // The machine around this update.
+    pub(crate) fn new(update: UpdateMachine<T>) -> FencedUpdateMachine<T>
+        ensures { result ≡ update }
+    {
+        FencedUpdateMachine { update }
+    }
+}
+
 impl<T: Drop> FencedUpdateMachine<T> {
-    /// Whether a call is due. None is after an end, but for want of memory, nor where the update was refused.
+    /// Whether a call is due. None is after an end, but for want of memory, nor where nothing is committed.
     pub fn due(&self) -> bool
         ensures due { result ≡ update_due self.now }
         ensures open { result ≡ true → update_open self.now ≡ true }
@@ -89,9 +104,9 @@ impl<T: Drop> FencedUpdateMachine<T> {
         self.update.due()
     }
 
-    /// Makes the one call that is due. A refused update makes none and answers its refusal. A conflict ends it. After Ok
-    /// the holder holds what was put, and else it is unchanged. Want of memory leaves the machine as it was, and any other
-    /// end leaves none due.
+    /// Makes the one call that is due. A refused update makes none and answers its refusal, and where there is nothing to
+    /// commit it makes none and answers Ok. A conflict ends it. After a commit the holder holds what was put, and else it is
+    /// unchanged. Want of memory leaves the machine as it was, and any other end leaves none due.
     pub fn next<C: Drop, R: Drop, E: Drop, S: ObjectStore>(
         &mut self,
         alloc: Global,

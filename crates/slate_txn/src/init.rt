@@ -1,15 +1,14 @@
 //! The machine that makes a fenced holder.
 ghost use Rattle.std.specs.Prelude.{◌≡◌, IfOk, true};
-ghost use Rattle.slate_txn.specs.Due.{FaultRose, StillDue};
+ghost use Rattle.slate_log.specs.Due.{FaultRose, StillDue};
 ghost use Rattle.slate_txn.specs.Initing.{init_of, init_due, init_open, fenced_reply, InitSteps};
 ghost use Rattle.slate_txn.specs.Raise.{raised};
 
-use crate::commit::CommitPhase;
 use crate::fenced::Fenced;
 use crate::raise::prepare_raise;
-use crate::rules::Rules;
 use crate::stored::Stored;
 use slate_ids::{Epochs, Millis, ObjectCodec, OutOfMemory, SlateDBError};
+use slate_log::{CommitPhase, Rules};
 use slate_store::{ObjectStore, Step};
 use std::alloc::Global;
 use std::mem;

@@ -2,17 +2,15 @@
 ghost use Rattle.std.specs.Prelude.{◌≡◌, ◌<◌, ℕ, Option, Result, true};
 ghost use Rattle.slate_ids.specs.Answers.{OrMemory};
 ghost use Rattle.slate_ids.specs.declared.error.SlateDBError.{SlateDBError as Refusal};
-ghost use Rattle.slate_txn.specs.Due.{FaultOf, FaultRose, NoFault, StillDue};
+ghost use Rattle.slate_log.specs.Due.{FaultOf, FaultRose, NoFault, StillDue};
 ghost use Rattle.slate_txn.specs.Loading.{loaded, load_due, LoadSteps};
-ghost use Rattle.slate_txn.specs.Reading.{Read, ReadBegan};
+ghost use Rattle.slate_log.specs.Reading.{Read, ReadBegan};
 ghost use Rattle.slate_txn.specs.declared.load.LoadMachine.TheVariants.{Reading};
-ghost use Rattle.slate_txn.specs.declared.read.ReadPhase.TheVariants.{Listing};
+ghost use Rattle.slate_log.specs.declared.read.ReadPhase.TheVariants.{Listing};
 
-use crate::read::ReadPhase;
-use crate::rules::Rules;
-use crate::sequenced::Sequenced;
 use crate::stored::Stored;
 use slate_ids::{Millis, ObjectCodec, SlateDBError};
+use slate_log::{ReadPhase, Rules, Sequenced};
 use slate_store::{ObjectStore, Step};
 use std::alloc::Global;
 use std::mem;

@@ -1,11 +1,12 @@
 //! Logs of small numbers over a store in memory, for tests.
 ghost use Rattle.std.specs.Prelude.{◌≡◌, refl, true, OnOk};
-ghost use Rattle.slate_txn.specs.Numbers.{encoded, decoded, refusal, round_trip};
+ghost use Rattle.slate_log.specs.Numbers.{encoded, decoded, refusal, round_trip};
 
-use crate::{LogKind, Right, Rules, Sequenced, Stored};
+use crate::Stored;
 use slate_ids::{
     DbPath, Epochs, FormatName, ObjectCodec, ObjectPath, OutOfMemory, SlateDBError, UpdateRule,
 };
+use slate_log::{LogKind, Right, Rules, Sequenced};
 use slate_store::{MemoryStore, ObjectStore, Step};
 use std::alloc::Global;
 use std::test::Fail;

@@ -1,13 +1,11 @@
 //! Raising the epoch of a value read.
 ghost use Rattle.std.specs.Prelude.{◌≡◌, ◌+◌, IfOk, Some, true};
 ghost use Rattle.slate_ids.specs.Answers.{Gives};
-ghost use Rattle.slate_txn.specs.Commit.{is_putting, commit_version};
+ghost use Rattle.slate_log.specs.Commit.{is_putting, commit_version};
 ghost use Rattle.slate_txn.specs.Raise.{raised};
 
-use crate::commit::{CommitPhase, prepare};
-use crate::right::Right;
-use crate::rules::Rules;
 use slate_ids::{Epochs, ObjectCodec, SlateDBError};
+use slate_log::{CommitPhase, Right, Rules, prepare};
 use std::alloc::Global;
 
 /// The put of the value of this number with its epoch plus one. Refused are, in this order: the last epoch

@@ -3,9 +3,8 @@ ghost use Rattle.std.specs.Prelude.{◌≡◌, IfOk, IfErr, true};
 ghost use Rattle.slate_ids.specs.Answers.{is_memory};
 ghost use Rattle.slate_txn.specs.Holder.{at_version};
 
-use crate::rules::Rules;
-use crate::sequenced::Sequenced;
 use slate_ids::{ObjectCodec, SlateDBError};
+use slate_log::{Rules, Sequenced};
 use std::alloc::Global;
 use std::marker::Model;
 

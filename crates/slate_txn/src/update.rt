@@ -1,17 +1,16 @@
 //! An update of the value held.
-ghost use Rattle.std.specs.Prelude.{◌≡◌, ◌+◌, IfOk, IfErr, OnOk, OnErr, Some, Err, ◌≢◌, true};
+ghost use Rattle.std.specs.Prelude.{◌≡◌, ◌+◌, ◌⊎◌, IfOk, IfErr, OnOk, OnErr, Some, Err, ◌≢◌, true, false};
 ghost use Rattle.slate_ids.specs.Answers.{Gives};
 ghost use Rattle.slate_ids.specs.declared.error.SlateDBError.TheVariants.{StoreFault};
-ghost use Rattle.slate_txn.specs.Commit.{is_putting, commit_version};
-ghost use Rattle.slate_txn.specs.Due.{FaultOf, FaultRose, StillDue};
+ghost use Rattle.slate_log.specs.Commit.{is_putting, commit_version};
+ghost use Rattle.slate_log.specs.Due.{FaultOf, FaultRose, StillDue};
 ghost use Rattle.slate_txn.specs.Holder.{at_version};
+ghost use Rattle.slate_txn.specs.Standing.{SameContents, UpdateStands, may_stand};
 ghost use Rattle.slate_txn.specs.Updating.{started, Updates, UpdateSteps, update_of, update_due, update_open, done_of, held_of, done_step, held_by};
 
-use crate::commit::{CommitPhase, prepare};
-use crate::right::Right;
-use crate::rules::Rules;
 use crate::stored::{DirtyObject, Stored};
 use slate_ids::{Millis, ObjectCodec, OutOfMemory, SlateDBError};
+use slate_log::{CommitPhase, Right, Rules, prepare};
 use slate_store::{ObjectStore, Step};
 use std::alloc::Global;
 use std::mem;
@@ -21,6 +20,8 @@ use std::mem;
 pub enum UpdateMachine<T> {
     /// It was refused before its first call, and answers so.
     Refused(SlateDBError),
+    /// There is nothing to commit, and it answers Ok.
+    Nothing,
     /// The commit of the new value.
     Committing(CommitPhase<T>),
 }
@@ -56,7 +57,9 @@ impl<T: Drop, C: ObjectCodec<T> + Drop, R: Rules<T> + Drop> Stored<T, C, R> {
 
     /// Commits a dirty value, in one try. Refused before any call are a dirty number other than the one held
     /// (`TransactionalObjectVersionExists` without a boundary), the last number, what the rules refuse, and a value without
-    /// bytes. After Ok the holder holds what was put, and after a refusal it is unchanged.
+    /// bytes. After Ok the holder holds what was put, and after a refusal it is unchanged. So are the store's contents, except
+    /// that the put may stand where its answer was lost, where the boundary read after it was at or above its number
+    /// (`TransactionalObjectVersionExists` with a boundary), or where the boundary couldn't be read.
     pub fn update<S: ObjectStore>(
         &mut self,
         alloc: Global,
@@ -68,6 +71,10 @@ impl<T: Drop, C: ObjectCodec<T> + Drop, R: Rules<T> + Drop> Stored<T, C, R> {
         ensures update { Updates R.refusal C.encoded moment (S.told store.old) (S.told store.new) self.old dirty right.now result }
         ensures held { OnOk result (self.new ≡ at_version self.old (self.old.id + 1) dirty.value) }
         ensures kept { OnErr result (self.new ≡ self.old) }
+        ensures before { IfErr (started R.refusal C.encoded self.old dirty right.now) (λ e. S.told store.new ≡ S.told store.old) }
+        ensures put { OnOk result (UpdateStands self.old moment (S.told store.old) (S.told store.new) (started R.refusal C.encoded self.old dirty right.now)) }
+        ensures left { IfErr result (λ e. may_stand e ≡ false → SameContents (S.told store.old) (S.told store.new)) }
+        ensures stands { OnErr result (SameContents (S.told store.old) (S.told store.new) ⊎ UpdateStands self.old moment (S.told store.old) (S.told store.new) (started R.refusal C.encoded self.old dirty right.now)) }
         ensures fault { started R.refusal C.encoded self.old dirty right.now ≢ Err StoreFault → FaultOf (S.told store.old) (S.told store.new) result }
     {
         let commit = self.start_commit(alloc, dirty, right)?;
@@ -131,19 +138,21 @@ fn hold_step<T: Drop, C: Drop, R: Drop>(
 }
 
 impl<T: Drop> UpdateMachine<T> {
-    /// Whether a call is due. None is after an end, but for want of memory, nor where the update was refused.
+    /// Whether a call is due. None is after an end, but for want of memory, nor where nothing is committed.
     pub fn due(&self) -> bool
         ensures due { result ≡ update_due self.now }
         ensures open { result ≡ true → update_open self.now ≡ true }
     {
         match self {
             UpdateMachine::Refused(_) => false,
+            UpdateMachine::Nothing => false,
             UpdateMachine::Committing(commit) => commit.due(),
         }
     }
 
-    /// Makes the one call that is due. A refused update makes none and answers its refusal. After Ok the holder holds what
-    /// was put, and else it is unchanged. Want of memory leaves the machine as it was, and any other end leaves none due.
+    /// Makes the one call that is due. A refused update makes none and answers its refusal, and where there is nothing to
+    /// commit it makes none and answers Ok. A conflict ends it. After a commit the holder holds what was put, and else it is
+    /// unchanged. Want of memory leaves the machine as it was, and any other end leaves none due.
     pub fn next<C: Drop, R: Drop, S: ObjectStore>(
         &mut self,
         alloc: Global,
@@ -161,12 +170,11 @@ impl<T: Drop> UpdateMachine<T> {
                 let step = commit.next(alloc, &holder.sequenced, store, moment);
                 hold_step(holder, step)
             }
-            UpdateMachine::Refused(_) => {
-                match mem::replace(self, UpdateMachine::Committing(CommitPhase::Over)) {
-                    UpdateMachine::Refused(e) => Step::Done(Err(e)),
-                    UpdateMachine::Committing(_) => unreachable!(),
-                }
-            }
+            _ => match mem::replace(self, UpdateMachine::Committing(CommitPhase::Over)) {
+                UpdateMachine::Refused(e) => Step::Done(Err(e)),
+                UpdateMachine::Nothing => Step::Done(Ok(())),
+                UpdateMachine::Committing(_) => unreachable!(),
+            },
         }
     }
 }

@@ -1,0 +1,11 @@
+pub mod LogPaths
+pub mod Boundary
+pub mod Due
+pub mod Read
+pub mod Reading
+pub mod Once
+pub mod TryRead
+pub mod Versions
+pub mod Commit
+pub mod Committing
+pub mod Numbers

@@ -1,0 +1,28 @@
+//! The versioned log, over any codec, rules and store: reads, commits and lists of its versions.
+#![tactic(auto)]
+
+mod boundary;
+mod commit;
+mod committing;
+mod log_kind;
+#[cfg(test)]
+mod log_tests;
+#[cfg(test)]
+mod number_logs;
+mod ran_out;
+mod read;
+mod read_latest;
+mod right;
+mod rules;
+mod sequenced;
+mod try_read;
+mod versions;
+
+pub use commit::{CommitPhase, prepare};
+pub use log_kind::LogKind;
+pub use read::ReadPhase;
+pub use right::Right;
+pub use rules::Rules;
+pub use sequenced::Sequenced;
+pub use try_read::TryReadPhase;
+pub use versions::ListPhase;

@@ -1,0 +1,74 @@
+//! Committing what a function makes of the version that a fenced holder holds.
+ghost use Rattle.std.specs.Prelude.{◌≡◌, ◌<◌, ℕ, Option, Result, IfOk, true};
+ghost use Rattle.slate_ids.specs.declared.error.SlateDBError.{SlateDBError as Refusal};
+ghost use Rattle.slate_log.specs.Due.{FaultOf};
+ghost use Rattle.slate_txn.specs.Changing.{Computes};
+ghost use Rattle.slate_txn.specs.Apply.{renewed, Applies, FaultFree};
+ghost use Rattle.slate_txn.specs.FencedApplying.{fenced_made};
+ghost use Rattle.slate_txn.specs.FencedUpdating.{unless};
+ghost use Rattle.slate_txn.specs.Fencing.{held_fence};
+ghost use Rattle.slate_txn.specs.Updating.{maybe_of, update_open};
+
+use crate::fenced::Fenced;
+use crate::fenced_update::FencedUpdateMachine;
+use crate::fencing::fence;
+use crate::update::UpdateMachine;
+use slate_ids::{Epochs, Millis, ObjectCodec, OutOfMemory, SlateDBError};
+use slate_log::{Right, Rules};
+use slate_store::ObjectStore;
+use std::alloc::Global;
+
+impl<T: Drop, C: ObjectCodec<T> + Drop, R: Rules<T> + Drop, E: Epochs<T> + Drop> Fenced<
+    T,
+    C,
+    R,
+    E,
+> {
+    /// Commits what `f` makes of the number and the value held, as a holder without a fence does. Where the epoch of the
+    /// version held, or of one that is read after a conflict, is above the own one, the answer is `Fenced` and nothing is
+    /// committed. The own epoch stays.
+    pub fn maybe_apply<F: Fn(u64, &T) -> Result<Option<T>, SlateDBError>, S: ObjectStore>(
+        &mut self,
+        alloc: Global,
+        store: &mut S,
+        f: F,
+        right: &Right,
+        moment: Millis,
+        tries: u32,
+    ) -> Result<(), SlateDBError>
+        requires callable { F.IsAlwaysCallable f }
+        requires some { 0 < tries }
+        ensures apply { (made : ℕ → T → Result (Option T) Refusal) → Computes (F.post f) made → Applies (record { decoded = C.decoded; encoded = C.encoded; refusal = R.refusal; changed = fenced_made E.epoch self.old.epochs self.old.epoch made; right = right.now }) moment tries (S.told store.old) (S.told store.new) self.old.holder self.new.holder result }
+        ensures own { self.new ≡ record self.old { holder = self.new.holder } }
+        ensures fault { (made : ℕ → T → Result (Option T) Refusal) → Computes (F.post f) made → FaultFree (record { decoded = C.decoded; encoded = C.encoded; refusal = R.refusal; changed = fenced_made E.epoch self.old.epochs self.old.epoch made; right = right.now }) → FaultOf (S.told store.old) (S.told store.new) result }
+    {
+        let own = self.epoch;
+        let epochs = &self.epochs;
+        let change = |_codec: &C, id: u64, value: &T| match fence(own, epochs.get(value)) {
+            Some(e) => Err(e),
+            None => f(id, value),
+        };
+        self.stored
+            .apply(alloc, &change, right, store, moment, tries)
+    }
+
+    /// The machine of one try of that commit. Where the epoch of the version held is above the own one, `f` makes no value of
+    /// it or refuses it, or the commit is refused before its first call, no call is due in it.
+    pub fn start_maybe_apply<F: Fn(u64, &T) -> Result<Option<T>, SlateDBError>>(
+        &self,
+        alloc: Global,
+        f: F,
+        right: &Right,
+    ) -> Result<FencedUpdateMachine<T>, OutOfMemory>
+        requires callable { F.IsAlwaysCallable f }
+        ensures open { IfOk result (λ machine. update_open machine ≡ true) }
+        ensures machine { (made : ℕ → T → Result (Option T) Refusal) → Computes (F.post f) made → IfOk result (λ machine. machine ≡ maybe_of (unless (held_fence E.epoch self.now)
+            (renewed made (R.refusal self.now.holder.rules) (C.encoded self.now.holder.sequenced.codec) right.now self.now.holder.id self.now.holder.object))) }
+    {
+        let update = match self.fence_held() {
+            Some(e) => UpdateMachine::Refused(e),
+            None => self.stored.start_maybe_apply(alloc, f, right)?,
+        };
+        Ok(FencedUpdateMachine::new(update))
+    }
+}
