@@ -62,10 +62,7 @@ pub(crate) fn is_stale(carried: &Carried, call: &Call) -> bool
 }
 
 // Adds an id that nobody brings.
-fn push_named(
-    all: &mut Vec<(CheckpointId, Carrier)>,
-    id: CheckpointId,
-) -> Result<(), OutOfMemory>
+fn push_named(all: &mut Vec<(CheckpointId, Carrier)>, id: CheckpointId) -> Result<(), OutOfMemory>
     ensures { OnOk result (all.new.items ≡ all.old.items ++ ids.only_named id ∷ []) }
 {
     all.push((id, NOBODYS))?;

@@ -169,7 +169,8 @@ pub(crate) fn write_checkpoint(
     }
     let version = version_to_name(n, options.source, manifest)?;
     let mut new = manifest.copy(alloc)?;
-    new.checkpoints.push(new_checkpoint(id, options, now, version))?;
+    new.checkpoints
+        .push(new_checkpoint(id, options, now, version))?;
     Ok(Some(new))
 }
 

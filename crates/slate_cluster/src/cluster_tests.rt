@@ -3,7 +3,9 @@
 use crate::{Cluster, ClusterError, NewError};
 use slate_ids::{CheckpointId, DbPath, ObjectPath, SlateDBError, StateCause};
 use slate_model::{Checkpoint, Manifest, decode_manifest};
-use slate_script::{Call, ClusterCause, DbSpec, Entry, Event, PartyKind, Reply, Script, read_script};
+use slate_script::{
+    Call, ClusterCause, DbSpec, Entry, Event, PartyKind, Reply, Script, read_script,
+};
 use slate_store::Mark;
 use std::alloc::Global;
 use std::process::Abort;
@@ -26,8 +28,7 @@ const FLUSHED: [u8; 113] = [
 ];
 
 // The script of these events on the database `db`.
-fn script(alloc: Global, events: &str) -> Result<Script, Fail>
-{
+fn script(alloc: Global, events: &str) -> Result<Script, Fail> {
     let mut text = String::from_str(alloc, "{\"databases\":[{\"path\":\"db\"}],\"events\":[")?;
     text.push_str(events)?;
     text.push_str("]}")?;
@@ -177,7 +178,9 @@ fn tells_not_initialised(entry: &Entry) -> bool {
 }
 
 #[test]
-fn no_checkpoint_without_source_before_the_database_is_initialised(rt: HostRuntime) -> Result<(), Fail> {
+fn no_checkpoint_without_source_before_the_database_is_initialised(
+    rt: HostRuntime,
+) -> Result<(), Fail> {
     let alloc = rt.alloc();
     let mut manifest = Manifest::initial(alloc);
     manifest.initialized = false;
@@ -186,7 +189,12 @@ fn no_checkpoint_without_source_before_the_database_is_initialised(rt: HostRunti
     cluster.run(alloc, events.as_slice())?;
     assert!(rt; cluster.trail().iter().any(|e| tells_not_initialised(e)));
     let db = DbPath::from_text("db")?.ok_or("no path of a database")?;
-    assert!(rt; cluster.store().object(&ObjectPath::Manifest(db, 2)).is_none());
+    assert!(rt;
+        cluster
+            .store()
+            .object(&ObjectPath::Manifest(db, 2))
+            .is_none()
+    );
     Ok(())
 }
 

@@ -8,7 +8,8 @@ use std::test::Fail;
 // Objects go by path text, databases by their paths: `-` is below `/`.
 #[test]
 fn databases_stand_beside_one_another(rt: HostRuntime) -> Result<(), Fail> {
-    let input = "{\"databases\":[{\"path\":\"a\"},{\"path\":\"a-b\",\"modified\":5,\"checkpoints\":[{\"id\":3,\"expire\":2000,\"name\":\"n\"}]}],\"events\":[{\"open\":1,\"kind\":\"holder\",\"db\":\"a-b\"},{\"start\":1,\"call\":\"write_checkpoint\",\"id\":4,\"source\":3},{\"step\":1,\"at\":3000,\"times\":5}]}";
+    let input =
+        "{\"databases\":[{\"path\":\"a\"},{\"path\":\"a-b\",\"modified\":5,\"checkpoints\":[{\"id\":3,\"expire\":2000,\"name\":\"n\"}]}],\"events\":[{\"open\":1,\"kind\":\"holder\",\"db\":\"a-b\"},{\"start\":1,\"call\":\"write_checkpoint\",\"id\":4,\"source\":3},{\"step\":1,\"at\":3000,\"times\":5}]}";
     let written = [
         "0 open 1\n1 start 1\n",
         "2 call 1 list a-b/manifest/ -> found 1\n",
@@ -72,7 +73,8 @@ fn databases_are_refused(rt: HostRuntime) -> Result<(), Fail> {
 // An id that the opening store carries is fresh no more, whichever database has it.
 #[test]
 fn ids_of_the_opening_store_are_carried(rt: HostRuntime) -> Result<(), Fail> {
-    let input = "{\"databases\":[{\"path\":\"a\",\"checkpoints\":[{\"id\":3}]},{\"path\":\"b\"}],\"events\":[{\"open\":1,\"kind\":\"holder\",\"db\":\"b\"},{\"start\":1,\"call\":\"write_checkpoint\",\"id\":3}]}";
+    let input =
+        "{\"databases\":[{\"path\":\"a\",\"checkpoints\":[{\"id\":3}]},{\"path\":\"b\"}],\"events\":[{\"open\":1,\"kind\":\"holder\",\"db\":\"b\"},{\"start\":1,\"call\":\"write_checkpoint\",\"id\":3}]}";
     let written = [
         "0 open 1\n",
         "commits a manifest 1 compactions 0\ncommits b manifest 1 compactions 0\ndeleted 0\n",

@@ -278,7 +278,11 @@ fn bad_holder_events(rt: HostRuntime) -> Result<(), Fail> {
                 "{\"start\":1,\"call\":\"write_checkpoint\",\"id\":8,\"source\":5}",
                 "{\"start\":1,\"call\":\"write_checkpoint\",\"id\":5}",
             ],
-            &["0 open 1\n1 start 1\n2 idle 1\n", FIRST_STATE, "bad event 3\n"],
+            &[
+                "0 open 1\n1 start 1\n2 idle 1\n",
+                FIRST_STATE,
+                "bad event 3\n",
+            ],
         ),
         (
             &[

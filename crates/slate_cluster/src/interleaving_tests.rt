@@ -279,7 +279,10 @@ fn is_done(entry: &Entry) -> bool {
 
 fn is_fence(reply: &Option<Reply>) -> bool {
     match reply {
-        Some(Reply::Refused(refusal)) => matches!(refusal, SlateDBError::Fenced { own: 1, read: 2 }),
+        Some(Reply::Refused(refusal)) => matches!(
+            refusal,
+            SlateDBError::Fenced { own: 1, read: 2 }
+        ),
         _ => false,
     }
 }

@@ -7,10 +7,10 @@ ghost use Rattle.slate_cluster.specs.Stepped.{is_busy, PartyStepped};
 use crate::party_steps::{Stepped, step_party};
 use crate::phrases::is_due;
 use slate_ids::{Millis, OutOfMemory, SlateDBError, StateCause};
+use slate_log::ReadPhase;
 use slate_protocol::{Facts, Party, Phrase, Position, Purpose, State};
 use slate_script::{Call, Reply};
 use slate_store::{Mark, MemoryStore};
-use slate_log::ReadPhase;
 use std::alloc::Global;
 
 // The facts after a reply: an open that succeeded gives its epoch.

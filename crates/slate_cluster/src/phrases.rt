@@ -7,10 +7,10 @@ ghost use Rattle.slate_protocol.specs.Phrases.{asks, goes, is_due as due_at};
 ghost use Rattle.slate_cluster.specs.Advanced.{ReadSteps, ReadAtEnd, CommitSteps, AtEnd};
 
 use slate_ids::{DbPath, Millis};
+use slate_log::{CommitPhase, LogKind, ReadPhase, Sequenced};
 use slate_model::{FirstManifestCodec, Manifest};
 use slate_protocol::{Ended, Phrase, Position};
 use slate_store::{ObjectStore, Step};
-use slate_log::{CommitPhase, LogKind, ReadPhase, Sequenced};
 use std::alloc::Global;
 
 /// The log of manifests of a database.

@@ -15,7 +15,11 @@ use slate_script::Call;
 use std::alloc::Global;
 
 // The manifest with its writer epoch plus one.
-fn raise_writer(alloc: Global, n: u64, manifest: &Manifest) -> Result<Option<Manifest>, SlateDBError>
+fn raise_writer(
+    alloc: Global,
+    n: u64,
+    manifest: &Manifest,
+) -> Result<Option<Manifest>, SlateDBError>
     ensures { Gives result (raised_writer n manifest.now) }
 {
     let epoch = manifest.writer_epoch;
