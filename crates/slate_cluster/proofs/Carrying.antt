@@ -1,10 +1,14 @@
 -- An entry that was inserted and is removed again leaves the entries as they were.
-use Rattle.std.proofs.Common.{◌≡◌, Bool, true, false, List, [], ◌∷◌, Option, Some, None, is_some, refl, sym, ap, ◌∙◌, cond}
+use Rattle.std.proofs.Common.{◌≡◌, ℕ, Bool, true, false, List, [], ◌∷◌, Option, Some, None, is_some, refl, sym, ap, ◌∙◌, cond}
 use Rattle.std.specs.Map.{lookup, remove_entry}
 use Rattle.std.specs.BTreeMap.{is_at, insert_entry}
 use Rattle.std.specs.Ordering.{is_eq, match_ordering}
 use Rattle.std.specs.declared.cmp.Ordering.{Ordering}
 use Rattle.std.specs.declared.cmp.Ordering.TheVariants.{Less, Equal, Greater}
+use Rattle.std.proofs.lemmas.Map.Text.{is_eq-slice_cmp}
+use Rattle.std.proofs.lemmas.Slice.Eq.{bytes_eq-Decides}
+use Rattle.slate_protocol.specs.Ids.{Carried, id_cmp, is_carried}
+use Rattle.slate_protocol.specs.declared.carrier.Carrier.{Carrier}
 
 module _ {K X : Type 0} (cmp : K → K → Ordering) (k : K) (v : X) (itself : is_eq (cmp k k) ≡ true) where
   pub taken_back : (es : List (K × X)) → is_some (lookup (is_at (cmp k)) es) ≡ false → remove_entry (is_at (cmp k)) (insert_entry cmp es k v) ≡ es
@@ -22,3 +26,7 @@ module _ {K X : Type 0} (cmp : K → K → Ordering) (k : K) (v : X) (itself : i
       step Greater at f =
           let a = absent (is_at (cmp k) e.0) h in
           ap (λ b. cond b (insert_entry cmp es k v) (e ∷ remove_entry (is_at (cmp k)) (insert_entry cmp es k v))) a.0 ∙ ap (λ (xs : List (K × X)). e ∷ xs) (f a.1)
+
+-- the same of an id that was carried
+pub id_taken_back : (id : List ℕ) (carrier : Carrier) (carried : Carried) → is_carried id carried ≡ false → remove_entry (is_at (id_cmp id)) (insert_entry id_cmp carried id carrier) ≡ carried
+id_taken_back id carrier carried h = taken_back id_cmp id carrier (is_eq-slice_cmp id id ∙ (bytes_eq-Decides id id).1 refl) carried h

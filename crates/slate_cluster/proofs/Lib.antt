@@ -4,6 +4,7 @@ pub mod Events
 pub mod Stepping
 pub mod Starting
 pub mod Carrying
+pub mod Openings
 pub mod Reports
 pub mod Outcomes
 pub mod Reached

@@ -1,5 +1,5 @@
 //! The ids of checkpoints that events carried.
-ghost use Rattle.std.specs.Prelude.{◌≡◌, ◌++◌, map, bytes_eq, OnOk, OnErr};
+ghost use Rattle.std.specs.Prelude.{◌≡◌, ◌++◌, ◌∷◌, [], map, bytes_eq, OnOk, OnErr};
 ghost use Rattle.std.specs.List.{list_any};
 ghost use Rattle.slate_protocol.specs.Ids as ids;
 

@@ -97,17 +97,27 @@ fn first_bytes(alloc: Global, manifest: &Manifest) -> Result<Option<ByteList>, O
     }
 }
 
+// Adds the first manifest of a database. False where it has no bytes.
+fn add_first(alloc: Global, firsts: &mut Firsts, spec: &DbSpec) -> Result<bool, OutOfMemory>
+    ensures { IfOk result (λ added. (if added then Some firsts.new.entries else None) ≡ opens.first_added firsts.old.entries spec.now (opens.first_bytes spec.now.manifest)) }
+{
+    match first_bytes(alloc, &spec.manifest)? {
+        None => Ok(false),
+        Some(bytes) => {
+            firsts.insert(ObjectPath::Manifest(spec.path, 1), (bytes, spec.modified))?;
+            Ok(true)
+        }
+    }
+}
+
 // The first manifests by path. None where one has no bytes.
 fn open_firsts(alloc: Global, specs: &[DbSpec]) -> Result<Option<Firsts>, OutOfMemory>
     ensures { IfOk result (λ o. option_map (λ f. f.entries) o ≡ opens.firsts_from [] specs.now) }
 {
     let mut firsts = Firsts::new(alloc);
     for spec in specs {
-        match first_bytes(alloc, &spec.manifest)? {
-            None => return Ok(None),
-            Some(bytes) => {
-                firsts.insert(ObjectPath::Manifest(spec.path, 1), (bytes, spec.modified))?;
-            }
+        if !add_first(alloc, &mut firsts, spec)? {
+            return Ok(None);
         }
     }
     Ok(Some(firsts))

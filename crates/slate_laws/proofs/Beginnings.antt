@@ -18,7 +18,7 @@ use Rattle.slate_log.specs.declared.log_kind.LogKind.TheVariants.{Manifest as Ma
 use Rattle.slate_store.specs.Store.{Store, object_at, stored}
 use Rattle.slate_script.specs.declared.db_spec.DbSpec.{DbSpec}
 use Rattle.slate_protocol.specs.Chains.{bytes_of}
-use Rattle.slate_protocol.specs.Specs.{First, first_tally, tallies_from, first_bytes, firsts_from, listed_or_none, store_from}
+use Rattle.slate_protocol.specs.Specs.{First, first_tally, tallies_from, and_more, first_bytes, first_added, firsts_from, listed_or_none, store_from}
 use Rattle.slate_protocol.specs.World.{db_cmp, tally_of}
 use Rattle.slate_protocol.specs.declared.tally.Tally.{Tally}
 use Rattle.slate_laws.proofs.Stores.{IsTidy, bytes_same, no_bytes, same_name, finds, passes_by, same_found, tidy_put, put_object, at_put, at_else}
@@ -162,7 +162,7 @@ record HasBytes (firsts : Firsts) (spec : DbSpec) (specs : List DbSpec) (all : F
 has_bytes : (firsts : Firsts) (spec : DbSpec) (specs : List DbSpec) (all : Firsts) → firsts_from firsts (spec ∷ specs) ≡ Some all → HasBytes firsts spec specs all
 has_bytes firsts spec specs all h = test (first_bytes spec.manifest) refl h
   where
-    test : (o : Option (List ℕ)) → first_bytes spec.manifest ≡ o → (elim o as (λ _. Option Firsts) [ None ↦ None | Some bytes ↦ firsts_from (insert_entry path_cmp firsts (first_path spec) (bytes, spec.modified)) specs ]) ≡ Some all → HasBytes firsts spec specs all
+    test : (o : Option (List ℕ)) → first_bytes spec.manifest ≡ o → and_more (first_added firsts spec o) (λ (more : Firsts). firsts_from more specs) ≡ Some all → HasBytes firsts spec specs all
     test None is h = absurd cc
     test (Some bytes) is h = record { bytes = bytes; is = is; rest = h }
 

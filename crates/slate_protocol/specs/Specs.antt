@@ -36,14 +36,15 @@ abbrev pub ids_from : Carried → List Checkpoint → Option Carried
 ids_from carried [] = Some carried
 ids_from carried (c ∷ cs) = if is_carried c.id carried then None else ids_from (insert_entry id_cmp carried c.id nobodys) cs
 
-abbrev pub and_ids : Option Carried → (Carried → Option Carried) → Option Carried
-and_ids None f = None
-and_ids (Some carried) f = f carried
+-- what there is, and more, where there is something
+abbrev pub and_more : {X : Type 0} → Option X → (X → Option X) → Option X
+and_more None f = None
+and_more (Some x) f = f x
 
 -- the ids of all checkpoints: none where one comes twice
 abbrev pub carried_from : Carried → List DbSpec → Option Carried
 carried_from carried [] = Some carried
-carried_from carried (spec ∷ specs) = and_ids (ids_from carried spec.manifest.checkpoints) (λ more. carried_from more specs)
+carried_from carried (spec ∷ specs) = and_more (ids_from carried spec.manifest.checkpoints) (λ more. carried_from more specs)
 
 -- ---- values
 
@@ -59,10 +60,15 @@ first_bytes m = bytes_where (is_normal m) (encoded m)
 abbrev pub First : Type 0
 First = List ℕ × ℤ
 
+-- a first manifest at its path, where it has bytes
+abbrev pub first_added : List (ObjectPath × First) → DbSpec → Option (List ℕ) → Option (List (ObjectPath × First))
+first_added firsts spec None = None
+first_added firsts spec (Some bytes) = Some (insert_entry path_cmp firsts (paths.Manifest spec.path 1) (bytes, spec.modified))
+
 -- the first manifests by path, beside those that are there: none where one has no bytes
 abbrev pub firsts_from : List (ObjectPath × First) → List DbSpec → Option (List (ObjectPath × First))
 firsts_from firsts [] = Some firsts
-firsts_from firsts (spec ∷ specs) = elim (first_bytes spec.manifest) [ None ↦ None | Some bytes ↦ firsts_from (insert_entry path_cmp firsts (paths.Manifest spec.path 1) (bytes, spec.modified)) specs ]
+firsts_from firsts (spec ∷ specs) = and_more (first_added firsts spec (first_bytes spec.manifest)) (λ more. firsts_from more specs)
 
 -- ---- checkpoints
 
