@@ -2,7 +2,6 @@ pub mod Around
 pub mod NeverMemory
 pub mod Events
 pub mod Stepping
-pub mod Starting
 pub mod Carrying
 pub mod Openings
 pub mod Reports
