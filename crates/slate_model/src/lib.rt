@@ -2,6 +2,8 @@
 #![tactic(auto)]
 
 mod checkpoint;
+#[cfg(test)]
+mod checkpoint_tests;
 mod codec;
 mod encodable;
 mod epochs;
