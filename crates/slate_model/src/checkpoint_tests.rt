@@ -1,8 +1,8 @@
 //! Checkpoints in a manifest: their bytes, their normal form, copies and searches.
 
 use crate::{
-    Checkpoint, CheckpointOptions, FirstManifestCodec, Manifest, copy_name, find_checkpoint,
-    is_named, is_normal, normal_form, unencodable,
+    Checkpoint, CheckpointOptions, FirstManifestCodec, Manifest, find_checkpoint, is_named,
+    is_normal, normal_form, unencodable,
 };
 use slate_ids::{
     CheckpointId, FieldName, FormatName, Millis, ObjectCodec, OutOfMemory, SlateDBError, Text,
@@ -19,6 +19,9 @@ const WITH_TWO: [u8; 167] = [
     0, 0, 0, 0, 0, 0, 0, 0, 0, 0, 0, 0, 0, 0, 0, 9, 0, 0, 0, 0, 0, 0, 0, 4, 0, 0, 0, 0, 0, 0, 0, 0,
     0, 0, 0, 0, 0, 0, 0, 0, 0, 0,
 ];
+
+/// The last moment that has a second of 32 bits.
+const LAST: Millis = 4_294_967_295_999;
 
 fn with_two(alloc: Global) -> Result<Manifest, SlateDBError> {
     let mut manifest = Manifest::initial(alloc);
@@ -77,29 +80,51 @@ fn is_corrupt(alloc: Global, bytes: &[u8]) -> bool {
     )
 }
 
+/// The version and the moments of the checkpoint at a place.
+fn numbers_at(manifest: &Manifest, i: usize) -> Option<(u64, Option<Millis>, Millis)> {
+    match manifest.checkpoints.as_slice().get(i) {
+        Some(c) => Some((c.manifest_id, c.expire_time, c.create_time)),
+        None => None,
+    }
+}
+
+/// Whether the checkpoint of an id has a name, none for `""`.
+fn is_called(manifest: &Manifest, id: u64, text: &str) -> bool {
+    match find_checkpoint(manifest.checkpoints.as_slice(), &CheckpointId::from_u64(id)) {
+        Some(found) => match &found.name {
+            Some(name) => name.as_str() == text,
+            None => text.is_empty(),
+        },
+        None => false,
+    }
+}
+
 #[test]
-fn writes_and_reads_checkpoints(rt: HostRuntime) -> Result<(), SlateDBError> {
-    let manifest = with_two(rt.alloc())?;
-    let bytes = FirstManifestCodec.encode(rt.alloc(), &manifest)?;
+fn writes_checkpoints(rt: HostRuntime) -> Result<(), SlateDBError> {
+    let bytes = FirstManifestCodec.encode(rt.alloc(), &with_two(rt.alloc())?)?;
     assert!(rt; bytes.as_slice() == WITH_TWO.as_slice());
-    let read = FirstManifestCodec.decode(rt.alloc(), bytes.as_slice())?;
-    assert!(rt; read.checkpoints.as_slice().len() == 2);
-    let first = &read.checkpoints.as_slice()[0];
-    assert!(rt; first.id == CheckpointId::from_u64(258) && first.manifest_id == 3);
-    assert!(rt; first.expire_time == Some(258_000) && first.create_time == 7_000);
-    assert!(rt; matches!(&first.name, Some(name) if name.as_str() == "é"));
-    let second = &read.checkpoints.as_slice()[1];
-    assert!(rt; second.id == CheckpointId::from_u64(9) && second.manifest_id == 4);
-    assert!(rt; second.expire_time == None && second.create_time == 0);
-    assert!(rt; second.name.is_none());
     Ok(())
 }
 
 #[test]
-fn refuses_other_checkpoints(rt: HostRuntime) {
+fn reads_checkpoints(rt: HostRuntime) -> Result<(), SlateDBError> {
+    let read = FirstManifestCodec.decode(rt.alloc(), &WITH_TWO)?;
+    assert!(rt; numbers_at(&read, 0) == Some((3, Some(258_000), 7_000)));
+    assert!(rt; numbers_at(&read, 1) == Some((4, None, 0)));
+    assert!(rt; numbers_at(&read, 2) == None);
+    assert!(rt; is_called(&read, 258, "é") && is_called(&read, 9, "") && !is_called(&read, 3, ""));
+    Ok(())
+}
+
+#[test]
+fn refuses_short_checkpoints(rt: HostRuntime) {
     for length in 0..167 {
         assert!(rt; is_corrupt(rt.alloc(), &WITH_TWO[..length]));
     }
+}
+
+#[test]
+fn refuses_other_checkpoints(rt: HostRuntime) {
     let others = [
         (84, 3),
         (84, 1),
@@ -114,28 +139,39 @@ fn refuses_other_checkpoints(rt: HostRuntime) {
         other[place] = byte;
         assert!(rt; is_corrupt(rt.alloc(), &other));
     }
-    let mut never = WITH_TWO;
-    never[112] = 0;
-    never[113] = 0;
-    assert!(rt; is_corrupt(rt.alloc(), &never));
+}
+
+#[test]
+fn refuses_the_second_0(rt: HostRuntime) {
+    let mut other = WITH_TWO;
+    other[112] = 0;
+    other[113] = 0;
+    assert!(rt; is_corrupt(rt.alloc(), &other));
 }
 
 #[test]
 fn refuses_moments_without_a_second(rt: HostRuntime) -> Result<(), SlateDBError> {
-    let last = 4_294_967_295_999;
-    assert!(rt; refused(rt.alloc(), &[(None, 0), (Some(999), 0)])? == Some(FieldName::ExpireTime));
-    assert!(rt; refused(rt.alloc(), &[(Some(-1), 0)])? == Some(FieldName::ExpireTime));
-    assert!(rt; refused(rt.alloc(), &[(Some(last + 1), 0)])? == Some(FieldName::ExpireTime));
-    assert!(rt; refused(rt.alloc(), &[(None, -1)])? == Some(FieldName::CreateTime));
-    assert!(rt; refused(rt.alloc(), &[(None, last + 1)])? == Some(FieldName::CreateTime));
-    assert!(rt; refused(rt.alloc(), &[(None, -1), (Some(999), 0)])? == Some(FieldName::ExpireTime));
-    let manifest = with_moments(rt.alloc(), &[(Some(1999), 999), (Some(last), last)])?;
-    assert!(rt; unencodable(&manifest) == None);
+    let refusals = [
+        (Some(999), 0, FieldName::ExpireTime),
+        (Some(-1), 0, FieldName::ExpireTime),
+        (Some(LAST + 1), -1, FieldName::ExpireTime),
+        (None, -1, FieldName::CreateTime),
+        (Some(LAST), LAST + 1, FieldName::CreateTime),
+    ];
+    for (expire_time, create_time, field) in refusals {
+        let moments = [(None, 0), (expire_time, create_time)];
+        assert!(rt; refused(rt.alloc(), moments.as_slice())? == Some(field));
+    }
+    Ok(())
+}
+
+#[test]
+fn reads_whole_seconds(rt: HostRuntime) -> Result<(), SlateDBError> {
+    let manifest = with_moments(rt.alloc(), &[(Some(1999), 999), (Some(LAST), LAST)])?;
     let bytes = FirstManifestCodec.encode(rt.alloc(), &manifest)?;
     let read = FirstManifestCodec.decode(rt.alloc(), bytes.as_slice())?;
-    let checkpoints = read.checkpoints.as_slice();
-    assert!(rt; checkpoints[0].expire_time == Some(1000) && checkpoints[0].create_time == 0);
-    assert!(rt; checkpoints[1].expire_time == Some(4_294_967_295_000));
+    assert!(rt; numbers_at(&read, 0) == Some((1, Some(1000), 0)));
+    assert!(rt; numbers_at(&read, 1) == Some((1, Some(LAST - 999), LAST - 999)));
     Ok(())
 }
 
@@ -144,27 +180,24 @@ fn cuts_moments_down(rt: HostRuntime) -> Result<(), SlateDBError> {
     let manifest = with_two(rt.alloc())?;
     assert!(rt; !is_normal(&manifest));
     let normal = normal_form(rt.alloc(), &manifest)?;
-    assert!(rt; is_normal(&normal));
-    let first = &normal.checkpoints.as_slice()[0];
-    assert!(rt; first.expire_time == Some(258_000) && first.create_time == 7_000);
-    let bytes = FirstManifestCodec.encode(rt.alloc(), &normal)?;
-    assert!(rt; bytes.as_slice() == WITH_TWO.as_slice());
-    let early = with_moments(rt.alloc(), &[(Some(-1), 0)])?;
-    assert!(rt; is_normal(&early));
+    assert!(rt; is_normal(&normal) && is_called(&normal, 258, "é"));
+    assert!(rt; numbers_at(&normal, 0) == Some((3, Some(258_000), 7_000)));
     Ok(())
 }
 
 #[test]
-fn copies_and_finds_checkpoints(rt: HostRuntime) -> Result<(), SlateDBError> {
+fn copies_checkpoints(rt: HostRuntime) -> Result<(), SlateDBError> {
     let manifest = FirstManifestCodec.copy(rt.alloc(), &with_two(rt.alloc())?)?;
+    assert!(rt; numbers_at(&manifest, 0) == Some((3, Some(258_999), 7_001)));
+    assert!(rt; is_called(&manifest, 258, "é"));
+    Ok(())
+}
+
+#[test]
+fn knows_the_versions_named(rt: HostRuntime) -> Result<(), SlateDBError> {
+    let manifest = with_two(rt.alloc())?;
     let checkpoints = manifest.checkpoints.as_slice();
     assert!(rt; is_named(3, checkpoints) && is_named(4, checkpoints) && !is_named(9, checkpoints));
-    let id = CheckpointId::from_u64(258);
-    let found = find_checkpoint(checkpoints, &id).ok_or(OutOfMemory)?;
-    assert!(rt; found.manifest_id == 3 && found.expire_time == Some(258_999));
-    let name = copy_name(rt.alloc(), &found.copy(rt.alloc())?.name)?;
-    assert!(rt; matches!(&name, Some(name) if name.as_str() == "é"));
-    assert!(rt; find_checkpoint(checkpoints, &CheckpointId::from_u64(3)).is_none());
     Ok(())
 }
 
