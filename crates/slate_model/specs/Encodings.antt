@@ -1,5 +1,5 @@
 -- A manifest that has bytes: each field is of its type, and none is unencodable.
-use Rattle.std.specs.Prelude.{◌≡◌, ℕ, ℤ, pos, negsuc, ◌<◌, ◌^◌, ◌/◌, ◌&&◌, nat_lt, Bool, true, false, List, [], ◌∷◌, length, Option, Some, None, Result, Ok, Err, if◌then◌else◌, refl}
+use Rattle.std.specs.Prelude.{◌≡◌, ℕ, ℤ, pos, negsuc, ◌<◌, ◌^◌, ◌/◌, ◌&&◌, nat_lt, Bool, true, false, not, List, [], ◌∷◌, length, Option, Some, None, Result, Ok, Err, if◌then◌else◌, refl}
 use Rattle.std.proofs.Common.{ap, ◌∙◌, arith}
 use Rattle.std.specs.List.{list_all}
 use Rattle.std.specs.Str.{is_utf8}
@@ -106,7 +106,7 @@ pub record Fits (m : Manifest) : Type 0 where
   pub floor : is_u64 m.floor ≡ true
 
 first_field : Bool → Bool → Bool → Option FieldName
-first_field a b c = if a then (if b then (if c then None else Some Length) else Some CreateTime) else Some ExpireTime
+first_field a b c = if not a then Some ExpireTime else if not b then Some CreateTime else if not c then Some Length else None
 
 no_field : (a b c : Bool) → first_field a b c ≡ None → (a ≡ true) × (b ≡ true) × (c ≡ true)
 unfolding first_field
