@@ -1,5 +1,3 @@
 pub mod Fronts
-pub mod Trackers
-pub mod Parts
 pub mod Items
-pub mod Found
+pub mod Trackers

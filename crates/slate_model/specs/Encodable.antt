@@ -1,5 +1,5 @@
 -- What of a manifest has no bytes.
-use Rattle.std.specs.Prelude.{ℕ, ℤ, pos, negsuc, ◌/◌, ◌^◌, nat_lt, ◌&&◌, Bool, true, false, List, length, Option, Some, None, if◌then◌else◌}
+use Rattle.std.specs.Prelude.{ℕ, ℤ, pos, negsuc, ◌/◌, ◌^◌, nat_lt, ◌&&◌, Bool, true, false, not, length, Option, Some, None, if◌then◌else◌}
 use Rattle.std.specs.List.{list_all}
 use Rattle.slate_ids.specs.declared.error.FieldName.{FieldName}
 use Rattle.slate_ids.specs.declared.error.FieldName.TheVariants.{ExpireTime, CreateTime, Length}
@@ -45,8 +45,7 @@ has_length c = none_or (λ name. is_u32 (length name)) c.name
 -- the first field without bytes: an expiry, a creation, then a length of 2^32 or more
 abbrev pub unencodable : Manifest → Option FieldName
 unencodable m =
-    if list_all has_expiry m.checkpoints then
-    if list_all has_creation m.checkpoints then
-    if is_u32 (length m.checkpoints) && list_all has_length m.checkpoints then None else Some Length
-    else Some CreateTime
-    else Some ExpireTime
+    if not (list_all has_expiry m.checkpoints) then Some ExpireTime
+    else if not (list_all has_creation m.checkpoints) then Some CreateTime
+    else if not (is_u32 (length m.checkpoints) && list_all has_length m.checkpoints) then Some Length
+    else None

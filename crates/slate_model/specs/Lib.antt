@@ -9,6 +9,10 @@ pub mod Decoding
 pub mod Codec
 pub mod Normals
 pub mod Readings
+pub mod TrackerParts
+pub mod Encodings
+pub mod ManifestParts
+pub mod Kept
 pub mod Laws
 pub mod Epochs
 pub mod Checkpoints

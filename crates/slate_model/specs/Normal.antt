@@ -1,5 +1,5 @@
 -- What is read back of a manifest.
-use Rattle.std.specs.Prelude.{ℕ, ℤ, pos, negsuc, ◌/◌, ◌*◌, ◌%◌, ◌==◌, ◌&&◌, Bool, true, map}
+use Rattle.std.specs.Prelude.{ℤ, pos, negsuc, ◌/◌, ◌*◌, ◌%◌, ◌==◌, ◌&&◌, Bool, true, map}
 use Rattle.std.specs.Option.{option_map}
 use Rattle.std.specs.List.{list_all}
 use Rattle.slate_model.specs.Encodable.{none_or}

@@ -2,9 +2,12 @@
 #![tactic(auto)]
 
 mod checkpoint;
+#[cfg(test)]
+mod checkpoint_tests;
 mod codec;
 mod encodable;
 mod epochs;
+mod laws;
 mod manifest;
 mod normal;
 mod put;
@@ -21,6 +24,7 @@ pub use checkpoint::{Checkpoint, CheckpointOptions, copy_name, find_checkpoint, 
 pub use codec::FirstManifestCodec;
 pub use encodable::unencodable;
 pub use epochs::WriterEpochs;
+pub use laws::normal_laws;
 pub use manifest::Manifest;
 pub use normal::{is_normal, normal_form};
 pub use read::decode_manifest;

@@ -46,8 +46,9 @@ pub fn refusal_of_update(old_id: u64, old: &Manifest, new: &Manifest) -> Option<
 #[cfg(test)]
 mod tests {
     use super::refusal_of_update;
+    use crate::checkpoint::Checkpoint;
     use crate::manifest::Manifest;
-    use slate_ids::UpdateRule;
+    use slate_ids::{CheckpointId, OutOfMemory, UpdateRule};
     use std::alloc::Global;
 
     fn numbered(alloc: Global, writer: u64, compactor: u64, floor: u64) -> Manifest {
@@ -72,5 +73,39 @@ mod tests {
         );
         assert!(rt; refusal_of_update(1, &old, &old) == None);
         assert!(rt; refusal_of_update(1, &old, &numbered(rt.alloc(), 3, 4, 5)) == None);
+    }
+
+    fn naming(alloc: Global, floor: u64, versions: &[u64]) -> Result<Manifest, OutOfMemory> {
+        let mut manifest = numbered(alloc, 0, 0, floor);
+        for version in versions {
+            manifest.checkpoints.push(Checkpoint {
+                id: CheckpointId::from_u64(*version),
+                manifest_id: *version,
+                expire_time: None,
+                create_time: 0,
+                name: None,
+            })?;
+        }
+        Ok(manifest)
+    }
+
+    #[test]
+    fn checkpoints_name_known_versions(rt: HostRuntime) -> Result<(), OutOfMemory> {
+        let old = naming(rt.alloc(), 4, &[3, 5])?;
+        let lawful = [[8, 8], [3, 5], [5, 8], [3, 3]];
+        for versions in lawful {
+            let new = naming(rt.alloc(), 4, versions.as_slice())?;
+            assert!(rt; refusal_of_update(7, &old, &new) == None);
+        }
+        let unlawful = [[8, 7], [7, 7], [3, 4], [9, 9], [0, 8]];
+        for versions in unlawful {
+            let new = naming(rt.alloc(), 4, versions.as_slice())?;
+            assert!(rt; refusal_of_update(7, &old, &new) == Some(UpdateRule::U2));
+            let fallen = naming(rt.alloc(), 3, versions.as_slice())?;
+            assert!(rt; refusal_of_update(7, &old, &fallen) == Some(UpdateRule::U1));
+        }
+        let first = naming(rt.alloc(), 4, &[0])?;
+        assert!(rt; refusal_of_update(u64::MAX, &old, &first) == Some(UpdateRule::U2));
+        Ok(())
     }
 }

@@ -1,4 +1,4 @@
-use Rattle.std.proofs.Common.{◌≡◌, Some, rules, ap, sym, ◌∙◌}
+use Rattle.std.proofs.Common.{◌≡◌, Some, ◌∙◌}
 use Rattle.slate_model.specs.Decoding.{checkpoint_in}
 use Rattle.slate_model.proofs.Items.{read_more}
 use Rattle.slate_model.proofs.read_checkpoint.read_items.Goals as goal

@@ -1,5 +1,4 @@
-use Rattle.std.proofs.Common.{◌≡◌, ℕ, List, length, rules}
-use Rattle.slate_model.specs.Parts.{AreBytes}
+use Rattle.std.proofs.Common.{rules}
 use Rattle.slate_model.specs.Readings.{id_fits}
 use Rattle.slate_model.proofs.write_checkpoint.put_id.Goals as goal
 
