@@ -1,5 +1,5 @@
 -- Reading the items of an array one after the other.
-use Rattle.std.proofs.Common.{◌≡◌, ℕ, List, [], ◌∷◌, ◌++◌, Option, Some, None, refl, ap, append_assoc}
+use Rattle.std.proofs.Common.{List, ◌++◌, Option, Some}
 use Rattle.slate_script.specs.Fields.{◌>>=◌}
 
 -- what was read before, and what is still read

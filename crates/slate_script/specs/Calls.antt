@@ -1,7 +1,7 @@
 -- The call that an item with `start` stands for, by its name.
-use Rattle.std.specs.Prelude.{ℕ, pos, List, [], ◌∷◌, Option, Some, None, codes, ⊤}
+use Rattle.std.specs.Prelude.{pos, [], ◌∷◌, Option, Some, None, codes, ⊤}
 use Rattle.serde_json.specs.Data.{Data, Items, no_items, item}
-use Rattle.serde_json.specs.Find.{as_array, as_str}
+use Rattle.serde_json.specs.Find.{as_str}
 use Rattle.slate_script.specs.Fields.{◌>>=◌, only, required, optional, array_in, u64_in, checkpoint_id_in}
 use Rattle.slate_script.specs.Words.{name_in}
 use Rattle.slate_script.specs.declared.call.Call.{Call}

@@ -1,5 +1,5 @@
 -- The events that an item of a script stands for.
-use Rattle.std.specs.Prelude.{ℕ, ◌&&◌, ℤ, nat_le, Bool, List, [], ◌∷◌, replicate, Option, Some, None, is_some, codes, if◌then◌else◌}
+use Rattle.std.specs.Prelude.{ℕ, ◌&&◌, nat_le, Bool, List, [], ◌∷◌, replicate, Option, Some, None, is_some, codes, if◌then◌else◌}
 use Rattle.serde_json.specs.Data.{Data}
 use Rattle.serde_json.specs.Find.{get}
 use Rattle.slate_store.specs.declared.mark.Mark.TheVariants.{Good}

@@ -1,5 +1,5 @@
 -- The lines of a report, as bytes.
-use Rattle.std.specs.Prelude.{ℕ, ◌+◌, ℤ, List, [], ◌∷◌, ◌++◌, length, Option, Some, None, codes, decimal}
+use Rattle.std.specs.Prelude.{ℕ, ◌+◌, List, [], ◌∷◌, ◌++◌, length, Option, Some, None, codes, decimal}
 use Rattle.std.specs.Fmt.{signed_decimal}
 use Rattle.uuid.specs.Text.{hyphenated_text, lower}
 use Rattle.slate_ids.specs.Codes.{code_of}

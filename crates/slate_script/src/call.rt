@@ -18,15 +18,17 @@ pub enum Call {
         seq: u64,
         tick: Millis,
     },
-    /// Reads the latest manifest and commits it with this new checkpoint, which names the version of its source, or the
-    /// version that is committed where there is no source. The reply is the checkpoint.
+    /// Reads the latest manifest and commits it with this new checkpoint at the end, which names the version of its source,
+    /// or the version that is committed where there is no source. Where the id is there already, nothing is committed.
+    /// Refused with `CheckpointMissing` where the source is not there, and with `InvalidDBState` where there is no source and
+    /// the database is not ready for use. The reply is the checkpoint.
     WriteCheckpoint {
         id: CheckpointId,
         lifetime: Option<u64>,
         source: Option<CheckpointId>,
         name: Option<Text>,
     },
-    /// As `WriteCheckpoint`; the same commit removes the checkpoint `old`. The reply is the new checkpoint.
+    /// As `WriteCheckpoint`; the same commit takes away the checkpoint `old`, where it is there.
     ReplaceCheckpoint {
         old: CheckpointId,
         id: CheckpointId,
@@ -34,13 +36,14 @@ pub enum Call {
         source: Option<CheckpointId>,
         name: Option<Text>,
     },
-    /// Reads the latest manifest and commits it with a new moment of expiry of this checkpoint. The reply is the
-    /// checkpoint.
+    /// Reads the latest manifest and commits it with a new moment of expiry of this checkpoint. Refused with
+    /// `CheckpointMissing` where it is not there. The reply is the checkpoint.
     RefreshCheckpoint {
         id: CheckpointId,
         lifetime: Option<u64>,
     },
-    /// Reads the latest manifest and commits it without this checkpoint. The reply is `done`.
+    /// Reads the latest manifest and commits it without this checkpoint. Where it is not there, nothing is committed. The
+    /// reply is `done`.
     DeleteCheckpoint {
         id: CheckpointId,
     },
