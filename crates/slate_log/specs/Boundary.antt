@@ -24,11 +24,13 @@ abbrev pub boundary_got : Option StoredObject → Option ℕ
 boundary_got None = Some 0
 boundary_got (Some object) = boundary_of object.bytes
 
+-- the greater of two numbers, of which each may be absent
 abbrev pub greater : Option ℕ → Option ℕ → Option ℕ
 greater None n = n
 greater (Some m) None = Some m
 greater (Some m) (Some n) = Some (max m n)
 
+-- the greatest of the best so far and the numbers of a list
 abbrev pub greatest_from : LogKind → Option ℕ → List ObjectMetadata → Option ℕ
 greatest_from log best [] = best
 greatest_from log best (m ∷ ms) = greatest_from log (greater best (number_of log m.location)) ms

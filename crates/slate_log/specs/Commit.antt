@@ -17,10 +17,12 @@ use Rattle.slate_log.specs.declared.commit.CommitPhase.{CommitPhase}
 use Rattle.slate_log.specs.declared.commit.CommitPhase.TheVariants.{Putting, Bounding, Over}
 use Rattle.slate_log.specs.declared.right.Right.{Right}
 
+-- the put of the bytes, where the value has some
 abbrev pub encoded_commit : {T : Type 0} → ℕ → T → Result (List ℕ) SlateDBError → Result (CommitPhase T) SlateDBError
 encoded_commit number value (Ok bytes) = Ok (Putting number bytes value)
 encoded_commit number value (Err e) = Err e
 
+-- and before it the rules
 abbrev pub checked_commit : {T : Type 0} → Option SlateDBError → ℕ → T → Result (List ℕ) SlateDBError → Result (CommitPhase T) SlateDBError
 checked_commit (Some e) number value bytes = Err e
 checked_commit None number value bytes = encoded_commit number value bytes
@@ -36,6 +38,7 @@ commit_asks db log (Putting n bytes value) = PutNew (version_path log db n) byte
 commit_asks db log (Bounding n value) = Get (boundary_path log db)
 commit_asks db log Over = Get (boundary_path log db)
 
+-- how a commit goes on
 abbrev pub CommitGoes : Type 0 → Type 0
 CommitGoes T = Goes (CommitPhase T) (ℕ × T)
 

@@ -6,9 +6,11 @@ use Rattle.slate_ids.specs.declared.error.SlateDBError.TheVariants.{Corrupt, Upd
 use Rattle.slate_ids.specs.declared.error.FormatName.TheVariants.{Info}
 use Rattle.slate_ids.specs.declared.error.UpdateRule.TheVariants.{U1}
 
+-- two bytes
 abbrev pub encoded : ℕ × ℕ → Result (List ℕ) SlateDBError
 encoded v = if nat_lt v.0 256 && nat_lt v.1 256 then Ok (v.0 ∷ v.1 ∷ []) else Err (Corrupt Info)
 
+-- and back
 abbrev pub decoded : List ℕ → Result (ℕ × ℕ) SlateDBError
 decoded (a ∷ b ∷ []) = Ok (a, b)
 decoded _ = Err (Corrupt Info)

@@ -24,6 +24,7 @@ read_asks db log (Getting n) = Get (version_path log db n)
 read_asks db log (Bounding n value) = Get (boundary_path log db)
 read_asks db log Over = ListCall (folder log db)
 
+-- how a read goes on
 abbrev pub Reply : Type 0 → Type 0
 Reply T = Goes (ReadPhase T) (Option (ℕ × T))
 
@@ -32,6 +33,7 @@ abbrev pub listed_goes : {T : Type 0} → Option ℕ → Reply T
 listed_goes None = End Over (Ok None)
 listed_goes (Some n) = Stay (Getting n)
 
+-- after the codec: its refusal ends the read
 abbrev pub decoded_goes : {T : Type 0} → ℕ → Result T SlateDBError → Reply T
 decoded_goes n (Ok value) = Stay (Bounding n value)
 decoded_goes n (Err e) = End Over (Err e)
@@ -45,6 +47,7 @@ got_goes decoded n (Some object) = decoded_goes n (decoded object.bytes)
 abbrev pub above_goes : {T : Type 0} → ℕ → T → ℕ → Reply T
 above_goes n value boundary = if nat_le n boundary then Stay Listing else End Over (Ok (Some (n, value)))
 
+-- a boundary that is none ends the read
 abbrev pub boundary_goes : {T : Type 0} → ℕ → T → Option ℕ → Reply T
 boundary_goes n value None = End Over (Err (Corrupt BoundaryFormat))
 boundary_goes n value (Some boundary) = above_goes n value boundary
@@ -63,6 +66,7 @@ read_due (Getting n) = true
 read_due (Bounding n value) = true
 read_due Over = false
 
+-- whether the versions are to be listed
 abbrev pub is_listing : {T : Type 0} → ReadPhase T → Bool
 is_listing Listing = true
 is_listing (Getting n) = false

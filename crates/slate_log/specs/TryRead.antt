@@ -13,10 +13,12 @@ use Rattle.slate_log.specs.declared.log_kind.LogKind.{LogKind}
 use Rattle.slate_log.specs.declared.try_read.TryReadPhase.{TryReadPhase}
 use Rattle.slate_log.specs.declared.try_read.TryReadPhase.TheVariants.{Getting, Over}
 
+-- a value, where it is not refused
 abbrev pub some_value : {T : Type 0} → Result T SlateDBError → Result (Option T) SlateDBError
 some_value (Ok value) = Ok (Some value)
 some_value (Err e) = Err e
 
+-- the value of the object that was got
 abbrev pub value_got : {T : Type 0} → (List ℕ → Result T SlateDBError) → Option StoredObject → Result (Option T) SlateDBError
 value_got decoded None = Ok None
 value_got decoded (Some object) = some_value (decoded object.bytes)

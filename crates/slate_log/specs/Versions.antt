@@ -35,6 +35,7 @@ abbrev pub kept_with : NumberRange → List Version → ObjectMetadata → Optio
 kept_with r kept m None = kept
 kept_with r kept m (Some n) = if is_within r n then put_in (n, m) kept else kept
 
+-- those of a list, put in among the ones kept so far
 abbrev pub versions_from : LogKind → NumberRange → List Version → List ObjectMetadata → List Version
 versions_from log r kept [] = kept
 versions_from log r kept (m ∷ ms) = versions_from log r (kept_with r kept m (number_of log m.location)) ms
@@ -72,6 +73,7 @@ abbrev pub AtMostAll : ℕ → List Version → Type 0
 AtMostAll n [] = Unit {0}
 AtMostAll n (w ∷ ws) = (n ≤ w.0) × AtMostAll n ws
 
+-- the numbers ascend
 abbrev pub Ascending : List Version → Type 0
 Ascending [] = Unit {0}
 Ascending (w ∷ ws) = AtMostAll w.0 ws × Ascending ws

@@ -1,14 +1,14 @@
 -- From a refresh to one of a fenced holder.
 use Rattle.std.proofs.Common.{◌≡◌, ◌≢◌, ℤ, ℕ, Bool, true, false, List, Option, Some, None, Result, Ok, Err, if◌then◌else◌, inl, inr, ap, sym, subst, ◌∙◌, refl}
 use Rattle.std.specs.Prelude.{nat_lt}
-use Rattle.slate_ids.specs.Answers.{refused, ran_out}
+use Rattle.slate_ids.specs.Answers.{refused}
 use Rattle.slate_ids.specs.declared.error.SlateDBError.{SlateDBError}
 use Rattle.slate_ids.specs.declared.error.SlateDBError.TheVariants.{Fenced, StoreFault}
 use Rattle.slate_store.specs.Calls.{Told}
 use Rattle.slate_store.specs.Machines.{Steps}
 use Rattle.slate_store.specs.declared.step.Step.{Step}
 use Rattle.slate_store.specs.declared.step.Step.TheVariants.{Again, Done}
-use Rattle.slate_log.specs.Due.{FaultOf, FaultRose, NoFault}
+use Rattle.slate_log.specs.Due.{FaultOf, FaultRose}
 use Rattle.slate_log.specs.declared.read.ReadPhase.{ReadPhase}
 use Rattle.slate_txn.specs.FencedHolder.{FencedHolder, state_within}
 use Rattle.slate_txn.specs.FencedRefreshing.{FencedRefreshed, fence_after, fence_after_step, fence_within, fenced_refresh_goes}

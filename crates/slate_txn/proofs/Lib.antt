@@ -8,3 +8,4 @@ pub mod Fences
 pub mod Refreshes
 pub mod FencedRefreshes
 pub mod FencedUpdates
+pub mod FencedApplies

@@ -1,12 +1,12 @@
 -- What a commit that ran leaves in the store.
-use Rattle.std.specs.Prelude.{◌≡◌, ◌||◌, ◌+◌, ◌-◌, ◌^◌, ◌==◌, ◌&&◌, not, nat_lt, nat_le, ℤ, ℕ, Bool, true, false, List, [], ◌∷◌, Option, Some, None, Result, Ok, Err, OnOk, OnErr, IfErr, if◌then◌else◌, refl}
+use Rattle.std.specs.Prelude.{◌≡◌, ◌||◌, ◌&&◌, not, nat_lt, nat_le, ℤ, ℕ, Bool, true, false, List, [], ◌∷◌, Option, Some, None, Result, Ok, Err, OnOk, OnErr, IfErr, if◌then◌else◌, refl}
 use Rattle.std.proofs.Common.{◌⊎◌, inl, inr, ap, sym, subst, ◌∙◌, arith}
-use Rattle.slate_ids.specs.Answers.{Gives, OrMemory, ran_out, is_memory}
+use Rattle.slate_ids.specs.Answers.{Gives, OrMemory, ran_out}
 use Rattle.slate_ids.specs.declared.error.SlateDBError.{SlateDBError}
 use Rattle.slate_ids.specs.declared.error.SlateDBError.TheVariants.{TransactionalObjectVersionExists, StoreFault}
 use Rattle.slate_store.specs.Calls.{Told, Makes, Answers, contents_after, moment_of}
 use Rattle.slate_store.specs.Machines.{Goes, Stay, End}
-use Rattle.slate_store.specs.Runs.{Run, Ran, Began, turns, one_if}
+use Rattle.slate_store.specs.Runs.{Run, turns, one_if}
 use Rattle.slate_store.specs.Store.{Store, Outcome, put_new, under, writes, object_at, tag_limit, whole}
 use Rattle.slate_store.specs.declared.made.Made.{Made}
 use Rattle.slate_store.specs.declared.mark.Mark.{Mark}

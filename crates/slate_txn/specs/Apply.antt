@@ -23,6 +23,7 @@ use Rattle.slate_log.specs.declared.right.Right.{Right}
 abbrev pub ApplyState : Type 0 → Type 0 → Type 0 → Type 0
 ApplyState T C R = ApplyPhase T × Holder T C R
 
+-- how it goes on
 abbrev pub ApplyGoes : Type 0 → Type 0 → Type 0 → Type 0
 ApplyGoes T C R = Goes (ApplyState T C R) (Unit {0})
 
@@ -31,6 +32,7 @@ abbrev pub apply_asks : {T C R : Type 0} → ApplyState T C R → StoreCall
 apply_asks (Reading read, holder) = read_asks holder.sequenced.db holder.sequenced.log read
 apply_asks (Committing commit, holder) = commit_asks holder.sequenced.db holder.sequenced.log commit
 
+-- a commit, where it is not refused
 abbrev pub some_commit : {T : Type 0} → Result (CommitPhase T) SlateDBError → Result (Option (CommitPhase T)) SlateDBError
 some_commit (Ok commit) = Ok (Some commit)
 some_commit (Err e) = Err e
@@ -63,6 +65,7 @@ begun phase holder (Err e) = End (phase, holder) (Err e)
 begun phase holder (Ok None) = End (phase, holder) (Ok tt)
 begun phase holder (Ok (Some commit)) = Stay (Committing commit, holder)
 
+-- with its holder: where the read ends, what the change makes of the version is committed
 abbrev pub read_on : {T C R : Type 0} → Holder T C R → (ℕ → T → Result (Option (CommitPhase T)) SlateDBError) → Goes (ReadPhase T) (Option (ℕ × T)) → ApplyGoes T C R
 read_on holder renew (Stay read) = Stay (Reading read, holder)
 read_on holder renew (End read (Err e)) = End (Reading read, holder) (Err e)
@@ -85,6 +88,7 @@ abbrev pub apply_due : {T : Type 0} → ApplyPhase T → Bool
 apply_due (Reading read) = read_due read
 apply_due (Committing commit) = commit_due commit
 
+-- the same of phase and holder
 abbrev pub state_due : {T C R : Type 0} → ApplyState T C R → Bool
 state_due state = apply_due state.0
 
@@ -93,6 +97,7 @@ abbrev pub is_start : {T : Type 0} → ApplyPhase T → Bool
 is_start (Reading read) = is_listing read
 is_start (Committing commit) = false
 
+-- the same of phase and holder
 abbrev pub apply_starts : {T C R : Type 0} → ApplyState T C R → Bool
 apply_starts state = is_start state.0
 
@@ -105,6 +110,7 @@ apply_rank (Committing commit) = commit_rank commit
 abbrev pub ApplyFalls : {T : Type 0} → ApplyPhase T → ApplyPhase T → Type 0
 ApplyFalls old new = (is_start new ≡ true) ⊎ (apply_rank new < apply_rank old)
 
+-- whether the latest version is being read
 abbrev pub is_reading_phase : {T : Type 0} → ApplyPhase T → Bool
 is_reading_phase (Reading read) = true
 is_reading_phase (Committing commit) = false

@@ -13,6 +13,7 @@ use Rattle.slate_log.specs.declared.right.Right.TheVariants.{Plain}
 abbrev pub raising : {T C R E : Type 0} → (C → List ℕ → Result T SlateDBError) → (C → T → Result (List ℕ) SlateDBError) → (R → ℕ → T → T → Right → Option SlateDBError) → (E → T → ℕ) → (E → T → ℕ → T) → E → Ways T C R
 raising decoded encoded refusal epoch with_epoch epochs = record { decoded = decoded; encoded = encoded; refusal = refusal; changed = next_epoch (epoch epochs) (with_epoch epochs); right = Plain }
 
+-- after Ok the fenced holder of the version held then
 abbrev pub fenced_of : {T C R E : Type 0} → (E → T → ℕ) → E → Holder T C R → Result (Unit {0}) SlateDBError → Result (FencedHolder T C R E) SlateDBError
 fenced_of epoch epochs holder (Ok u) = Ok (fenced_at epoch holder epochs)
 fenced_of epoch epochs holder (Err e) = Err e
@@ -24,5 +25,6 @@ pub record FencedBy {T C R E : Type 0} (epoch : E → T → ℕ) (ways : Ways T 
   pub applies : Applies ways moment tries old new holder to reply
   pub same : fenced_of epoch epochs to reply ≡ result
 
+-- the answer with a fenced holder of this epoch
 abbrev pub fenced_with : {T C R E : Type 0} → Holder T C R → E → ℕ → Result (FencedHolder T C R E) SlateDBError
 fenced_with holder epochs epoch = Ok (record { holder = holder; epochs = epochs; epoch = epoch })

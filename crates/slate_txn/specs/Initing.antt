@@ -34,6 +34,7 @@ abbrev pub fenced_reply : {T C R E : Type 0} → (E → T → ℕ) → Holder T 
 fenced_reply epoch holder epochs (Ok version) = Ok (fenced_at epoch (at_version holder version.0 version.1) epochs)
 fenced_reply epoch holder epochs (Err e) = Err e
 
+-- with its holder: where the commit ends, so does the raise
 abbrev pub fenced_goes : {T C R E : Type 0} → (E → T → ℕ) → Holder T C R → E → Goes (CommitPhase T) (ℕ × T) → Goes (InitMachine T C R E) (FencedHolder T C R E)
 fenced_goes epoch holder epochs (Stay commit) = Stay (Committing commit holder epochs)
 fenced_goes epoch holder epochs (End commit reply) = End Over (fenced_reply epoch holder epochs reply)

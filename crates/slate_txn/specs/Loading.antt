@@ -13,6 +13,7 @@ use Rattle.slate_txn.specs.declared.load.LoadMachine.TheVariants.{Reading, Over}
 use Rattle.slate_log.specs.declared.read.ReadPhase.{ReadPhase}
 use Rattle.slate_log.specs.declared.sequenced.Sequenced.{Sequenced}
 
+-- the holder of a version
 abbrev pub holder_of : {T C R : Type 0} → Sequenced T C → R → ℕ × T → Holder T C R
 holder_of sequenced rules version = record { sequenced = sequenced; rules = rules; id = version.0; object = version.1 }
 
@@ -27,6 +28,7 @@ abbrev pub load_due : {T C R : Type 0} → LoadMachine T C R → Bool
 load_due (Reading read sequenced rules) = read_due read
 load_due Over = false
 
+-- with log and rules: where the read ends, so does the load
 abbrev pub loaded_goes : {T C R : Type 0} → Sequenced T C → R → Goes (ReadPhase T) (Option (ℕ × T)) → Goes (LoadMachine T C R) (Holder T C R)
 loaded_goes sequenced rules (Stay read) = Stay (Reading read sequenced rules)
 loaded_goes sequenced rules (End read reply) = End Over (loaded sequenced rules reply)

@@ -1,5 +1,5 @@
 -- What an update leaves in the store.
-use Rattle.std.specs.Prelude.{◌≡◌, ◌||◌, ℤ, Bool, true, false, List, ℕ, Option, Some, Result, Ok, Err}
+use Rattle.std.specs.Prelude.{◌≡◌, ◌||◌, ℤ, Bool, true, false, List, ℕ, Some, Result, Ok, Err}
 use Rattle.slate_ids.specs.Answers.{is_memory}
 use Rattle.slate_ids.specs.declared.error.SlateDBError.{SlateDBError}
 use Rattle.slate_ids.specs.declared.error.SlateDBError.TheVariants.{TransactionalObjectVersionExists, StoreFault, Corrupt}

@@ -24,6 +24,7 @@ abbrev pub started : {T C R : Type 0} → (R → ℕ → T → T → Right → O
 started refusal encoded holder dirty right =
     if dirty.id == holder.id then prepared (refusal holder.rules) (encoded holder.sequenced.codec) holder.id holder.object dirty.value right else Err (TransactionalObjectVersionExists dirty.id None)
 
+-- the answer: the version was committed, or why not
 abbrev pub done_of : {T : Type 0} → Result (ℕ × T) SlateDBError → Result (Unit {0}) SlateDBError
 done_of (Ok version) = Ok tt
 done_of (Err e) = Err e
@@ -74,6 +75,7 @@ update_open (Committing commit) = commit_due commit
 abbrev pub UpdateState : Type 0 → Type 0 → Type 0 → Type 0
 UpdateState T C R = UpdateMachine T × Holder T C R
 
+-- with its holder: where the commit ends, so does the update
 abbrev pub held_goes : {T C R : Type 0} → Holder T C R → Goes (CommitPhase T) (ℕ × T) → Goes (UpdateState T C R) (Unit {0})
 held_goes holder (Stay commit) = Stay (Committing commit, holder)
 held_goes holder (End commit reply) = End (Committing commit, held_of holder reply) (done_of reply)
@@ -89,10 +91,12 @@ UpdateSteps old new moment (Nothing, holder) to step = (new ≡ old) × (step �
 UpdateSteps old new moment (Committing commit, holder) to step =
     Steps old new (commit_asks holder.sequenced.db holder.sequenced.log commit) moment (update_goes commit holder) (Committing commit, holder) to step
 
+-- the answer of a step of the commit
 abbrev pub done_step : {T : Type 0} → Step (ℕ × T) → Step (Unit {0})
 done_step Again = Again
 done_step (Done reply) = Done (done_of reply)
 
+-- what is held after it
 abbrev pub held_by : {T C R : Type 0} → Holder T C R → Step (ℕ × T) → Holder T C R
 held_by holder Again = holder
 held_by holder (Done reply) = held_of holder reply

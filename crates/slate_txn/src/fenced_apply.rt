@@ -4,9 +4,9 @@ ghost use Rattle.slate_ids.specs.declared.error.SlateDBError.{SlateDBError as Re
 ghost use Rattle.slate_log.specs.Due.{FaultOf};
 ghost use Rattle.slate_txn.specs.Changing.{Computes};
 ghost use Rattle.slate_txn.specs.Apply.{renewed, Applies, FaultFree};
-ghost use Rattle.slate_txn.specs.FencedApplying.{fenced_made};
+ghost use Rattle.slate_txn.specs.FencedApplying.{fenced_made, FenceFree};
 ghost use Rattle.slate_txn.specs.FencedUpdating.{unless};
-ghost use Rattle.slate_txn.specs.Fencing.{held_fence};
+ghost use Rattle.slate_txn.specs.Fencing.{held_fence, FencedOnly};
 ghost use Rattle.slate_txn.specs.Updating.{maybe_of, update_open};
 
 use crate::fenced::Fenced;
@@ -41,6 +41,7 @@ impl<T: Drop, C: ObjectCodec<T> + Drop, R: Rules<T> + Drop, E: Epochs<T> + Drop>
         ensures apply { (made : ℕ → T → Result (Option T) Refusal) → Computes (F.post f) made → Applies (record { decoded = C.decoded; encoded = C.encoded; refusal = R.refusal; changed = fenced_made E.epoch self.old.epochs self.old.epoch made; right = right.now }) moment tries (S.told store.old) (S.told store.new) self.old.holder self.new.holder result }
         ensures own { self.new ≡ record self.old { holder = self.new.holder } }
         ensures fault { (made : ℕ → T → Result (Option T) Refusal) → Computes (F.post f) made → FaultFree (record { decoded = C.decoded; encoded = C.encoded; refusal = R.refusal; changed = fenced_made E.epoch self.old.epochs self.old.epoch made; right = right.now }) → FaultOf (S.told store.old) (S.told store.new) result }
+        ensures fenced { (made : ℕ → T → Result (Option T) Refusal) → Computes (F.post f) made → FenceFree (record { decoded = C.decoded; encoded = C.encoded; refusal = R.refusal; changed = made; right = right.now }) → FencedOnly (held_fence E.epoch self.new) result }
     {
         let own = self.epoch;
         let epochs = &self.epochs;
