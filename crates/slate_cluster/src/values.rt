@@ -1,7 +1,6 @@
 //! What each call makes of the manifest read.
-ghost use Rattle.std.specs.Prelude.{◌≡◌, Ok, Some};
+ghost use Rattle.std.specs.Prelude.{◌≡◌, IfOk};
 ghost use Rattle.slate_ids.specs.Answers.{Gives};
-ghost use Rattle.slate_script.specs.declared.call.Call.TheVariants as calls;
 ghost use Rattle.slate_protocol.specs.Calls.{new_value as made_by};
 ghost use Rattle.slate_protocol.specs.Manifests.{raised_writer};
 
@@ -10,8 +9,9 @@ use crate::checkpoints::{
 };
 use crate::flushing::flush;
 use slate_ids::{CheckpointId, Millis, OutOfMemory, SlateDBError, Text};
-use slate_model::{CheckpointOptions, Manifest, copy_name};
+use slate_model::{CheckpointOptions, FirstManifestCodec, Manifest, WriterEpochs, copy_name};
 use slate_script::Call;
+use slate_txn::next_epoch;
 use std::alloc::Global;
 
 // The manifest with its writer epoch plus one.
@@ -22,13 +22,7 @@ fn raise_writer(
 ) -> Result<Option<Manifest>, SlateDBError>
     ensures { Gives result (raised_writer n manifest.now) }
 {
-    let epoch = manifest.writer_epoch;
-    if epoch == u64::MAX {
-        return Err(SlateDBError::Exhausted(epoch));
-    }
-    let mut raised = manifest.copy(alloc)?;
-    raised.writer_epoch = epoch + 1;
-    Ok(Some(raised))
+    next_epoch(alloc, &FirstManifestCodec, &WriterEpochs, n, manifest)
 }
 
 // The options of a new checkpoint, as a call names them.
@@ -38,7 +32,7 @@ fn options_of(
     source: Option<CheckpointId>,
     name: &Option<Text>,
 ) -> Result<CheckpointOptions, OutOfMemory>
-    ensures { Rattle.std.specs.Prelude.IfOk result (λ o. o ≡ record { lifetime = lifetime; source = source; name = name.now }) }
+    ensures { IfOk result (λ o. o ≡ record { lifetime = lifetime; source = source; name = name.now }) }
 {
     Ok(CheckpointOptions {
         lifetime,

@@ -31,6 +31,7 @@ pub use fenced_update::FencedUpdateMachine;
 pub use fencing::fence;
 pub use init::InitMachine;
 pub use load::LoadMachine;
+pub use next_value::next_epoch;
 pub use raise::prepare_raise;
 pub use refresh::RefreshMachine;
 pub use stored::{DirtyObject, Stored};

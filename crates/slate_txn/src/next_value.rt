@@ -6,8 +6,9 @@ ghost use Rattle.slate_txn.specs.Raise.{next_epoch};
 use slate_ids::{Epochs, ObjectCodec, SlateDBError};
 use std::alloc::Global;
 
-// The value with its epoch plus one. The last epoch is refused (`Exhausted`).
-pub(crate) fn next_epoch<T: Drop, C: ObjectCodec<T>, E: Epochs<T>>(
+/// A copy of the value with its epoch plus one, to follow the version of this number. Refused with `Exhausted` at the last
+/// epoch.
+pub fn next_epoch<T: Drop, C: ObjectCodec<T>, E: Epochs<T>>(
     alloc: Global,
     codec: &C,
     epochs: &E,
