@@ -39,6 +39,8 @@ mod status;
 mod steps;
 mod tallies;
 mod top_call;
+#[cfg(test)]
+mod value_tests;
 mod values;
 
 pub use cluster::{Cluster, ClusterError, NewError, Report};
