@@ -2,6 +2,8 @@
 
 use crate::Status;
 use crate::checking::{FIRST_STATE, SECOND_STATE, THIRD_STATE, check_events};
+use std::alloc::Global;
+use std::process::Abort;
 use std::test::Fail;
 
 const COMES_1: &str = "{\"open\":1,\"kind\":\"holder\",\"db\":\"db\"}";
@@ -255,21 +257,26 @@ fn a_stopped_party_is_idle(rt: HostRuntime) -> Result<(), Fail> {
     check_events(&rt, rt.alloc(), &events, Status::Ok, &written)
 }
 
-// Fresh ids that were carried before, or twice by their event; calls that the kind lacks; parties that never came.
+// Runs events of which the last is bad.
+fn check_bad(rt: &impl Abort, alloc: Global, events: &[&str], before: &str) -> Result<(), Fail> {
+    let place = events.len().saturating_sub(1) as u64;
+    let end = format!(in alloc; "bad event {place}\n")?;
+    let written = [before, FIRST_STATE, end.as_str()];
+    check_events(rt, alloc, events, Status::BadEvent(place), &written)
+}
+
+// A fresh id was carried before: by a fresh field, by another one, by a start that was noted idle.
 #[test]
-fn bad_holder_events(rt: HostRuntime) -> Result<(), Fail> {
-    let cases: [(&[&str], &[&str]); 9] = [
-        (
-            &[COMES_1, WRITES_7, WRITES_7],
-            &["0 open 1\n1 start 1\n", FIRST_STATE, "bad event 2\n"],
-        ),
+fn an_id_is_fresh_once(rt: HostRuntime) -> Result<(), Fail> {
+    let cases: [(&[&str], &str); 3] = [
+        (&[COMES_1, WRITES_7, WRITES_7], "0 open 1\n1 start 1\n"),
         (
             &[
                 COMES_1,
                 "{\"start\":1,\"call\":\"delete_checkpoint\",\"id\":7}",
                 WRITES_7,
             ],
-            &["0 open 1\n1 start 1\n", FIRST_STATE, "bad event 2\n"],
+            "0 open 1\n1 start 1\n",
         ),
         (
             &[
@@ -278,49 +285,35 @@ fn bad_holder_events(rt: HostRuntime) -> Result<(), Fail> {
                 "{\"start\":1,\"call\":\"write_checkpoint\",\"id\":8,\"source\":5}",
                 "{\"start\":1,\"call\":\"write_checkpoint\",\"id\":5}",
             ],
-            &[
-                "0 open 1\n1 start 1\n2 idle 1\n",
-                FIRST_STATE,
-                "bad event 3\n",
-            ],
-        ),
-        (
-            &[
-                COMES_1,
-                "{\"start\":1,\"call\":\"replace_checkpoint\",\"old\":7,\"id\":7}",
-            ],
-            &["0 open 1\n", FIRST_STATE, "bad event 1\n"],
-        ),
-        (
-            &[
-                COMES_1,
-                "{\"start\":1,\"call\":\"write_checkpoint\",\"id\":7,\"source\":7}",
-            ],
-            &["0 open 1\n", FIRST_STATE, "bad event 1\n"],
-        ),
-        (
-            &[
-                COMES_1,
-                "{\"start\":1,\"call\":\"refresh_checkpoint\",\"id\":7}",
-            ],
-            &["0 open 1\n", FIRST_STATE, "bad event 1\n"],
-        ),
-        (
-            &[COMES_1, "{\"start\":1,\"call\":\"open_writer\"}"],
-            &["0 open 1\n", FIRST_STATE, "bad event 1\n"],
-        ),
-        (
-            &[crate::checking::COMES_1, WRITES_7],
-            &["0 open 1\n", FIRST_STATE, "bad event 1\n"],
-        ),
-        (
-            &[COMES_1, "{\"stop\":1}", "{\"stop\":2}"],
-            &["0 open 1\n1 stop 1\n", FIRST_STATE, "bad event 2\n"],
+            "0 open 1\n1 start 1\n2 idle 1\n",
         ),
     ];
-    for (events, written) in cases {
-        let place = events.len() as u64 - 1;
-        check_events(&rt, rt.alloc(), events, Status::BadEvent(place), written)?;
+    for (events, before) in cases {
+        check_bad(&rt, rt.alloc(), events, before)?;
     }
     Ok(())
+}
+
+// A fresh id stands twice in its event; a holder lacks an open, and a refresh to no lifetime.
+#[test]
+fn bad_starts_of_a_holder(rt: HostRuntime) -> Result<(), Fail> {
+    let starts = [
+        "{\"start\":1,\"call\":\"replace_checkpoint\",\"old\":7,\"id\":7}",
+        "{\"start\":1,\"call\":\"write_checkpoint\",\"id\":7,\"source\":7}",
+        "{\"start\":1,\"call\":\"refresh_checkpoint\",\"id\":7}",
+        "{\"start\":1,\"call\":\"open_writer\"}",
+    ];
+    for start in starts {
+        check_bad(&rt, rt.alloc(), &[COMES_1, start], "0 open 1\n")?;
+    }
+    Ok(())
+}
+
+// A writer lacks the calls of a holder. A party that never came can't stop.
+#[test]
+fn bad_events_beside_holders(rt: HostRuntime) -> Result<(), Fail> {
+    let writer = crate::checking::COMES_1;
+    check_bad(&rt, rt.alloc(), &[writer, WRITES_7], "0 open 1\n")?;
+    let stops = [COMES_1, "{\"stop\":1}", "{\"stop\":2}"];
+    check_bad(&rt, rt.alloc(), &stops, "0 open 1\n1 stop 1\n")
 }

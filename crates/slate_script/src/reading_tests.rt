@@ -194,143 +194,87 @@ fn texts_that_are_no_script(rt: HostRuntime) -> Result<(), Fail> {
     Ok(())
 }
 
+// Databases of which one is none, with its place.
+const BAD_DATABASES: [(&str, u64); 9] = [
+    (r#"{}"#, 0),
+    (r#"{"path":"a"},{"path":"A"}"#, 1),
+    (r#"{"path":"a","floor":0}"#, 0),
+    (r#"{"path":"a","modified":0.0}"#, 0),
+    (r#"{"path":"a","checkpoints":null}"#, 0),
+    (r#"{"path":"a","checkpoints":[{"name":"x"}]}"#, 0),
+    (
+        r#"{"path":"a","checkpoints":[{"id":18446744073709551616}]}"#,
+        0,
+    ),
+    (r#"{"path":"a","checkpoints":[{"id":1,"expire":null}]}"#, 0),
+    (r#"{"path":"a","checkpoints":[{"id":1,"lifetime":1}]}"#, 0),
+];
+
+// Events of which one is none, with its place.
+const BAD_EVENTS: [(&str, u64); 24] = [
+    ("1", 0),
+    (r#"{"stop":1},{"stop":1,"at":0}"#, 1),
+    (r#"{"step":1,"at":0,"times":1000},{}"#, 1000),
+    (r#"{"open":1,"kind":"compactor","db":"a"}"#, 0),
+    (r#"{"open":1,"kind":"holder","db":"a","stop":1}"#, 0),
+    (r#"{"step":1,"at":0,"times":0}"#, 0),
+    (r#"{"step":1,"at":0,"times":1001}"#, 0),
+    (r#"{"step":1,"at":0,"mark":"good"}"#, 0),
+    (r#"{"step":1,"at":0,"mark":null}"#, 0),
+    (r#"{"step":1,"at":9223372036854775808}"#, 0),
+    (r#"{"step":1,"stop":1}"#, 0),
+    (r#"{"stop":4294967296}"#, 0),
+    (r#"{"start":1,"call":"refresh"}"#, 0),
+    (r#"{"start":1,"call":"flush","tables":[0]}"#, 0),
+    (r#"{"start":1,"call":"flush","tables":[],"seq":0}"#, 0),
+    (r#"{"start":1,"call":"write_checkpoint"}"#, 0),
+    (
+        r#"{"start":1,"call":"write_checkpoint","id":1,"lifetime":-1}"#,
+        0,
+    ),
+    (
+        r#"{"start":1,"call":"write_checkpoint","id":1,"name":1}"#,
+        0,
+    ),
+    (r#"{"start":1,"call":"write_checkpoint","id":1,"old":1}"#, 0),
+    (r#"{"start":1,"call":"replace_checkpoint","id":1}"#, 0),
+    (
+        r#"{"start":1,"call":"replace_checkpoint","old":1,"id":1,"source":"1"}"#,
+        0,
+    ),
+    (
+        r#"{"start":1,"call":"refresh_checkpoint","id":1,"lifetime":1.0}"#,
+        0,
+    ),
+    (
+        r#"{"start":1,"call":"refresh_checkpoint","id":1,"name":"x"}"#,
+        0,
+    ),
+    (
+        r#"{"start":1,"call":"delete_checkpoint","id":1,"lifetime":1}"#,
+        0,
+    ),
+];
+
+// A database that is none comes before an event that is none.
 #[test]
-fn items_that_are_none(rt: HostRuntime) -> Result<(), Fail> {
+fn databases_that_are_none(rt: HostRuntime) -> Result<(), Fail> {
     let alloc = rt.alloc();
-    let rows = [
-        (r#"{}"#, "0", ScriptPlace::Database(0)),
-        (r#"{"path":"a"},{"path":"A"}"#, "", ScriptPlace::Database(1)),
-        (r#"{"path":"a","floor":0}"#, "", ScriptPlace::Database(0)),
-        (
-            r#"{"path":"a","modified":0.0}"#,
-            "",
-            ScriptPlace::Database(0),
-        ),
-        (
-            r#"{"path":"a","checkpoints":null}"#,
-            "",
-            ScriptPlace::Database(0),
-        ),
-        (
-            r#"{"path":"a","checkpoints":[{"name":"x"}]}"#,
-            "",
-            ScriptPlace::Database(0),
-        ),
-        (
-            r#"{"path":"a","checkpoints":[{"id":18446744073709551616}]}"#,
-            "",
-            ScriptPlace::Database(0),
-        ),
-        (
-            r#"{"path":"a","checkpoints":[{"id":1,"expire":null}]}"#,
-            "",
-            ScriptPlace::Database(0),
-        ),
-        (
-            r#"{"path":"a","checkpoints":[{"id":1,"lifetime":1}]}"#,
-            "",
-            ScriptPlace::Database(0),
-        ),
-        ("", "1", ScriptPlace::Event(0)),
-        ("", r#"{"stop":1},{"stop":1,"at":0}"#, ScriptPlace::Event(1)),
-        (
-            "",
-            r#"{"step":1,"at":0,"times":1000},{}"#,
-            ScriptPlace::Event(1000),
-        ),
-        (
-            "",
-            r#"{"open":1,"kind":"compactor","db":"a"}"#,
-            ScriptPlace::Event(0),
-        ),
-        (
-            "",
-            r#"{"open":1,"kind":"holder","db":"a","stop":1}"#,
-            ScriptPlace::Event(0),
-        ),
-        ("", r#"{"step":1,"at":0,"times":0}"#, ScriptPlace::Event(0)),
-        (
-            "",
-            r#"{"step":1,"at":0,"times":1001}"#,
-            ScriptPlace::Event(0),
-        ),
-        (
-            "",
-            r#"{"step":1,"at":0,"mark":"good"}"#,
-            ScriptPlace::Event(0),
-        ),
-        (
-            "",
-            r#"{"step":1,"at":0,"mark":null}"#,
-            ScriptPlace::Event(0),
-        ),
-        (
-            "",
-            r#"{"step":1,"at":9223372036854775808}"#,
-            ScriptPlace::Event(0),
-        ),
-        ("", r#"{"step":1,"stop":1}"#, ScriptPlace::Event(0)),
-        ("", r#"{"stop":4294967296}"#, ScriptPlace::Event(0)),
-        ("", r#"{"start":1,"call":"refresh"}"#, ScriptPlace::Event(0)),
-        (
-            "",
-            r#"{"start":1,"call":"flush","tables":[0]}"#,
-            ScriptPlace::Event(0),
-        ),
-        (
-            "",
-            r#"{"start":1,"call":"flush","tables":[],"seq":0}"#,
-            ScriptPlace::Event(0),
-        ),
-        (
-            "",
-            r#"{"start":1,"call":"write_checkpoint"}"#,
-            ScriptPlace::Event(0),
-        ),
-        (
-            "",
-            r#"{"start":1,"call":"write_checkpoint","id":1,"lifetime":-1}"#,
-            ScriptPlace::Event(0),
-        ),
-        (
-            "",
-            r#"{"start":1,"call":"write_checkpoint","id":1,"name":1}"#,
-            ScriptPlace::Event(0),
-        ),
-        (
-            "",
-            r#"{"start":1,"call":"write_checkpoint","id":1,"old":1}"#,
-            ScriptPlace::Event(0),
-        ),
-        (
-            "",
-            r#"{"start":1,"call":"replace_checkpoint","id":1}"#,
-            ScriptPlace::Event(0),
-        ),
-        (
-            "",
-            r#"{"start":1,"call":"replace_checkpoint","old":1,"id":1,"source":"1"}"#,
-            ScriptPlace::Event(0),
-        ),
-        (
-            "",
-            r#"{"start":1,"call":"refresh_checkpoint","id":1,"lifetime":1.0}"#,
-            ScriptPlace::Event(0),
-        ),
-        (
-            "",
-            r#"{"start":1,"call":"refresh_checkpoint","id":1,"name":"x"}"#,
-            ScriptPlace::Event(0),
-        ),
-        (
-            "",
-            r#"{"start":1,"call":"delete_checkpoint","id":1,"lifetime":1}"#,
-            ScriptPlace::Event(0),
-        ),
-    ];
-    for (databases, events, place) in rows {
-        let text = format!(in alloc; "{{\"databases\":[{databases}],\"events\":[{events}]}}")?;
-        assert_eq!(rt; place_of(alloc, text.as_str())?, Some(place), "at {text}");
+    for (items, place) in BAD_DATABASES {
+        let text = format!(in alloc; "{{\"databases\":[{items}],\"events\":[0]}}")?;
+        let found = place_of(alloc, text.as_str())?;
+        assert_eq!(rt; found, Some(ScriptPlace::Database(place)), "at {text}");
+    }
+    Ok(())
+}
+
+#[test]
+fn events_that_are_none(rt: HostRuntime) -> Result<(), Fail> {
+    let alloc = rt.alloc();
+    for (items, place) in BAD_EVENTS {
+        let text = format!(in alloc; "{{\"databases\":[],\"events\":[{items}]}}")?;
+        let found = place_of(alloc, text.as_str())?;
+        assert_eq!(rt; found, Some(ScriptPlace::Event(place)), "at {text}");
     }
     Ok(())
 }
