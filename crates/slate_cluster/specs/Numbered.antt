@@ -12,7 +12,7 @@ use Rattle.slate_protocol.specs.World.{with_party, settled, halted, reply_of}
 use Rattle.slate_protocol.specs.declared.party.Party.{Party}
 use Rattle.slate_protocol.specs.declared.party.Facts.{Facts}
 use Rattle.slate_protocol.specs.declared.party.State.{State}
-use Rattle.slate_protocol.specs.declared.party.State.TheVariants.{Resting, Busy, Halted}
+use Rattle.slate_protocol.specs.declared.party.State.TheVariants.{Resting, Halted}
 use Rattle.slate_cluster.specs.Stepped.{is_busy, PartyStepped}
 
 -- the party is there, and a store call is due in its call

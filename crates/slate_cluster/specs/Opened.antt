@@ -1,5 +1,5 @@
 -- What was made of databases.
-use Rattle.std.specs.Prelude.{◌≡◌, List, Option, Some, None, Result, Ok, Err}
+use Rattle.std.specs.Prelude.{◌≡◌, List, Some, None, Result, Ok, Err}
 use Rattle.slate_script.specs.declared.db_spec.DbSpec.{DbSpec}
 use Rattle.slate_protocol.specs.Specs.{cause_of_specs, opening_world}
 use Rattle.slate_protocol.specs.World.{World}

@@ -1,5 +1,5 @@
 -- Paths that differ have different texts.
-use Rattle.std.proofs.Common.{◌≡◌, List, ℕ, Option, Some, sym, ap, ◌∙◌}
+use Rattle.std.proofs.Common.{◌≡◌, Some, sym, ap, ◌∙◌}
 use Rattle.slate_ids.specs.FinePath.{IsFine}
 use Rattle.slate_ids.specs.PathOf.{path_of}
 use Rattle.slate_ids.specs.PathText.{path_text}

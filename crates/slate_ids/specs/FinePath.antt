@@ -1,5 +1,5 @@
 -- The paths of objects that there are.
-use Rattle.std.specs.Prelude.{◌≡◌, ℕ, ◌<◌, ◌^◌, true, Some}
+use Rattle.std.specs.Prelude.{◌≡◌, ◌<◌, ◌^◌, true, Some}
 use Rattle.slate_ids.specs.Ids.{is_db_path}
 use Rattle.slate_ids.specs.PathKind.{is_rest}
 use Rattle.slate_ids.specs.UlidText.{ulid_text, ulid_of}

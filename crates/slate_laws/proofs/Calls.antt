@@ -1,5 +1,5 @@
 -- What a call makes of its phrase's end.
-use Rattle.std.proofs.Common.{◌≡◌, ℕ, ℤ, ◌+◌, ◌-◌, ◌<◌, ◌≤◌, ◌^◌, ◌==◌, Bool, true, false, List, Option, Some, None, Result, Ok, Err, refl, sym, ap, ◌∙◌, subst, arith}
+use Rattle.std.proofs.Common.{◌≡◌, ℕ, ℤ, ◌+◌, ◌-◌, ◌<◌, ◌≤◌, ◌^◌, ◌==◌, false, Option, Some, None, Result, Ok, Err, refl, sym, ap, ◌∙◌, subst, arith}
 use Rattle.std.proofs.lemmas.Bool.Decides.{nat_tests}
 use Rattle.slate_ids.specs.declared.error.SlateDBError.{SlateDBError}
 use Rattle.slate_model.specs.declared.manifest.Manifest.{Manifest}
@@ -8,10 +8,9 @@ use Rattle.slate_store.specs.Store.{Store}
 use Rattle.slate_script.specs.declared.call.Call.{Call}
 use Rattle.slate_script.specs.declared.call.Call.TheVariants.{OpenWriter, Flush, WriteCheckpoint, ReplaceCheckpoint, RefreshCheckpoint, DeleteCheckpoint}
 use Rattle.slate_log.specs.declared.commit.CommitPhase.{CommitPhase}
-use Rattle.slate_log.specs.declared.commit.CommitPhase.TheVariants.{Putting}
 use Rattle.slate_protocol.specs.Calls.{Next, Go, Finish, new_value, right_of, fence_of, commit_of, commit_next, after_version, after_commit, after_phrase, follow, read_next, once_open, begin}
-use Rattle.slate_protocol.specs.Chains.{Link, link_at, top}
-use Rattle.slate_protocol.specs.Logs.{Author, Chain, author_of, manifests}
+use Rattle.slate_protocol.specs.Chains.{link_at, top}
+use Rattle.slate_protocol.specs.Logs.{Chain, author_of, manifests}
 use Rattle.slate_protocol.specs.Manifests.{manifest_refusal}
 use Rattle.slate_protocol.specs.declared.party.Facts.{Facts}
 use Rattle.slate_protocol.specs.declared.party.Purpose.{Purpose}

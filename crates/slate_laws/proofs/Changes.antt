@@ -1,5 +1,5 @@
 -- What an event changes of the chains.
-use Rattle.std.proofs.Common.{◌≡◌, ℕ, ℤ, Bool, true, false, List, Option, Some, None, is_some, refl, sym, ap, ◌∙◌, subst}
+use Rattle.std.proofs.Common.{◌≡◌, ℕ, ℤ, Bool, true, false, List, Option, Some, None, is_some, refl, ap, ◌∙◌}
 use Rattle.std.specs.Prelude.{if◌then◌else◌}
 use Rattle.slate_ids.specs.declared.object_path.ObjectPath.{ObjectPath}
 use Rattle.slate_store.specs.Store.{Store, object_at, stands_at, put_new, under, taken, effect}
@@ -10,12 +10,12 @@ use Rattle.slate_store.specs.declared.store_call.StoreCall.TheVariants.{PutNew}
 use Rattle.slate_script.specs.declared.event.Event.{Event}
 use Rattle.slate_script.specs.declared.event.Event.TheVariants.{Open, Start, Step, Stop}
 use Rattle.slate_protocol.specs.ByRows.{party_in}
-use Rattle.slate_protocol.specs.Chains.{Link, Changed}
+use Rattle.slate_protocol.specs.Chains.{Changed}
 use Rattle.slate_protocol.specs.Chains.Changed.{Stays, Gets}
 use Rattle.slate_protocol.specs.Lawful.{HasDb}
 use Rattle.slate_protocol.specs.Logs.{Author, Chain, Chains, author_of, chains_stepped, chains_state, chains_at, chains_after}
 use Rattle.slate_protocol.specs.Phrases.{is_due}
-use Rattle.slate_protocol.specs.World.{World, Done, party_of, step_at, happens}
+use Rattle.slate_protocol.specs.World.{World, party_of}
 use Rattle.slate_protocol.specs.declared.party.Party.{Party}
 use Rattle.slate_protocol.specs.declared.party.State.{State}
 use Rattle.slate_protocol.specs.declared.party.State.TheVariants.{Resting, Busy, Halted}

@@ -1,5 +1,5 @@
 -- In a call under way a store call is due.
-use Rattle.std.proofs.Common.{◌≡◌, ℕ, ℤ, nat_le, Bool, true, false, List, Option, Some, None, Result, Ok, Err, refl, sym, ap, ◌∙◌, subst}
+use Rattle.std.proofs.Common.{◌≡◌, ℕ, ℤ, nat_le, Bool, true, false, List, Option, Some, None, Result, Ok, Err, refl, ap}
 use Rattle.std.specs.Prelude.{if◌then◌else◌}
 use Rattle.slate_ids.specs.declared.error.SlateDBError.{SlateDBError}
 use Rattle.slate_ids.specs.declared.error.SlateDBError.TheVariants.{TransactionalObjectVersionExists}
@@ -19,8 +19,8 @@ use Rattle.slate_log.specs.declared.commit.CommitPhase.TheVariants as committing
 use Rattle.slate_log.specs.declared.log_kind.LogKind.TheVariants.{Manifest as ManifestLog}
 use Rattle.slate_log.specs.declared.read.ReadPhase.{ReadPhase}
 use Rattle.slate_log.specs.declared.read.ReadPhase.TheVariants as reading
-use Rattle.slate_protocol.specs.Calls.{Next, Go, Finish, commit_of, commit_next, after_version, after_commit, after_phrase, follow, read_next, once_open, begin}
-use Rattle.slate_protocol.specs.Phrases.{goes, is_due, phrase_due, phrase_goes, read_on, commit_on}
+use Rattle.slate_protocol.specs.Calls.{Next, Go, Finish, commit_of, commit_next, after_phrase, follow, read_next, once_open, begin}
+use Rattle.slate_protocol.specs.Phrases.{goes, is_due, phrase_goes, read_on, commit_on}
 use Rattle.slate_protocol.specs.declared.party.Facts.{Facts}
 use Rattle.slate_protocol.specs.declared.party.Purpose.{Purpose}
 use Rattle.slate_protocol.specs.declared.party.Purpose.TheVariants.{Reading, Committing}

@@ -1,15 +1,14 @@
 -- Fenced epochs: what a chain says of its authors.
-use Rattle.std.proofs.Common.{◌≡◌, ◌≢◌, ℕ, ◌+◌, ◌<◌, ◌≤◌, nat_lt, Bool, true, false, List, [], ◌∷◌, Option, Some, None, ◌⊎◌, ⊎_elim, refl, sym, ap, ◌∙◌, subst, arith}
+use Rattle.std.proofs.Common.{◌≡◌, ◌≢◌, ℕ, ◌≤◌, nat_lt, Bool, true, false, [], ◌∷◌, Option, Some, None, ⊎_elim, refl, sym, ap, ◌∙◌, subst, arith}
 use Rattle.std.proofs.lemmas.Bool.Decides.{nat_tests}
 use Rattle.std.specs.Prelude.{if◌then◌else◌}
 use Rattle.slate_ids.specs.declared.error.SlateDBError.TheVariants.{Fenced}
-use Rattle.slate_model.specs.Epochs.{with_writer_epoch}
 use Rattle.slate_model.specs.declared.manifest.Manifest.{Manifest}
 use Rattle.slate_script.specs.declared.call.Call.{Call}
 use Rattle.slate_script.specs.declared.call.Call.TheVariants.{OpenWriter, Flush, WriteCheckpoint, ReplaceCheckpoint, RefreshCheckpoint, DeleteCheckpoint}
 use Rattle.slate_txn.specs.Fencing.{fence}
-use Rattle.slate_protocol.specs.Calls.{new_value, right_of, fenced, fence_of}
-use Rattle.slate_protocol.specs.Chains.{Link, link_at, IsChain, Follows, IsFirst}
+use Rattle.slate_protocol.specs.Calls.{right_of, fenced, fence_of}
+use Rattle.slate_protocol.specs.Chains.{Link, link_at, IsChain, Follows}
 use Rattle.slate_protocol.specs.Fenced.{epoch_in, NotBelow, IsFenced}
 use Rattle.slate_protocol.specs.Logs.{Author, Chain, manifests}
 use Rattle.slate_protocol.specs.declared.party.Facts.{Facts}

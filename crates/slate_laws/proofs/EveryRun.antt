@@ -1,26 +1,22 @@
 -- What holds of every run.
-use Rattle.std.proofs.Common.{◌≡◌, ℕ, ◌<◌, ◌≤◌, ◌^◌, true, List, [], ◌∷◌, ◌++◌, map, Option, Some, None, refl, sym, ap, ◌∙◌, subst, arith}
+use Rattle.std.proofs.Common.{◌≡◌, ℕ, List, map, Some, refl, sym, ap, ◌∙◌, subst, arith}
 use Rattle.slate_script.specs.declared.db_spec.DbSpec.{DbSpec}
 use Rattle.slate_script.specs.declared.event.Event.{Event}
-use Rattle.slate_store.specs.Store.{Store, object_at}
 use Rattle.slate_log.specs.Boundary.{boundary_got}
-use Rattle.slate_log.specs.LogPaths.{boundary_path}
-use Rattle.slate_log.specs.declared.log_kind.LogKind.TheVariants.{Manifest as ManifestLog}
-use Rattle.slate_protocol.specs.ByRows.{nobody, trail_by}
-use Rattle.slate_protocol.specs.Chains.{top, Stands}
+use Rattle.slate_protocol.specs.ByRows.{nobody}
 use Rattle.slate_protocol.specs.Lawful.{IsAccepted, HasDb, chains_at_end, IsRun, IsLawful, Lawful}
-use Rattle.slate_protocol.specs.Logs.{Chain, Chains, manifests, world_after, chains_of, opening_chains}
-use Rattle.slate_protocol.specs.Runs.{Course, opening, run}
+use Rattle.slate_protocol.specs.Logs.{Chains, manifests, world_after, opening_chains}
+use Rattle.slate_protocol.specs.Runs.{Course, opening}
 use Rattle.slate_protocol.specs.Specs.{opening_world}
 use Rattle.slate_protocol.specs.Trails.{numbered, store_of, told}
-use Rattle.slate_protocol.specs.World.{World, party_of}
-use Rattle.slate_laws.proofs.Facts.{bound_in, IsSound}
+use Rattle.slate_protocol.specs.World.{World}
+use Rattle.slate_laws.proofs.Facts.{bound_in}
 use Rattle.slate_laws.proofs.GoingOn.{run_world}
 use Rattle.slate_laws.proofs.Epochs.{chain_fenced}
 use Rattle.slate_laws.proofs.Opening.{opening_inv}
 use Rattle.slate_laws.proofs.Rows.{AllMatch, rows_run}
 use Rattle.slate_laws.proofs.Runs.{Inv, run_inv}
-use Rattle.slate_laws.proofs.Trails.{Tells, RunTells, run_tells}
+use Rattle.slate_laws.proofs.Trails.{run_tells}
 
 -- the state after events on accepted databases
 pub after_inv : (specs : List DbSpec) (events : List Event) → IsAccepted specs → Inv (world_after events (opening_world specs)) (chains_at_end specs events)

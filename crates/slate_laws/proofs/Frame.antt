@@ -1,12 +1,12 @@
 -- What a party knows stays true under whatever the others do.
-use Rattle.std.proofs.Common.{◌≡◌, ℕ, ◌<◌, ◌≤◌, List, Option, Some, None, refl, sym, ap, ◌∙◌, subst, arith}
+use Rattle.std.proofs.Common.{ℕ, List, arith}
 use Rattle.slate_store.specs.Store.{Store}
 use Rattle.slate_log.specs.declared.commit.CommitPhase.{CommitPhase}
 use Rattle.slate_log.specs.declared.commit.CommitPhase.TheVariants as committing
 use Rattle.slate_log.specs.declared.read.ReadPhase.{ReadPhase}
 use Rattle.slate_log.specs.declared.read.ReadPhase.TheVariants as reading
-use Rattle.slate_protocol.specs.Chains.{Link, Log, link_at}
-use Rattle.slate_laws.proofs.Facts.{bound_in, IsValue, Holds, IsNext, ReadKnows, CommitKnows, Grows}
+use Rattle.slate_protocol.specs.Chains.{Link, Log}
+use Rattle.slate_laws.proofs.Facts.{IsValue, Holds, IsNext, ReadKnows, CommitKnows, Grows}
 
 module _ {V A : Type 0} (log : Log V A) (db : List ℕ) (s : Store) (c : List (Link V A)) (s' : Store) (c' : List (Link V A)) (g : Grows log db s c s' c') where
   pub kept_value : (n : ℕ) (v : V) → IsValue c n v → IsValue c' n v

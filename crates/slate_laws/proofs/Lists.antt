@@ -1,5 +1,5 @@
 -- The numbers of a listing.
-use Rattle.std.proofs.Common.{◌≡◌, ℕ, ◌<◌, ◌≤◌, ◌^◌, max, Bool, true, false, List, [], ◌∷◌, map, filter, Option, Some, None, IfSome, ◌⊎◌, ⊎_elim, refl, sym, ap, subst, arith, cond}
+use Rattle.std.proofs.Common.{◌≡◌, ℕ, ◌<◌, ◌^◌, max, Bool, true, false, List, [], ◌∷◌, map, filter, Option, Some, None, IfSome, ◌⊎◌, ⊎_elim, sym, subst, arith, cond}
 use Rattle.slate_ids.specs.declared.object_path.ObjectPath.{ObjectPath}
 use Rattle.slate_ids.specs.declared.object_path.ObjectPath.TheVariants as paths
 use Rattle.slate_ids.specs.FinePath.{IsFine}

@@ -1,16 +1,15 @@
 -- The log of manifests: what its codec and its rules give, and what each call commits.
-use Rattle.std.proofs.Common.{◌≡◌, ℕ, ℤ, ◌+◌, ◌-◌, ◌^◌, ◌==◌, ◌<◌, ◌≤◌, nat_lt, Bool, true, false, List, [], ◌∷◌, map, Option, Some, None, Result, Ok, Err, refl, sym, ap, ◌∙◌, subst, arith}
+use Rattle.std.proofs.Common.{◌≡◌, ℕ, ℤ, ◌+◌, ◌-◌, ◌^◌, ◌==◌, ◌≤◌, nat_lt, Bool, true, false, List, [], ◌∷◌, map, Option, Some, None, Result, Ok, Err, refl, ap, ◌∙◌, arith}
 use Rattle.std.proofs.lemmas.Bool.Decides.{nat_tests}
 use Rattle.std.specs.Prelude.{if◌then◌else◌, ◌||◌, ◌&&◌}
 use Rattle.std.specs.List.{list_all}
 use Rattle.slate_ids.specs.declared.error.SlateDBError.{SlateDBError}
 use Rattle.slate_ids.specs.declared.error.SlateDBError.TheVariants.{Exhausted}
-use Rattle.slate_ids.specs.declared.error.UpdateRule.{UpdateRule}
 use Rattle.slate_ids.specs.declared.error.UpdateRule.TheVariants.{U1, U2}
 use Rattle.slate_model.specs.Codec.{encoded}
 use Rattle.slate_model.specs.Checkpoints.{is_named}
 use Rattle.slate_model.specs.Laws.{round_trip}
-use Rattle.slate_model.specs.Lawful.{falls, names_known, refusal_of_update}
+use Rattle.slate_model.specs.Lawful.{falls, names_known}
 use Rattle.slate_model.specs.Normal.{normal, normal_checkpoint}
 use Rattle.slate_model.specs.declared.checkpoint.Checkpoint.{Checkpoint}
 use Rattle.slate_model.specs.declared.manifest.Manifest.{Manifest}
@@ -19,7 +18,6 @@ use Rattle.slate_log.specs.Commit.{prepared, checked_commit, encoded_commit}
 use Rattle.slate_log.specs.declared.commit.CommitPhase.{CommitPhase}
 use Rattle.slate_log.specs.declared.commit.CommitPhase.TheVariants.{Putting}
 use Rattle.slate_log.specs.declared.right.Right.{Right}
-use Rattle.slate_log.specs.declared.right.Right.TheVariants.{Plain}
 use Rattle.slate_txn.specs.Apply.{renewed, wanted, some_commit}
 use Rattle.slate_txn.specs.FencedUpdating.{unless}
 use Rattle.slate_protocol.specs.Calls.{new_value, right_of, fence_of, commit_of}

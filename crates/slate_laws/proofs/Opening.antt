@@ -1,5 +1,5 @@
 -- What holds as a run begins.
-use Rattle.std.proofs.Common.{◌≡◌, ◌≢◌, ℕ, ◌+◌, ◌<◌, ◌≤◌, ◌^◌, ◌==◌, Bool, true, false, List, [], ◌∷◌, Option, Some, None, is_some, Result, Ok, Err, ◌⊎◌, ⊎_elim, refl, sym, ap, ◌∙◌, subst, arith}
+use Rattle.std.proofs.Common.{◌≡◌, ◌≢◌, ℕ, ◌<◌, ◌^◌, Bool, true, false, List, [], ◌∷◌, Option, Some, None, is_some, Result, Ok, Err, ⊎_elim, refl, sym, ap, ◌∙◌, subst, arith}
 use Rattle.std.specs.Prelude.{bytes_eq, if◌then◌else◌, not}
 use Rattle.std.specs.List.{list_any}
 use Rattle.slate_ids.specs.Ids.{is_db_path}
@@ -12,22 +12,21 @@ use Rattle.slate_log.specs.declared.log_kind.LogKind.TheVariants.{Manifest as Ma
 use Rattle.slate_model.specs.Codec.{encoded, decoded}
 use Rattle.slate_model.specs.Laws.{round_trip}
 use Rattle.slate_model.specs.Normals.{is_normal_only}
-use Rattle.slate_model.specs.Normal.{normal, is_normal}
+use Rattle.slate_model.specs.Normal.{is_normal}
 use Rattle.slate_model.specs.declared.manifest.Manifest.{Manifest}
-use Rattle.slate_script.specs.declared.cluster_cause.ClusterCause.{ClusterCause}
 use Rattle.slate_script.specs.declared.cluster_cause.ClusterCause.TheVariants as cause
 use Rattle.slate_script.specs.declared.db_spec.DbSpec.{DbSpec}
 use Rattle.slate_store.specs.Store.{Store, object_at}
 use Rattle.slate_store.specs.declared.object.StoredObject.{StoredObject}
-use Rattle.slate_protocol.specs.Chains.{Link, link_at, top, bytes_of, link_bytes, Stands}
+use Rattle.slate_protocol.specs.Chains.{top, bytes_of, link_bytes, Stands}
 use Rattle.slate_protocol.specs.Ids.{Carried}
 use Rattle.slate_protocol.specs.Lawful.{IsAccepted, HasDb}
 use Rattle.slate_protocol.specs.Logs.{Chain, manifests, opening_link, opening_chains}
 use Rattle.slate_protocol.specs.Specs.{First, first_tally, tallies_from, carried_from, bytes_where, first_bytes, firsts_from, names_other, cause_of_specs, listed_or_none, no_objects, store_from, opening_world}
 use Rattle.slate_protocol.specs.World.{World, tally_of}
 use Rattle.slate_protocol.specs.declared.tally.Tally.{Tally}
-use Rattle.slate_laws.proofs.Beginnings.{spec_of, AllNamed, tally_for, tallies_found, first_of, first_for, firsts_found, firsts_else, last_at, IsFound, spec_found, bytes_found, store_found, firsts_fine, store_tidy}
-use Rattle.slate_laws.proofs.Facts.{bound_in, IsSound}
+use Rattle.slate_laws.proofs.Beginnings.{spec_of, AllNamed, tally_for, tallies_found, first_for, firsts_found, firsts_else, last_at, IsFound, spec_found, bytes_found, store_found, firsts_fine, store_tidy}
+use Rattle.slate_laws.proofs.Facts.{IsSound}
 use Rattle.slate_laws.proofs.Links.{same_or_not, link_here, link_there}
 use Rattle.slate_laws.proofs.Paths.{versions_apart, boundary_apart, manifest_elsewhere}
 use Rattle.slate_laws.proofs.Runs.{Inv}

@@ -1,18 +1,16 @@
 -- What a put leaves of a log.
-use Rattle.std.proofs.Common.{◌≡◌, ◌≢◌, ℕ, ℤ, ◌+◌, ◌<◌, ◌≤◌, ◌^◌, Bool, true, false, List, [], ◌∷◌, Option, Some, None, Result, Ok, Err, ◌⊎◌, inl, inr, ⊎_elim, refl, sym, ap, ◌∙◌, subst, arith}
+use Rattle.std.proofs.Common.{◌≡◌, ◌≢◌, ℕ, ℤ, ◌+◌, ◌<◌, ◌^◌, true, List, [], ◌∷◌, Option, Some, None, ⊎_elim, refl, sym, ap, ◌∙◌, subst, arith}
 use Rattle.slate_ids.specs.Ids.{is_db_path}
-use Rattle.slate_ids.specs.PathText.{path_text}
 use Rattle.slate_ids.specs.declared.object_path.ObjectPath.{ObjectPath}
 use Rattle.slate_store.specs.Store.{Store, object_at, stored}
-use Rattle.slate_store.specs.declared.object.StoredObject.{StoredObject}
 use Rattle.slate_log.specs.Boundary.{boundary_got}
 use Rattle.slate_log.specs.LogPaths.{version_path, boundary_path}
 use Rattle.slate_protocol.specs.Chains.{Link, Log, link_at, top, if_new, with_link, IsChain, Follows, bytes_of, link_bytes, Stands, Changed}
 use Rattle.slate_protocol.specs.Chains.Changed.{Stays, Gets}
-use Rattle.slate_laws.proofs.Stores.{at_put, at_else, put_object}
-use Rattle.slate_laws.proofs.Links.{link_here, link_there, link_number, same_or_not, next_is_top, at_most}
+use Rattle.slate_laws.proofs.Stores.{at_put, at_else}
+use Rattle.slate_laws.proofs.Links.{link_here, link_there, same_or_not, next_is_top}
 use Rattle.slate_laws.proofs.Paths.{IsElsewhere, versions_apart, boundary_apart}
-use Rattle.slate_laws.proofs.Facts.{IsLog, bound_in, IsSound, IsValue, Holds, IsNext, Grows}
+use Rattle.slate_laws.proofs.Facts.{IsLog, bound_in, IsSound, Holds, IsNext, Grows}
 
 -- what one effect leaves of a log, by an author
 pub record Leaves {V A : Type 0} (log : Log V A) (db : List ℕ) (author : A) (s : Store) (c : List (Link V A)) (s' : Store) (c' : List (Link V A)) : Type 0 where

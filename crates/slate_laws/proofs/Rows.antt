@@ -1,12 +1,11 @@
 -- The phase in which a party stands is the fold of its call along its answers, so the trail is the one that the rows give.
-use Rattle.std.proofs.Common.{◌≡◌, ◌≢◌, ℕ, ℤ, ◌+◌, ◌==◌, Bool, true, false, List, [], ◌∷◌, ◌++◌, Option, Some, None, ◌⊎◌, ⊎_elim, refl, sym, ap, ◌∙◌, subst, append_assoc, arith}
+use Rattle.std.proofs.Common.{◌≡◌, ◌≢◌, ℕ, ℤ, ◌+◌, ◌==◌, Bool, true, false, List, [], ◌∷◌, ◌++◌, Option, Some, None, refl, sym, ap, ◌∙◌, subst, append_assoc, arith}
 use Rattle.std.proofs.lemmas.Bool.Decides.{nat_tests}
 use Rattle.std.proofs.lemmas.List.{append-nil}
 use Rattle.std.specs.Prelude.{if◌then◌else◌}
 use Rattle.std.specs.Ordering.{nat_cmp}
 use Rattle.slate_store.specs.Store.{Store, effect}
 use Rattle.slate_store.specs.declared.mark.Mark.{Mark}
-use Rattle.slate_store.specs.declared.store_answer.StoreAnswer.{StoreAnswer}
 use Rattle.slate_script.specs.declared.call.Call.{Call}
 use Rattle.slate_script.specs.declared.entry.Entry.{Entry}
 use Rattle.slate_script.specs.declared.entry.Entry.TheVariants.{Called, Started, Stopped, Idle}
@@ -14,10 +13,10 @@ use Rattle.slate_script.specs.declared.reply.Reply.{Reply}
 use Rattle.slate_script.specs.declared.event.Event.{Event}
 use Rattle.slate_script.specs.declared.event.Event.TheVariants.{Open, Start, Step, Stop}
 use Rattle.slate_script.specs.declared.party_kind.PartyKind.{PartyKind}
-use Rattle.slate_protocol.specs.ByRows.{Doing, Rests, Answers, Stays, Standing, Standings, reply_in, asked_entry, step_entry, start_entry, stop_entry, entry_by, facts_by, doing_by, with_answer, replied, standing_after, party_in, standings_after, entry_store, trail_by}
+use Rattle.slate_protocol.specs.ByRows.{Doing, Rests, Answers, Stays, Standing, Standings, reply_in, asked_entry, step_entry, start_entry, stop_entry, entry_by, facts_by, with_answer, replied, standing_after, party_in, standings_after, entry_store, trail_by}
 use Rattle.slate_protocol.specs.Calls.{Next, Go, Finish, follow, begin}
 use Rattle.slate_protocol.specs.Phrases.{asks, goes, is_due}
-use Rattle.slate_protocol.specs.Rows.{Answered, Row, Asks, Replies, after_answers, stands_after, row_of, row}
+use Rattle.slate_protocol.specs.Rows.{Answered, Row, Asks, after_answers, stands_after, row_of, row}
 use Rattle.slate_protocol.specs.Runs.{Course, Ran, going_on, run}
 use Rattle.slate_protocol.specs.World.{World, Done, party_of, with_party, tally_of, noted, newcomer, settled, reply_of, stepped, step_state, start_state, halted, stop_state, carrying, may_start, open_at, start_at, step_at, stop_at, happens}
 use Rattle.slate_protocol.specs.declared.party.Facts.{Facts}

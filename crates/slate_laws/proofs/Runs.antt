@@ -1,11 +1,9 @@
 -- Each event keeps what holds of the logs and what each party knows, and so does each list of events.
-use Rattle.std.proofs.Common.{◌≡◌, ◌≢◌, ℕ, ℤ, ◌+◌, ◌<◌, ◌≤◌, ◌^◌, Bool, true, false, List, [], ◌∷◌, Option, Some, None, is_some, ◌⊎◌, ⊎_elim, inl, inr, refl, sym, ap, ◌∙◌, subst, arith}
-use Rattle.std.proofs.lemmas.Bool.Decides.{nat_tests}
-use Rattle.std.specs.Prelude.{bytes_eq, if◌then◌else◌}
+use Rattle.std.proofs.Common.{◌≡◌, ◌≢◌, ℕ, ℤ, Bool, true, false, List, [], ◌∷◌, Option, Some, None, is_some, ⊎_elim, refl, sym, ap, ◌∙◌, subst}
+use Rattle.std.specs.Prelude.{if◌then◌else◌}
 use Rattle.std.specs.Ordering.{nat_cmp}
 use Rattle.std.specs.BTreeMap.{insert_entry}
 use Rattle.slate_ids.specs.Ids.{is_db_path}
-use Rattle.slate_store.specs.Machines.{Goes, Stay, End}
 use Rattle.slate_ids.specs.PathText.{path_text}
 use Rattle.slate_store.specs.Store.{Store, object_at, effect}
 use Rattle.slate_store.specs.declared.mark.Mark.{Mark}
@@ -17,17 +15,16 @@ use Rattle.slate_log.specs.LogPaths.{version_path, boundary_path}
 use Rattle.slate_log.specs.declared.log_kind.LogKind.TheVariants.{Manifest as ManifestLog}
 use Rattle.slate_protocol.specs.Calls.{Next, Go, Finish, follow, begin}
 use Rattle.slate_protocol.specs.Chains.{Changed}
-use Rattle.slate_protocol.specs.Chains.Changed.{Stays, Gets}
+use Rattle.slate_protocol.specs.Chains.Changed.{Stays}
 use Rattle.slate_protocol.specs.Lawful.{HasDb}
-use Rattle.slate_protocol.specs.Logs.{Author, Chain, Chains, author_of, manifests, put_by, chains_put, chains_stepped, chains_state, chains_at, chains_after, world_after, chains_of}
-use Rattle.slate_protocol.specs.Phrases.{asks, goes, phrase_asks, phrase_goes, is_due}
+use Rattle.slate_protocol.specs.Logs.{Author, Chain, Chains, author_of, manifests, put_by, chains_stepped, chains_state, chains_at, chains_after, world_after, chains_of}
+use Rattle.slate_protocol.specs.Phrases.{asks, goes, is_due}
 use Rattle.slate_protocol.specs.World.{World, Done, party_of, with_party, tally_of, tallied, wrote, noted, newcomer, settled, stepped, step_state, start_state, halted, stop_state, carrying, may_start, open_at, start_at, step_at, stop_at, happens}
 use Rattle.slate_protocol.specs.declared.party.Facts.{Facts}
 use Rattle.slate_protocol.specs.declared.party.Party.{Party}
 use Rattle.slate_protocol.specs.declared.party.Purpose.{Purpose}
 use Rattle.slate_protocol.specs.declared.party.State.{State}
 use Rattle.slate_protocol.specs.declared.party.State.TheVariants.{Resting, Busy, Halted}
-use Rattle.slate_protocol.specs.declared.position.Ended.{Ended}
 use Rattle.slate_protocol.specs.declared.position.Phrase.{Phrase}
 use Rattle.slate_protocol.specs.declared.position.Position.{Position}
 use Rattle.slate_protocol.specs.declared.tally.Tally.{Tally}
@@ -37,7 +34,7 @@ use Rattle.slate_laws.proofs.Links.{same_or_not}
 use Rattle.slate_laws.proofs.Facts.{IsSound, Grows}
 use Rattle.slate_laws.proofs.Frame.{kept_read, kept_commit}
 use Rattle.slate_laws.proofs.Paths.{manifest_elsewhere, boundary_apart}
-use Rattle.slate_laws.proofs.Puts.{Leaves, grows_not, elsewhere_grows, elsewhere_sound}
+use Rattle.slate_laws.proofs.Puts.{grows_not, elsewhere_grows, elsewhere_sound}
 use Rattle.slate_laws.proofs.Steps.{PhraseKnows, PhraseBrings, AfterPhrase, other_put, phrase_step}
 use Rattle.slate_laws.proofs.Calls.{NextKnows, follow_reaches, begin_reaches}
 use Rattle.slate_laws.proofs.Tallies.{StoreAfter, store_after, tidy_after, Told, TalliesAfter, tallies_after}

@@ -1,5 +1,5 @@
 -- One step of a party's phrase: what it leaves of each log, of the store and of the tallies, and what its answer brings.
-use Rattle.std.proofs.Common.{◌≡◌, ◌≢◌, ℕ, ℤ, ◌+◌, ◌<◌, ◌≤◌, ◌^◌, max, nat_lt, Bool, true, false, List, [], ◌∷◌, Option, Some, None, is_some, Result, Ok, Err, ◌⊎◌, ⊎_elim, inl, inr, refl, sym, ap, ◌∙◌, subst, arith}
+use Rattle.std.proofs.Common.{◌≡◌, ◌≢◌, ℕ, ℤ, Bool, true, false, List, Option, Some, None, Ok, Err, refl, sym, ap, ◌∙◌, subst}
 use Rattle.std.specs.Prelude.{if◌then◌else◌, bytes_eq}
 use Rattle.slate_ids.specs.Ids.{is_db_path}
 use Rattle.slate_model.specs.Normal.{normal}
@@ -13,9 +13,9 @@ use Rattle.slate_log.specs.declared.commit.CommitPhase.{CommitPhase}
 use Rattle.slate_log.specs.declared.commit.CommitPhase.TheVariants.{Putting, Bounding, Over}
 use Rattle.slate_log.specs.declared.log_kind.LogKind.TheVariants.{Manifest as ManifestLog}
 use Rattle.slate_log.specs.declared.read.ReadPhase.{ReadPhase}
-use Rattle.slate_protocol.specs.Chains.{Link, Log, link_at, with_link}
+use Rattle.slate_protocol.specs.Chains.{Link, with_link}
 use Rattle.slate_protocol.specs.Logs.{Author, Chain, Chains, manifests, put_by, with_put, chains_put}
-use Rattle.slate_protocol.specs.Phrases.{asks, goes, phrase_asks, phrase_goes, read_on, commit_on}
+use Rattle.slate_protocol.specs.Phrases.{phrase_asks, phrase_goes, read_on, commit_on}
 use Rattle.slate_protocol.specs.World.{wrote}
 use Rattle.slate_protocol.specs.declared.party.Purpose.{Purpose}
 use Rattle.slate_protocol.specs.declared.party.Purpose.TheVariants.{Reading, Committing}

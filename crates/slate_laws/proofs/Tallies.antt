@@ -1,8 +1,7 @@
 -- The greatest committed numbers that are kept beside the store, and where a step leaves the store.
-use Rattle.std.proofs.Common.{◌≡◌, ◌≢◌, ℕ, ℤ, ◌+◌, ◌<◌, ◌≤◌, ◌^◌, max, nat_lt, Bool, true, false, List, [], ◌∷◌, Option, Some, None, is_some, refl, sym, ap, ◌∙◌, subst, arith}
-use Rattle.std.specs.Prelude.{bytes_eq, if◌then◌else◌}
+use Rattle.std.proofs.Common.{◌≡◌, ◌≢◌, ℕ, ℤ, ◌+◌, ◌<◌, ◌≤◌, ◌^◌, max, Bool, true, false, List, Option, Some, None, is_some, refl, sym, ap, ◌∙◌, subst, arith}
+use Rattle.std.specs.Prelude.{bytes_eq}
 use Rattle.slate_ids.specs.Ids.{is_db_path}
-use Rattle.slate_ids.specs.declared.object_path.ObjectPath.{ObjectPath}
 use Rattle.slate_model.specs.Normal.{normal}
 use Rattle.slate_model.specs.declared.manifest.Manifest.{Manifest}
 use Rattle.slate_store.specs.Store.{Store, object_at, stored, put_new, under, taken, effect}
@@ -14,10 +13,10 @@ use Rattle.slate_log.specs.LogPaths.{version_path}
 use Rattle.slate_log.specs.declared.commit.CommitPhase.TheVariants as committing
 use Rattle.slate_log.specs.declared.log_kind.LogKind.TheVariants.{Manifest as ManifestLog}
 use Rattle.slate_log.specs.declared.read.ReadPhase.TheVariants as reading
-use Rattle.slate_protocol.specs.Chains.{Link, link_at, top, if_new, with_link}
+use Rattle.slate_protocol.specs.Chains.{Link, link_at, top, if_new}
 use Rattle.slate_protocol.specs.Logs.{Author, Chain, Chains, manifests, put_by, chains_put}
 use Rattle.slate_protocol.specs.Phrases.{phrase_asks}
-use Rattle.slate_protocol.specs.World.{wrote, tally_of, tallied, raise_tally, to_manifest}
+use Rattle.slate_protocol.specs.World.{tally_of, tallied, raise_tally, to_manifest}
 use Rattle.slate_protocol.specs.declared.party.Purpose.{Purpose}
 use Rattle.slate_protocol.specs.declared.party.Purpose.TheVariants.{Reading, Committing}
 use Rattle.slate_protocol.specs.declared.position.Phrase.{Phrase}
@@ -29,7 +28,6 @@ use Rattle.slate_laws.proofs.Maps.{name_order, set_here, set_else}
 use Rattle.slate_laws.proofs.Facts.{IsSound, IsNext}
 use Rattle.slate_laws.proofs.Paths.{version_fine}
 use Rattle.slate_laws.proofs.Steps.{PhraseKnows, own_put, other_put, none_put}
-use Rattle.slate_laws.proofs.Turns.{chain_if}
 
 abbrev Tallies : Type 0
 Tallies = List (List ℕ × Tally)

@@ -1,5 +1,5 @@
 -- The trail alone tells the store and what is committed.
-use Rattle.std.proofs.Common.{◌≡◌, ◌≢◌, ℕ, ℤ, ◌+◌, ◌==◌, Bool, true, false, List, [], ◌∷◌, ◌++◌, map, Option, Some, None, is_some, refl, sym, ap, ◌∙◌, subst}
+use Rattle.std.proofs.Common.{◌≡◌, ℕ, ℤ, ◌+◌, ◌==◌, Bool, true, false, List, [], ◌∷◌, map, Option, Some, None, is_some, refl, sym, ap, ◌∙◌, subst}
 use Rattle.std.specs.Prelude.{if◌then◌else◌, bytes_eq}
 use Rattle.slate_model.specs.Normal.{normal}
 use Rattle.slate_model.specs.declared.manifest.Manifest.{Manifest}
@@ -9,12 +9,11 @@ use Rattle.slate_script.specs.declared.call.Call.{Call}
 use Rattle.slate_script.specs.declared.entry.Entry.{Entry}
 use Rattle.slate_script.specs.declared.event.Event.{Event}
 use Rattle.slate_script.specs.declared.event.Event.TheVariants.{Open, Start, Step, Stop}
-use Rattle.slate_script.specs.declared.party_kind.PartyKind.{PartyKind}
 use Rattle.slate_log.specs.declared.commit.CommitPhase.TheVariants as committing
 use Rattle.slate_log.specs.declared.read.ReadPhase.TheVariants as reading
-use Rattle.slate_protocol.specs.ByRows.{Standings, party_in, standings_after, entry_by, entry_store, trail_by}
+use Rattle.slate_protocol.specs.ByRows.{Standings, standings_after, entry_store, trail_by}
 use Rattle.slate_protocol.specs.Chains.{Link, link_at, if_new, with_link}
-use Rattle.slate_protocol.specs.Logs.{Author, Chain, Chains, author_of, put_by, with_put, chains_put, chains_stepped, chains_state, chains_at, chains_after, world_after, chains_of}
+use Rattle.slate_protocol.specs.Logs.{Author, Chain, Chains, author_of, put_by, with_put, chains_put, chains_stepped, chains_state, chains_at, chains_after, chains_of}
 use Rattle.slate_protocol.specs.Phrases.{asks, phrase_asks, is_due}
 use Rattle.slate_protocol.specs.Runs.{Course, Ran, going_on, run}
 use Rattle.slate_protocol.specs.Trails.{Firsts, has_number, first_put, told_by, entry_told, store_of, told, numbered}

@@ -1,12 +1,12 @@
 -- One step of each phrase, on any log and under any mark: what its store call leaves, and what its answer brings.
-use Rattle.std.proofs.Common.{◌≡◌, ◌≢◌, ℕ, ℤ, ◌+◌, ◌<◌, ◌≤◌, ◌^◌, nat_le, nat_lt, Bool, true, false, List, [], ◌∷◌, Option, Some, None, IfSome, Result, Ok, Err, refl, sym, ap, ◌∙◌, subst, arith}
+use Rattle.std.proofs.Common.{◌≡◌, ℕ, ℤ, ◌+◌, ◌<◌, ◌^◌, nat_le, nat_lt, Bool, true, false, List, Option, Some, None, IfSome, Result, Ok, Err, refl, sym, ap, ◌∙◌, subst, arith}
 use Rattle.std.proofs.lemmas.Bool.Decides.{nat_tests}
 use Rattle.std.specs.Prelude.{if◌then◌else◌}
 use Rattle.slate_ids.specs.Ids.{is_db_path}
 use Rattle.slate_ids.specs.declared.object_path.ObjectPath.{ObjectPath}
 use Rattle.slate_ids.specs.declared.error.SlateDBError.{SlateDBError}
 use Rattle.slate_ids.specs.declared.error.SlateDBError.TheVariants.{TransactionalObjectVersionExists}
-use Rattle.slate_store.specs.Machines.{Goes, Stay, End}
+use Rattle.slate_store.specs.Machines.{Stay, End}
 use Rattle.slate_store.specs.Store.{Store, Outcome, object_at, stored, put_new, listed, under, taken, effect}
 use Rattle.slate_store.specs.declared.mark.Mark.{Mark}
 use Rattle.slate_store.specs.declared.mark.Mark.TheVariants.{Good, Fail, Lost}
@@ -14,20 +14,19 @@ use Rattle.slate_store.specs.declared.object.StoredObject.{StoredObject}
 use Rattle.slate_store.specs.declared.store_answer.StoreAnswer.{StoreAnswer}
 use Rattle.slate_store.specs.declared.store_answer.StoreAnswer.TheVariants.{Fault}
 use Rattle.slate_store.specs.declared.store_call.StoreCall.TheVariants.{PutNew}
-use Rattle.slate_log.specs.Boundary.{boundary_got, greatest}
-use Rattle.slate_log.specs.LogPaths.{version_path, boundary_path, folder}
+use Rattle.slate_log.specs.Boundary.{greatest}
+use Rattle.slate_log.specs.LogPaths.{version_path, folder}
 use Rattle.slate_log.specs.Read.{read_asks, read_goes, listed_goes, got_goes, decoded_goes, boundary_goes}
 use Rattle.slate_log.specs.Commit.{commit_asks, commit_goes, bounded_goes}
-use Rattle.slate_log.specs.declared.commit.CommitPhase.{CommitPhase}
 use Rattle.slate_log.specs.declared.commit.CommitPhase.TheVariants as committing
 use Rattle.slate_log.specs.declared.read.ReadPhase.{ReadPhase}
 use Rattle.slate_log.specs.declared.read.ReadPhase.TheVariants as reading
-use Rattle.slate_protocol.specs.Chains.{Link, Log, link_at, top, with_link, IsChain, bytes_of, link_bytes}
+use Rattle.slate_protocol.specs.Chains.{Link, Log, link_at, with_link, bytes_of, link_bytes}
 use Rattle.slate_protocol.specs.World.{wrote}
 use Rattle.slate_laws.proofs.Stores.{IsTidy}
 use Rattle.slate_laws.proofs.Lists.{listed_small}
 use Rattle.slate_laws.proofs.Links.{decodes}
-use Rattle.slate_laws.proofs.Facts.{IsLog, bound_in, IsSound, IsValue, Holds, IsNext, ReadKnows, CommitKnows, ReadBrings, CommitBrings, Grows}
+use Rattle.slate_laws.proofs.Facts.{IsLog, bound_in, IsSound, IsValue, Holds, IsNext, ReadKnows, ReadBrings, CommitBrings}
 use Rattle.slate_laws.proofs.Puts.{Leaves, leaves_not, put_leaves}
 
 -- the chain after a put, where it wrote

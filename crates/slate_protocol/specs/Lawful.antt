@@ -1,5 +1,5 @@
 -- What holds of every run: one chain, fenced epochs, and the rows.
-use Rattle.std.specs.Prelude.{◌≡◌, ℕ, ◌≤◌, true, List, [], ◌∷◌, map, Option, Some, None, is_some}
+use Rattle.std.specs.Prelude.{◌≡◌, ℕ, ◌≤◌, true, List, map, Some, None, is_some}
 use Rattle.std.specs.List.{list_all}
 use Rattle.slate_ids.specs.Ids.{is_db_path}
 use Rattle.slate_script.specs.declared.db_spec.DbSpec.{DbSpec}

@@ -1,10 +1,9 @@
 -- What a run committed, by database: kept beside the state, event by event.
-use Rattle.std.specs.Prelude.{ℕ, ◌+◌, Bool, true, false, List, [], ◌∷◌, Option, Some, None, ℤ, pos, bytes_eq, if◌then◌else◌}
-use Rattle.slate_ids.specs.declared.error.SlateDBError.{SlateDBError}
+use Rattle.std.specs.Prelude.{ℕ, Bool, true, false, List, [], ◌∷◌, Option, Some, None, ℤ, pos, bytes_eq, if◌then◌else◌}
 use Rattle.slate_model.specs.declared.manifest.Manifest.{Manifest}
 use Rattle.slate_model.specs.Codec.{encoded, decoded}
 use Rattle.slate_model.specs.Normal.{normal}
-use Rattle.slate_store.specs.Store.{Store, effect}
+use Rattle.slate_store.specs.Store.{effect}
 use Rattle.slate_store.specs.declared.mark.Mark.{Mark}
 use Rattle.slate_script.specs.declared.call.Call.{Call}
 use Rattle.slate_script.specs.declared.db_spec.DbSpec.{DbSpec}
@@ -17,7 +16,7 @@ use Rattle.slate_protocol.specs.Chains.{Link, Log, with_link}
 use Rattle.slate_protocol.specs.Manifests.{manifest_refusal}
 use Rattle.slate_protocol.specs.Phrases.{asks, is_due}
 use Rattle.slate_protocol.specs.Specs.{first_bytes, listed_or_none}
-use Rattle.slate_protocol.specs.World.{World, Done, party_of, wrote, happens}
+use Rattle.slate_protocol.specs.World.{World, party_of, wrote, happens}
 use Rattle.slate_protocol.specs.declared.party.Facts.{Facts}
 use Rattle.slate_protocol.specs.declared.party.Party.{Party}
 use Rattle.slate_protocol.specs.declared.party.Purpose.{Purpose}

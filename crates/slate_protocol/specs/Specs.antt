@@ -1,5 +1,5 @@
 -- Databases as a run begins: why they are refused, and the state in which they stand.
-use Rattle.std.specs.Prelude.{ℕ, ◌==◌, ℤ, Bool, not, List, [], ◌∷◌, ◌++◌, map, Option, Some, None, is_some, Result, Ok, Err, if◌then◌else◌}
+use Rattle.std.specs.Prelude.{ℕ, ◌==◌, ℤ, Bool, not, List, [], ◌∷◌, Option, Some, None, is_some, Result, Ok, Err, if◌then◌else◌}
 use Rattle.std.specs.List.{list_any}
 use Rattle.std.specs.BTreeMap.{insert_entry}
 use Rattle.slate_ids.specs.PathText.{path_cmp}

@@ -1,5 +1,5 @@
 -- What the trail alone tells: the store, and what was committed.
-use Rattle.std.specs.Prelude.{ℕ, ◌==◌, ℤ, Bool, true, false, List, [], ◌∷◌, map, Option, Some, None, bytes_eq, if◌then◌else◌}
+use Rattle.std.specs.Prelude.{ℕ, ◌==◌, Bool, true, false, List, [], ◌∷◌, bytes_eq, if◌then◌else◌}
 use Rattle.slate_ids.specs.declared.object_path.ObjectPath.TheVariants.{Manifest as ManifestPath}
 use Rattle.slate_model.specs.declared.manifest.Manifest.{Manifest}
 use Rattle.slate_store.specs.Store.{Store, effect}

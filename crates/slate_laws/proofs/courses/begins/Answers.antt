@@ -1,5 +1,4 @@
 use Rattle.std.proofs.Common.{[], refl}
-use Rattle.slate_protocol.specs.Runs.{opening}
 use Rattle.slate_laws.proofs.courses.begins.Goals as goal
 
 pub returns : goal.returns
