@@ -26,6 +26,7 @@ abbrev pub ReadAtEnd : ReadPhase Manifest → Step Ended → Type 0
 ReadAtEnd from (Done (Ok (Version n m))) = from ≡ Bounding n m
 ReadAtEnd from _ = Unit {0}
 
+-- the same of a position
 abbrev pub AtEnd : Position → Step Ended → Type 0
 AtEnd from (Done (Ok (Version n m))) = from ≡ at_read from.db (Bounding n m)
 AtEnd from _ = Unit {0}

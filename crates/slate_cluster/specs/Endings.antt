@@ -141,6 +141,7 @@ abbrev pub IsLawfulScript : Option ClusterCause → Script → Type 0
 IsLawfulScript None script = Lawful (ran_of script).course
 IsLawfulScript (Some c) script = Unit {0}
 
+-- the run of what the bytes stand for is lawful, where there is one
 abbrev pub IsLawfulRun : Result Script ScriptPlace → Type 0
 IsLawfulRun (Ok script) = IsLawfulScript (cause_of_specs script.databases) script
 IsLawfulRun (Err p) = Unit {0}

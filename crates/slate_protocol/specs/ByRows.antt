@@ -70,6 +70,7 @@ entry_by (Stop n) None s = Idle n
 
 -- ---- the standing after an entry
 
+-- the facts after a reply, or none
 abbrev pub facts_by : Facts → Option Reply → Facts
 facts_by facts None = facts
 facts_by facts (Some reply) = facts_after facts reply
@@ -79,13 +80,16 @@ abbrev pub doing_by : Option Reply → Doing → Doing
 doing_by None doing = doing
 doing_by (Some reply) doing = Rests
 
+-- one answer more to the call under way
 abbrev pub with_answer : Answered → Doing → Doing
 with_answer answer (Answers call answers) = Answers call (answers ++ answer ∷ [])
 with_answer answer doing = doing
 
+-- a party after an entry that has a reply, or none
 abbrev pub replied : Standing → Option Reply → Doing → Standing
 replied standing reply doing = record { facts = facts_by standing.facts reply; doing = doing_by reply doing }
 
+-- what is said of the party of an event after its entry
 abbrev pub standing_after : Event → Entry → Option Standing → Option Standing
 standing_after (Open n kind db) (Opened k) standing = Some (record { facts = record { kind = kind; db = db; epoch = None }; doing = Rests })
 standing_after (Start n call) (Started k reply) (Some standing) = Some (replied standing reply (Answers call []))
@@ -93,12 +97,14 @@ standing_after (Step n moment mark) (Called k asked at by answer reply) (Some st
 standing_after (Stop n) (Stopped k) (Some standing) = Some (record { facts = standing.facts; doing = Stays })
 standing_after _ _ standing = standing
 
+-- the party of an event
 abbrev pub party_in : Event → ℕ
 party_in (Open n kind db) = n
 party_in (Start n call) = n
 party_in (Step n moment mark) = n
 party_in (Stop n) = n
 
+-- what is said of each party after an event
 abbrev pub standings_after : Event → Entry → Standings → Standings
 standings_after e x standings = λ n. if n == party_in e then standing_after e x (standings n) else standings n
 

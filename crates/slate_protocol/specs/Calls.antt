@@ -103,10 +103,12 @@ commit_next facts call now m (Ok (Some commit)) = Go (Committing now) (at_commit
 commit_next facts call now m (Ok None) = Finish (reply_to call m)
 commit_next facts call now m (Err e) = Finish (Refused e)
 
+-- what follows a read that found a version
 abbrev pub after_version : Facts → Call → Purpose → ℤ → ℕ → Manifest → Next
 after_version facts call Reading now n m = commit_next facts call now m (commit_of facts call now n m)
 after_version facts call (Committing made) now n m = Finish (Refused StoreFault)
 
+-- what follows a commit that stood
 abbrev pub after_commit : Call → Purpose → ℕ → Manifest → Next
 after_commit call (Committing made) n m = Finish (reply_to call m)
 after_commit call Reading n m = Finish (Refused StoreFault)

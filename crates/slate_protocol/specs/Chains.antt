@@ -24,6 +24,7 @@ abbrev pub top : {V A : Type 0} → List (Link V A) → ℕ
 top [] = 0
 top (l ∷ c) = l.number
 
+-- one version more, where there is none of its number
 abbrev pub if_new : {V A : Type 0} → Option (Link V A) → Link V A → List (Link V A) → List (Link V A)
 if_new None l c = l ∷ c
 if_new (Some old) l c = c
@@ -68,10 +69,12 @@ IsChain log [] = Unit {0}
 IsChain log (first ∷ []) = IsFirst log first
 IsChain log (new ∷ old ∷ c) = Follows log old new × IsChain log (old ∷ c)
 
+-- the bytes of an object, where there is one
 abbrev pub bytes_of : Option StoredObject → Option (List ℕ)
 bytes_of None = None
 bytes_of (Some object) = Some object.bytes
 
+-- the bytes of a version, where there is one
 abbrev pub link_bytes : {V A : Type 0} → Option (Link V A) → Option (List ℕ)
 link_bytes None = None
 link_bytes (Some l) = Some l.bytes

@@ -28,6 +28,7 @@ fresh_id (WriteCheckpoint id lifetime source name) = Some id
 fresh_id (ReplaceCheckpoint old id lifetime source name) = Some id
 fresh_id _ = None
 
+-- the ids that there are: one, or none
 abbrev pub one_or_none : Option (List ℕ) → List (List ℕ)
 one_or_none None = []
 one_or_none (Some id) = id ∷ []

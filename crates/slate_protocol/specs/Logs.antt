@@ -56,6 +56,7 @@ manifests = record {
   fence = λ a m. fence_of a.facts a.call m;
 }
 
+-- the chain of a log of manifests
 abbrev pub Chain : Type 0
 Chain = List (Link Manifest Author)
 
@@ -68,6 +69,7 @@ abbrev pub put_by : Author → Phrase → Option (Link Manifest Author)
 put_by author (Commit (Putting n bytes m)) = Some (record { number = n; bytes = bytes; value = manifests.normal m; by = Some author })
 put_by author _ = None
 
+-- the chain after a put, where there was one
 abbrev pub with_put : Option (Link Manifest Author) → Chain → Chain
 with_put None c = c
 with_put (Some l) c = with_link l c
@@ -77,15 +79,18 @@ abbrev pub chains_put : Bool → List ℕ → Option (Link Manifest Author) → 
 chains_put false db link chains = chains
 chains_put true db link chains = λ d. if bytes_eq d db then with_put link (chains d) else chains d
 
+-- the chains after the store call of a step
 abbrev pub chains_stepped : World → ℕ → Facts → Call → Purpose → Position → ℤ → Mark → Chains → Chains
 chains_stepped w n facts call purpose position moment mark chains =
     chains_put (wrote w.store (effect mark (asks position) moment w.store).store) position.db (put_by (author_of n facts call purpose) position.phrase) chains
 
+-- the chains after a step of a party in this state
 abbrev pub chains_state : World → ℕ → Facts → State → ℤ → Mark → Chains → Chains
 chains_state w n facts Resting moment mark chains = chains
 chains_state w n facts (Busy call purpose position) moment mark chains = if is_due position then chains_stepped w n facts call purpose position moment mark chains else chains
 chains_state w n facts Halted moment mark chains = chains
 
+-- the chains after a step of the party that is there
 abbrev pub chains_at : World → ℕ → Option Party → ℤ → Mark → Chains → Chains
 chains_at w n None moment mark chains = chains
 chains_at w n (Some party) moment mark chains = chains_state w n party.facts party.state moment mark chains

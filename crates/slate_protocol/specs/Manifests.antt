@@ -10,6 +10,7 @@ use Rattle.slate_model.specs.Tracker.{inserted}
 use Rattle.slate_txn.specs.Raise.{next_epoch}
 use Rattle.slate_log.specs.declared.right.Right.{Right}
 
+-- the refusal that names a rule
 abbrev pub refused_by : Option UpdateRule → Option SlateDBError
 refused_by None = None
 refused_by (Some rule) = Some (UpdateRefused rule)
@@ -18,6 +19,7 @@ refused_by (Some rule) = Some (UpdateRefused rule)
 abbrev pub manifest_refusal : ℕ → Manifest → Manifest → Right → Option SlateDBError
 manifest_refusal id old new right = refused_by (refusal_of_update id old new)
 
+-- the epoch that fences writers
 abbrev pub writer_epoch_of : Manifest → ℕ
 writer_epoch_of m = m.writer_epoch
 

@@ -12,6 +12,7 @@ use Rattle.slate_protocol.specs.declared.tally.Tally.{Tally}
 abbrev pub commits_line : List ℕ × Tally → List ℕ
 commits_line t = codes "commits " ++ t.0 ++ codes " manifest" ++ spaced t.1.manifest ++ codes " compactions" ++ spaced t.1.compactions ++ 10 ∷ []
 
+-- the path of an object
 abbrev pub path_at : ObjectPath × StoredObject → ObjectPath
 path_at o = o.0
 

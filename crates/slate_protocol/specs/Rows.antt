@@ -28,6 +28,7 @@ pub data Row : Type 0 where
   Asks : StoreCall → Row
   Replies : Reply → Row
 
+-- the row where a call stands so
 abbrev pub row_of : Next → Row
 row_of (Go purpose position) = Asks (asks position)
 row_of (Finish reply) = Replies reply

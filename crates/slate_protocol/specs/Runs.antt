@@ -21,6 +21,7 @@ pub record Ran : Type 0 where
   pub course : Course
   pub bad : Option ℕ
 
+-- the course after one more event
 abbrev pub going_on : Course → Done → Course
 going_on course done = record { specs = course.specs; trail = course.trail ++ done.entry ∷ []; world = done.world }
 

@@ -48,6 +48,7 @@ carried_from carried (spec ∷ specs) = and_more (ids_from carried spec.manifest
 
 -- ---- values
 
+-- the bytes of an encoding, where the value is its own normal form
 abbrev pub bytes_where : Bool → Result (List ℕ) SlateDBError → Option (List ℕ)
 bytes_where normal (Ok bytes) = if normal then Some bytes else None
 bytes_where normal (Err e) = None
@@ -86,6 +87,7 @@ cause_of_specs specs =
     else (if not (is_some (firsts_from [] specs)) then Some cause.Value
     else (if list_any names_other specs then Some cause.Checkpoints else None)))
 
+-- a list, empty where there is none
 abbrev pub listed_or_none : {X : Type 0} → Option (List X) → List X
 listed_or_none None = []
 listed_or_none (Some xs) = xs

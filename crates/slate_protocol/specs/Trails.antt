@@ -21,6 +21,7 @@ store_of (x ∷ xs) s = store_of xs (entry_store x s)
 abbrev pub Firsts : Type 0
 Firsts = List ℕ → List (ℕ × List ℕ)
 
+-- whether a number was put already
 abbrev pub has_number : ℕ → List (ℕ × List ℕ) → Bool
 has_number n [] = false
 has_number n (v ∷ vs) = if v.0 == n then true else has_number n vs
@@ -34,6 +35,7 @@ abbrev pub told_by : Bool → StoreCall → Firsts → Firsts
 told_by true (PutNew (ManifestPath db n) bytes) firsts = λ d. if bytes_eq d db then first_put n bytes (firsts d) else firsts d
 told_by _ _ firsts = firsts
 
+-- what an entry commits
 abbrev pub entry_told : Entry → Store → Firsts → Firsts
 entry_told (Called n call moment mark answer reply) s firsts = told_by (wrote s (effect mark call moment s).store) call firsts
 entry_told _ s firsts = firsts

@@ -43,6 +43,7 @@ pub record World : Type 0 where
 abbrev pub db_cmp : List ℕ → List ℕ → Ordering
 db_cmp = slice_cmp nat_cmp
 
+-- the greatest committed numbers of a database
 abbrev pub tally_of : List ℕ → List (List ℕ × Tally) → Option Tally
 tally_of db tallies = lookup (is_at (db_cmp db)) tallies
 
@@ -56,13 +57,16 @@ with_party n party parties = set_value (is_at (nat_cmp n)) parties party
 
 -- ---- what a store call counts for
 
+-- the databases with another tally of one of them, where it is there
 abbrev pub raise_tally : Option Tally → List ℕ → (Tally → Tally) → List (List ℕ × Tally) → List (List ℕ × Tally)
 raise_tally None db f tallies = tallies
 raise_tally (Some tally) db f tallies = set_value (is_at (db_cmp db)) tallies (f tally)
 
+-- a tally with a manifest of this number
 abbrev pub to_manifest : ℕ → Tally → Tally
 to_manifest n tally = record { manifest = max tally.manifest n; compactions = tally.compactions }
 
+-- a tally with a record of this number
 abbrev pub to_record : ℕ → Tally → Tally
 to_record n tally = record { manifest = tally.manifest; compactions = max tally.compactions n }
 
@@ -101,9 +105,11 @@ pub record Done : Type 0 where
   pub entry : Entry
   pub world : World
 
+-- an event that did nothing is noted
 abbrev pub noted : ℕ → World → Done
 noted n w = record { entry = Idle n; world = w }
 
+-- the epoch after a reply: an open that was done gives one
 abbrev pub epoch_after : Option ℕ → Reply → Option ℕ
 epoch_after epoch (Epoch e) = Some e
 epoch_after epoch _ = epoch
@@ -117,6 +123,7 @@ abbrev pub settled : Facts → Call → Next → Party
 settled facts call (Go purpose position) = record { facts = facts; state = Busy call purpose position }
 settled facts call (Finish reply) = record { facts = facts_after facts reply; state = Resting }
 
+-- the reply, where the call has ended
 abbrev pub reply_of : Next → Option Reply
 reply_of (Go purpose position) = None
 reply_of (Finish reply) = Some reply
@@ -169,6 +176,7 @@ stop_state w n facts _ = record { entry = Stopped n; world = record w { parties 
 abbrev pub carrying : ℕ → Call → World → World
 carrying n call w = record w { carried = with_ids (ids_of n call) w.carried }
 
+-- an open, by whether the number came before and the database is there
 abbrev pub open_at : World → ℕ → PartyKind → List ℕ → Option Party → Option Tally → Option Done
 open_at w n kind db None (Some tally) = Some (record { entry = Opened n; world = record w { parties = insert_entry nat_cmp w.parties n (newcomer kind db) } })
 open_at w n kind db _ _ = None
@@ -177,14 +185,17 @@ open_at w n kind db _ _ = None
 abbrev pub may_start : World → Call → Party → Bool
 may_start w call party = has_call party.facts.kind call && not (is_stale w.carried call)
 
+-- a start, by the party that is there
 abbrev pub start_at : World → ℕ → Call → Option Party → Option Done
 start_at w n call None = None
 start_at w n call (Some party) = if may_start w call party then Some (start_state (carrying n call w) n party.facts party.state call) else None
 
+-- a step, by the party that is there
 abbrev pub step_at : World → ℕ → ℤ → Mark → Option Party → Option Done
 step_at w n moment mark None = None
 step_at w n moment mark (Some party) = Some (step_state w n party.facts party.state moment mark)
 
+-- a stop, by the party that is there
 abbrev pub stop_at : World → ℕ → Option Party → Option Done
 stop_at w n None = None
 stop_at w n (Some party) = Some (stop_state w n party.facts party.state)
@@ -196,6 +207,7 @@ happens w (Start n call) = start_at w n call (party_of n w.parties)
 happens w (Step n moment mark) = step_at w n moment mark (party_of n w.parties)
 happens w (Stop n) = stop_at w n (party_of n w.parties)
 
+-- whether a start is bad, by the party that is there
 abbrev pub refuses_start : World → Call → Option Party → Bool
 refuses_start w call None = true
 refuses_start w call (Some party) = not (has_call party.facts.kind call) || is_stale w.carried call
