@@ -189,7 +189,7 @@ module _ (d : List ℕ) (named : is_db_path d ≡ true) where
       let has = has_bytes firsts spec specs objects k in
       let parts = named_parts spec specs names in
       let found = λ (link' : is_some (tally_of d (more tallies spec)) ≡ false → last_at own (insert_entry path_cmp firsts (first_path spec) (has.bytes, spec.modified)) ≡ None).
-          firsts_found (more tallies spec) (insert_entry path_cmp firsts (first_path spec) (has.bytes, spec.modified)) specs all objects parts.1 new.rest has.rest link' in
+      firsts_found (more tallies spec) (insert_entry path_cmp firsts (first_path spec) (has.bytes, spec.modified)) specs all objects parts.1 new.rest has.rest link' in
       ⊎_elim
       (λ (e : d ≡ spec.path).
       let there = ap is_some (tally_here d tallies spec e) in
@@ -197,7 +197,7 @@ module _ (d : List ℕ) (named : is_db_path d ≡ true) where
       let absent = link (subst (λ x. is_some (tally_of x tallies) ≡ false) (sym e) new.absent) in
       let same : own ≡ first_path spec = ap (λ x. version_path ManifestLog x 1) e in
       let here : last_at own (insert_entry path_cmp firsts (first_path spec) (has.bytes, spec.modified)) ≡ Some (has.bytes, spec.modified)
-          = subst (λ (p : ObjectPath). last_at own (insert_entry path_cmp firsts p (has.bytes, spec.modified)) ≡ Some (has.bytes, spec.modified)) same (last_here own (has.bytes, spec.modified) firsts absent) in
+      = subst (λ (p : ObjectPath). last_at own (insert_entry path_cmp firsts p (has.bytes, spec.modified)) ≡ Some (has.bytes, spec.modified)) same (last_here own (has.bytes, spec.modified) firsts absent) in
       found (λ no. absurd (cc (there, no)))
       ∙ (ap (λ (o : Option DbSpec). first_for o (last_at own (insert_entry path_cmp firsts (first_path spec) (has.bytes, spec.modified)))) alone
       ∙ (here ∙ (ap (λ (o : Option (List ℕ)). Some (listed_or_none o, spec.modified)) (sym has.is) ∙ sym (ap (λ (o : Option DbSpec). first_for o (last_at own firsts)) (spec_here d spec specs e))))))

@@ -305,7 +305,6 @@ event_inv w chains (Step n moment mark) d h i = went (party_of n w.parties) refl
     went (Some p) at h =
         let same : step_state w n p.facts p.state moment mark ≡ d = cc in
         subst (λ (r : Done). Inv r.world (chains_state w n p.facts p.state moment mark chains)) same (step_inv w chains n p moment mark i at p.state (i.parties n p at).knows)
-
 event_inv w chains (Stop n) d h i = went (party_of n w.parties) refl h
   where
     went : (o : Option Party) → party_of n w.parties ≡ o → stop_at w n o ≡ Some d → Inv d.world chains

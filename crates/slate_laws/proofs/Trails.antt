@@ -111,7 +111,6 @@ event_told w (Step n moment mark) d firsts chains h is = went (party_of n w.part
     went (Some p) is =
         let same : step_state w n p.facts p.state moment mark ≡ d = cc in
         subst (λ (r : Done). Tells (entry_told r.entry w.store firsts) (chains_state w n p.facts p.state moment mark chains)) same (step_told w n p.facts p.state moment mark firsts chains h)
-
 event_told w (Stop n) d firsts chains h is = went (party_of n w.parties) is
   where
     went : (o : Option Party) → stop_at w n o ≡ Some d → Tells (entry_told d.entry w.store firsts) chains
