@@ -7,5 +7,7 @@ pub mod Once
 pub mod TryRead
 pub mod Versions
 pub mod Commit
+pub mod Advance
+pub mod Delete
 pub mod Committing
 pub mod Numbers

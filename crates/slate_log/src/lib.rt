@@ -1,9 +1,11 @@
 //! The versioned log, over any codec, rules and store: reads, commits and lists of its versions.
 #![tactic(auto)]
 
+mod advance;
 mod boundary;
 mod commit;
 mod committing;
+mod delete;
 mod log_kind;
 #[cfg(test)]
 mod log_tests;
@@ -18,7 +20,9 @@ mod sequenced;
 mod try_read;
 mod versions;
 
+pub use advance::AdvancePhase;
 pub use commit::{CommitPhase, prepare};
+pub use delete::DeletePhase;
 pub use log_kind::LogKind;
 pub use read::ReadPhase;
 pub use right::Right;
