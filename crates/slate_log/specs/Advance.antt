@@ -1,5 +1,5 @@
 -- Advance: get the boundary, and where it is below a number put that number in its place.
-use Rattle.std.specs.Prelude.{◌≡◌, ℕ, ◌<◌, ◌==◌, Bool, true, false, List, Option, Some, None, Result, Ok, Err, ⊤, nat_le, decimal, if◌then◌else◌}
+use Rattle.std.specs.Prelude.{◌≡◌, ℕ, ◌<◌, ◌==◌, Bool, true, false, List, Option, Some, None, Result, Ok, Err, nat_le, decimal, if◌then◌else◌}
 use Rattle.slate_ids.specs.declared.error.SlateDBError.{SlateDBError}
 use Rattle.slate_ids.specs.declared.error.SlateDBError.TheVariants.{StoreFault, Corrupt}
 use Rattle.slate_ids.specs.declared.error.FormatName.TheVariants.{Boundary as BoundaryFormat}
@@ -24,7 +24,7 @@ advance_asks db log Over = Get (boundary_path log db)
 
 -- how an advance goes on
 abbrev pub AdvanceGoes : Type 0
-AdvanceGoes = Goes AdvancePhase ⊤
+AdvanceGoes = Goes AdvancePhase (Unit {0})
 
 -- it is reached where the boundary is at least the number, and else the object of this tag is to be replaced
 abbrev pub read_goes_to : ℕ → ℕ → Option ℕ → AdvanceGoes

@@ -1,5 +1,5 @@
 -- Delete: get the boundary, and delete a version that isn't above it; or delete it as it is.
-use Rattle.std.specs.Prelude.{ℕ, Bool, true, false, List, Option, Some, None, Result, Ok, Err, ⊤, nat_le, if◌then◌else◌}
+use Rattle.std.specs.Prelude.{ℕ, Bool, true, false, List, Option, Some, None, Result, Ok, Err, nat_le, if◌then◌else◌}
 use Rattle.slate_ids.specs.declared.error.SlateDBError.{SlateDBError}
 use Rattle.slate_ids.specs.declared.error.SlateDBError.TheVariants.{StoreFault, Corrupt, InvalidDeletion}
 use Rattle.slate_ids.specs.declared.error.FormatName.TheVariants.{Boundary as BoundaryFormat}
@@ -22,7 +22,7 @@ delete_asks db log Over = Get (boundary_path log db)
 
 -- how a deletion goes on
 abbrev pub DeleteGoes : Type 0
-DeleteGoes = Goes DeletePhase ⊤
+DeleteGoes = Goes DeletePhase (Unit {0})
 
 -- a version above the boundary is not deleted
 abbrev pub checked_goes : ℕ → Option ℕ → DeleteGoes
