@@ -1,5 +1,5 @@
 -- Checkpoints of a manifest, and what each checkpoint call makes of it.
-use Rattle.std.specs.Prelude.{ℕ, ◌+◌, ◌==◌, ℤ, pos, ◌+ℤ◌, Bool, not, List, [], ◌∷◌, ◌++◌, map, filter, Option, Some, None, is_some, Result, Ok, Err, bytes_eq, if◌then◌else◌}
+use Rattle.std.specs.Prelude.{ℕ, ◌+◌, ◌==◌, ℤ, pos, ◌+ℤ◌, int_le, Bool, false, not, List, [], ◌∷◌, ◌++◌, map, filter, Option, Some, None, is_some, Result, Ok, Err, bytes_eq, if◌then◌else◌}
 use Rattle.std.specs.Int.{w64, saturate_signed}
 use Rattle.std.specs.List.{list_any}
 use Rattle.slate_ids.specs.declared.error.SlateDBError.{SlateDBError}
@@ -77,3 +77,16 @@ refreshed id lifetime now m = if has_checkpoint id m then Ok (Some (with_checkpo
 -- what the deletion of a checkpoint makes of a manifest: nothing where the id isn't there
 abbrev pub deleted : List ℕ → Manifest → Result (Option Manifest) SlateDBError
 deleted id m = if has_checkpoint id m then Ok (Some (with_checkpoints (without_checkpoint id m.checkpoints) m)) else Ok None
+
+-- whether what expires then is expired at a moment: its expiry isn't above it
+abbrev pub is_over : ℤ → Option ℤ → Bool
+is_over now None = false
+is_over now (Some expire_time) = int_le expire_time now
+
+-- whether a checkpoint is expired at a moment
+abbrev pub is_expired : ℤ → Checkpoint → Bool
+is_expired now c = is_over now c.expire_time
+
+-- what a pass of the collector makes of a manifest first: it goes without the expired checkpoints, and nothing where there is none
+abbrev pub unexpired : ℤ → Manifest → Result (Option Manifest) SlateDBError
+unexpired now m = if list_any (is_expired now) m.checkpoints then Ok (Some (with_checkpoints (filter (λ c. not (is_expired now c)) m.checkpoints) m)) else Ok None
