@@ -7,7 +7,7 @@ use Rattle.std.specs.Ordering.{nat_cmp}
 use Rattle.std.specs.Cmp.Lexicographic.{slice_cmp}
 use Rattle.std.specs.declared.cmp.Ordering.{Ordering}
 use Rattle.slate_script.specs.declared.call.Call.{Call}
-use Rattle.slate_script.specs.declared.call.Call.TheVariants.{OpenWriter, Flush, WriteCheckpoint, ReplaceCheckpoint, RefreshCheckpoint, DeleteCheckpoint}
+use Rattle.slate_script.specs.declared.call.Call.TheVariants.{OpenWriter, Flush, WriteCheckpoint, ReplaceCheckpoint, RefreshCheckpoint, DeleteCheckpoint, Pass}
 use Rattle.slate_protocol.specs.declared.carrier.Carrier.{Carrier}
 
 -- the ids that were carried, ascending, each with what is known of it
@@ -41,6 +41,7 @@ named_ids (WriteCheckpoint id lifetime source name) = one_or_none source
 named_ids (ReplaceCheckpoint old id lifetime source name) = old ∷ one_or_none source
 named_ids (RefreshCheckpoint id lifetime) = id ∷ []
 named_ids (DeleteCheckpoint id) = id ∷ []
+named_ids (Pass pass min_age dry_run filter) = []
 
 -- whether an id that is to be fresh was carried before, or is among these
 abbrev pub is_stale_id : Carried → List (List ℕ) → Option (List ℕ) → Bool

@@ -20,7 +20,7 @@ use Rattle.slate_protocol.specs.World.{World, party_of, wrote, happens}
 use Rattle.slate_protocol.specs.declared.party.Facts.{Facts}
 use Rattle.slate_protocol.specs.declared.party.Party.{Party}
 use Rattle.slate_protocol.specs.declared.party.Purpose.{Purpose}
-use Rattle.slate_protocol.specs.declared.party.Purpose.TheVariants.{Reading, Committing}
+use Rattle.slate_protocol.specs.declared.party.Purpose.TheVariants.{Reading, Committing, Passing}
 use Rattle.slate_protocol.specs.declared.party.State.{State}
 use Rattle.slate_protocol.specs.declared.party.State.TheVariants.{Resting, Busy, Halted}
 use Rattle.slate_protocol.specs.declared.position.Phrase.{Phrase}
@@ -38,6 +38,7 @@ pub record Author : Type 0 where
 abbrev pub made_at : Purpose → ℤ
 made_at Reading = pos 0
 made_at (Committing now) = now
+made_at Passing = pos 0
 
 -- the author of what a party commits
 abbrev pub author_of : ℕ → Facts → Call → Purpose → Author

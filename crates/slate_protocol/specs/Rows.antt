@@ -17,7 +17,7 @@ Answered = StoreAnswer × ℤ
 abbrev pub after_answers : Facts → Call → Next → List Answered → Next
 after_answers facts call next [] = next
 after_answers facts call (Finish reply) (a ∷ answers) = Finish reply
-after_answers facts call (Go purpose position) (a ∷ answers) = after_answers facts call (follow facts call purpose a.1 (goes position a.0)) answers
+after_answers facts call (Go purpose position) (a ∷ answers) = after_answers facts call (follow facts call purpose a.1 (goes position a.1 a.0)) answers
 
 -- where a call stands after its answers so far
 abbrev pub stands_after : Facts → Call → List Answered → Next

@@ -137,7 +137,7 @@ abbrev pub stepped : World → ℕ → Facts → Call → Purpose → Position �
 stepped w n facts call purpose position moment mark =
     let asked = asks position in
     let outcome = effect mark asked moment w.store in
-    let next = follow facts call purpose moment (goes position outcome.answer) in
+    let next = follow facts call purpose moment (goes position moment outcome.answer) in
     record {
       entry = Called n asked moment mark outcome.answer (reply_of next);
       world = record {

@@ -20,6 +20,8 @@ pub enum Purpose {
     Reading,
     /// What the call made of the manifest read is committed. It was made at this moment, the one at which the read ended.
     Committing(Millis),
+    /// What is no longer needed is picked and deleted.
+    Passing,
 }
 
 /// What a party does.

@@ -1,5 +1,6 @@
 //! Where a party stands in its call.
 
+use slate_gc::{PassCounts, PassOptions, PassPhase};
 use slate_ids::DbPath;
 use slate_log::{CommitPhase, ReadPhase};
 use slate_model::Manifest;
@@ -11,6 +12,8 @@ pub enum Phrase {
     Read(ReadPhase<Manifest>),
     /// The next manifest is committed.
     Commit(CommitPhase<Manifest>),
+    /// A pass of the garbage collector over the manifests, with these options.
+    Pass(PassOptions, PassPhase),
 }
 
 /// The phrase under way, and the database whose manifests it speaks of.
@@ -29,4 +32,6 @@ pub enum Ended {
     Version(u64, Manifest),
     /// A commit: the number and the value that were put.
     Committed(u64, Manifest),
+    /// A pass: how many versions it picked, deleted, and failed to delete.
+    Passed(PassCounts),
 }
