@@ -1,33 +1,44 @@
 -- In a call under way a store call is due.
-use Rattle.std.proofs.Common.{◌≡◌, ℕ, ℤ, nat_le, Bool, true, false, List, Option, Some, None, Result, Ok, Err, refl, ap}
+use Rattle.std.proofs.Common.{◌≡◌, ℕ, ℤ, ◌==◌, nat_le, Bool, true, false, List, [], ◌∷◌, Option, Some, None, Result, Ok, Err, refl, ap}
 use Rattle.std.specs.Prelude.{if◌then◌else◌}
 use Rattle.slate_ids.specs.declared.error.SlateDBError.{SlateDBError}
-use Rattle.slate_ids.specs.declared.error.SlateDBError.TheVariants.{TransactionalObjectVersionExists}
+use Rattle.slate_ids.specs.declared.error.SlateDBError.TheVariants.{TransactionalObjectVersionExists, ManifestMissing}
 use Rattle.slate_model.specs.Codec.{decoded}
 use Rattle.slate_model.specs.declared.manifest.Manifest.{Manifest}
 use Rattle.slate_store.specs.Machines.{Goes, Stay, End}
+use Rattle.slate_store.specs.declared.object.ObjectMetadata.{ObjectMetadata}
 use Rattle.slate_store.specs.declared.object.StoredObject.{StoredObject}
 use Rattle.slate_store.specs.declared.store_answer.StoreAnswer.{StoreAnswer}
-use Rattle.slate_store.specs.declared.store_answer.StoreAnswer.TheVariants.{Found, Got, Created}
+use Rattle.slate_store.specs.declared.store_answer.StoreAnswer.TheVariants.{Found, Got, Created, Replaced, Deleted, Fault}
 use Rattle.slate_script.specs.declared.call.Call.{Call}
-use Rattle.slate_script.specs.declared.call.Call.TheVariants.{OpenWriter, Flush, WriteCheckpoint, ReplaceCheckpoint, RefreshCheckpoint, DeleteCheckpoint}
-use Rattle.slate_log.specs.Boundary.{boundary_got, greatest}
+use Rattle.slate_script.specs.declared.call.Call.TheVariants.{OpenWriter, Flush, WriteCheckpoint, ReplaceCheckpoint, RefreshCheckpoint, DeleteCheckpoint, Pass}
+use Rattle.slate_log.specs.Advance.{AdvanceGoes, advance_goes, advance_due, read_goes_to, bound_goes, written_goes}
+use Rattle.slate_log.specs.Boundary.{boundary_of, boundary_got, greatest}
 use Rattle.slate_log.specs.Commit.{commit_goes, commit_due, created_goes, bounded_goes}
 use Rattle.slate_log.specs.Read.{read_goes, read_due, listed_goes, got_goes, decoded_goes, boundary_goes}
+use Rattle.slate_gc.specs.Pass as gc
+use Rattle.slate_gc.specs.Pass.{PassGoes, pass_goes, pass_due}
+use Rattle.slate_gc.specs.Picks.{Dated, greatest_number, picks}
+use Rattle.slate_gc.specs.declared.pass_counts.PassCounts.{PassCounts}
+use Rattle.slate_gc.specs.declared.pass_options.PassOptions.{PassOptions}
+use Rattle.slate_gc.specs.declared.pass_phase.PassPhase.{PassPhase}
+use Rattle.slate_gc.specs.declared.pass_phase.PassPhase.TheVariants as passing
+use Rattle.slate_log.specs.declared.advance.AdvancePhase.{AdvancePhase}
+use Rattle.slate_log.specs.declared.advance.AdvancePhase.TheVariants as advancing
 use Rattle.slate_log.specs.declared.commit.CommitPhase.{CommitPhase}
 use Rattle.slate_log.specs.declared.commit.CommitPhase.TheVariants as committing
 use Rattle.slate_log.specs.declared.log_kind.LogKind.TheVariants.{Manifest as ManifestLog}
 use Rattle.slate_log.specs.declared.read.ReadPhase.{ReadPhase}
 use Rattle.slate_log.specs.declared.read.ReadPhase.TheVariants as reading
-use Rattle.slate_protocol.specs.Calls.{Next, Go, Finish, commit_of, commit_next, after_phrase, follow, read_next, once_open, begin}
-use Rattle.slate_protocol.specs.Phrases.{goes, is_due, phrase_goes, read_on, commit_on}
+use Rattle.slate_protocol.specs.Calls.{Next, Go, Finish, commit_of, done_next, commit_next, after_phrase, follow, read_next, once_open, begin}
+use Rattle.slate_protocol.specs.Phrases.{goes, is_due, phrase_goes, read_on, commit_on, pass_on}
 use Rattle.slate_protocol.specs.declared.party.Facts.{Facts}
 use Rattle.slate_protocol.specs.declared.party.Purpose.{Purpose}
-use Rattle.slate_protocol.specs.declared.party.Purpose.TheVariants.{Reading, Committing}
+use Rattle.slate_protocol.specs.declared.party.Purpose.TheVariants.{Reading, Committing, Passing}
 use Rattle.slate_protocol.specs.declared.position.Ended.{Ended}
-use Rattle.slate_protocol.specs.declared.position.Ended.TheVariants.{NoVersion, Version, Committed}
+use Rattle.slate_protocol.specs.declared.position.Ended.TheVariants.{NoVersion, Version, Committed, Passed}
 use Rattle.slate_protocol.specs.declared.position.Phrase.{Phrase}
-use Rattle.slate_protocol.specs.declared.position.Phrase.TheVariants.{Read, Commit}
+use Rattle.slate_protocol.specs.declared.position.Phrase.TheVariants.{Read, Commit, Pass}
 use Rattle.slate_protocol.specs.declared.position.Position.{Position}
 use Rattle.slate_laws.proofs.Manifests.{call_made}
 
@@ -85,6 +96,88 @@ commits_due (committing.Putting n bytes m) (Created tag) = created_due n m tag
 commits_due (committing.Bounding n m) (Got o) = bounded_due n m (boundary_got o)
 commits_due _ _ = tt
 
+-- ---- passes
+
+abbrev AdvanceAt : AdvanceGoes → Type 0
+AdvanceAt g = DueAt advance_due g
+
+abbrev PassAt : PassGoes → Type 0
+PassAt g = DueAt pass_due g
+
+zero_due : (n : ℕ) (b : Bool) → AdvanceAt (if b then End advancing.Over (Ok tt) else Stay (advancing.Creating n))
+zero_due n true = tt
+zero_due n false = refl
+
+lower_due : (n tag : ℕ) (b : Bool) → AdvanceAt (if b then End advancing.Over (Ok tt) else Stay (advancing.Replacing n tag))
+lower_due n tag true = tt
+lower_due n tag false = refl
+
+read_to_due : (n tag : ℕ) (b : Option ℕ) → AdvanceAt (read_goes_to n tag b)
+read_to_due n tag None = tt
+read_to_due n tag (Some b) = lower_due n tag (nat_le n b)
+
+bound_due : (n : ℕ) (o : Option StoredObject) → AdvanceAt (bound_goes n o)
+bound_due n None = zero_due n (n == 0)
+bound_due n (Some object) = read_to_due n object.e_tag (boundary_of object.bytes)
+
+written_due : (n : ℕ) (tag : Option ℕ) → AdvanceAt (written_goes n tag)
+written_due n None = refl
+written_due n (Some tag) = tt
+
+advances_due : (phase : AdvancePhase) (answer : StoreAnswer) → AdvanceAt (advance_goes phase answer)
+advances_due (advancing.Bounding n) (Got o) = bound_due n o
+advances_due (advancing.Creating n) (Created tag) = written_due n tag
+advances_due (advancing.Replacing n old) (Replaced tag) = written_due n tag
+advances_due _ _ = tt
+
+pass_listed_due : (now : ℤ) (found : List ObjectMetadata) (n : Option ℕ) → PassAt (gc.listed_goes now found n)
+pass_listed_due now found None = tt
+pass_listed_due now found (Some n) = refl
+
+pass_decoded_due : (options : PassOptions) (now : ℤ) (n : ℕ) (dates : List Dated) (r : Result Manifest SlateDBError) → PassAt (gc.decoded_goes options now n dates r)
+pass_decoded_due options now n dates (Ok m) = refl
+pass_decoded_due options now n dates (Err e) = tt
+
+pass_got_due : (options : PassOptions) (now : ℤ) (n : ℕ) (dates : List Dated) (o : Option StoredObject) → PassAt (gc.got_goes decoded options now n dates o)
+pass_got_due options now n dates None = tt
+pass_got_due options now n dates (Some object) = pass_decoded_due options now n dates (decoded object.bytes)
+
+next_due : (ns : List ℕ) (k : Option ℕ) → PassAt (gc.bounded_next ns k)
+next_due ns None = tt
+next_due ns (Some k) = refl
+
+pass_above_due : (n : ℕ) (ns : List ℕ) (b : Bool) → PassAt (if b then End passing.Over (Err (ManifestMissing n)) else gc.bounded_next ns (greatest_number ns))
+pass_above_due n ns true = tt
+pass_above_due n ns false = next_due ns (greatest_number ns)
+
+pass_bounded_due : (n : ℕ) (ns : List ℕ) (b : Option ℕ) → PassAt (gc.bounded_goes n ns b)
+pass_bounded_due n ns None = tt
+pass_bounded_due n ns (Some b) = pass_above_due n ns (nat_le n b)
+
+left_due : (ns : List ℕ) (counts : PassCounts) → PassAt (gc.deletes_next ns counts)
+left_due [] counts = tt
+left_due (n ∷ ns) counts = refl
+
+pass_advanced_due : (options : PassOptions) (ns : List ℕ) (g : AdvanceGoes) → AdvanceAt g → PassAt (gc.advanced_goes options ns g)
+pass_advanced_due options ns (Stay phase) h = h
+pass_advanced_due options ns (End phase (Ok u)) h = left_due (picks options ns) _
+pass_advanced_due options ns (End phase (Err e)) h = tt
+
+deletes_due : (ns : List ℕ) (counts : PassCounts) (answer : StoreAnswer) → PassAt (gc.delete_goes ns counts answer)
+deletes_due (n ∷ ns) counts Deleted = left_due ns _
+deletes_due (n ∷ ns) counts Fault = left_due ns _
+deletes_due _ counts _ = tt
+
+passes_due : (options : PassOptions) (now : ℤ) (phase : PassPhase) (answer : StoreAnswer) → PassAt (pass_goes decoded options now phase answer)
+passes_due options now passing.Listing (Found found) = pass_listed_due now found (greatest ManifestLog found)
+passes_due options now (passing.Getting at n dates) (Got o) = pass_got_due options at n dates o
+passes_due options now (passing.Bounding n ns) (Got o) = pass_bounded_due n ns (boundary_got o)
+passes_due options now (passing.Advancing phase ns) answer = pass_advanced_due options ns (advance_goes phase answer) (advances_due phase answer)
+passes_due options now (passing.Deleting ns counts) answer = deletes_due ns counts answer
+passes_due options now _ _ = tt
+
+-- ---- calls
+
 abbrev PositionAt : Goes Position Ended → Type 0
 PositionAt g = DueAt is_due g
 
@@ -96,34 +189,53 @@ commit_around : (db : List ℕ) (g : Goes (CommitPhase Manifest) (ℕ × Manifes
 commit_around db (Stay phase) h = h
 commit_around db (End phase r) h = tt
 
-phrase_at : (db : List ℕ) (phrase : Phrase) (answer : StoreAnswer) → PositionAt (phrase_goes db phrase answer)
-phrase_at db (Read phase) answer = read_around db (read_goes ManifestLog decoded phase answer) (reads_due phase answer)
-phrase_at db (Commit phase) answer = commit_around db (commit_goes phase answer) (commits_due phase answer)
+pass_around : (db : List ℕ) (options : PassOptions) (g : PassGoes) → PassAt g → PositionAt (pass_on db options g)
+pass_around db options (Stay phase) h = h
+pass_around db options (End phase r) h = tt
+
+phrase_at : (db : List ℕ) (phrase : Phrase) (now : ℤ) (answer : StoreAnswer) → PositionAt (phrase_goes db phrase now answer)
+phrase_at db (Read phase) now answer = read_around db (read_goes ManifestLog decoded phase answer) (reads_due phase answer)
+phrase_at db (Commit phase) now answer = commit_around db (commit_goes phase answer) (commits_due phase answer)
+phrase_at db (Pass options phase) now answer = pass_around db options (pass_goes decoded options now phase answer) (passes_due options now phase answer)
 
 -- where a call goes on, a store call is due
 abbrev pub DueNext : Next → Type 0
 DueNext (Go purpose position) = is_due position ≡ true
 DueNext (Finish reply) = Unit {0}
 
+done_due : (facts : Facts) (m : Manifest) (call : Call) → DueNext (done_next facts call m)
+done_due facts m OpenWriter = tt
+done_due facts m (Flush seq tick) = tt
+done_due facts m (WriteCheckpoint id lifetime source name) = tt
+done_due facts m (ReplaceCheckpoint old id lifetime source name) = tt
+done_due facts m (RefreshCheckpoint id lifetime) = tt
+done_due facts m (DeleteCheckpoint id) = tt
+done_due facts m (Pass pass min_age dry_run filter) = refl
+
 commit_at : (facts : Facts) (call : Call) (now : ℤ) (n : ℕ) (m : Manifest) (r : Result (Option (CommitPhase Manifest)) SlateDBError) → commit_of facts call now n m ≡ r → DueNext (commit_next facts call now m r)
 commit_at facts call now n m (Ok (Some commit)) h = ap (λ (c : CommitPhase Manifest). commit_due c) (call_made facts call now n m commit h).prepared.is
-commit_at facts call now n m (Ok None) h = tt
+commit_at facts call now n m (Ok None) h = done_due facts m call
 commit_at facts call now n m (Err e) h = tt
 
 phrase_next : (facts : Facts) (call : Call) (purpose : Purpose) (now : ℤ) (ended : Ended) → DueNext (after_phrase facts call purpose now ended)
 phrase_next facts call purpose now NoVersion = tt
 phrase_next facts call Reading now (Version n m) = commit_at facts call now n m (commit_of facts call now n m) refl
 phrase_next facts call (Committing made) now (Version n m) = tt
+phrase_next facts call Passing now (Version n m) = tt
 phrase_next facts call Reading now (Committed n m) = tt
-phrase_next facts call (Committing made) now (Committed n m) = tt
+phrase_next facts call (Committing made) now (Committed n m) = done_due facts m call
+phrase_next facts call Passing now (Committed n m) = tt
+phrase_next facts call Reading now (Passed counts) = tt
+phrase_next facts call (Committing made) now (Passed counts) = tt
+phrase_next facts call Passing now (Passed counts) = tt
 
 follow_at : (facts : Facts) (call : Call) (purpose : Purpose) (now : ℤ) (g : Goes Position Ended) → PositionAt g → DueNext (follow facts call purpose now g)
 follow_at facts call purpose now (Stay position) h = h
 follow_at facts call purpose now (End position (Ok ended)) h = phrase_next facts call purpose now ended
 follow_at facts call purpose now (End position (Err e)) h = tt
 
-pub follow_due : (facts : Facts) (call : Call) (purpose : Purpose) (now : ℤ) (position : Position) (answer : StoreAnswer) → DueNext (follow facts call purpose now (goes position answer))
-follow_due facts call purpose now position answer = follow_at facts call purpose now (goes position answer) (phrase_at position.db position.phrase answer)
+pub follow_due : (facts : Facts) (call : Call) (purpose : Purpose) (now : ℤ) (position : Position) (answer : StoreAnswer) → DueNext (follow facts call purpose now (goes position now answer))
+follow_due facts call purpose now position answer = follow_at facts call purpose now (goes position now answer) (phrase_at position.db position.phrase now answer)
 
 open_due : (facts : Facts) (epoch : Option ℕ) → DueNext (once_open epoch (read_next facts))
 open_due facts None = tt
@@ -136,3 +248,4 @@ begin_due facts (WriteCheckpoint id lifetime source name) = refl
 begin_due facts (ReplaceCheckpoint old id lifetime source name) = refl
 begin_due facts (RefreshCheckpoint id lifetime) = refl
 begin_due facts (DeleteCheckpoint id) = refl
+begin_due facts (Pass pass min_age dry_run filter) = refl

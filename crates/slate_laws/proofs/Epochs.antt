@@ -5,7 +5,7 @@ use Rattle.std.specs.Prelude.{if◌then◌else◌}
 use Rattle.slate_ids.specs.declared.error.SlateDBError.TheVariants.{Fenced}
 use Rattle.slate_model.specs.declared.manifest.Manifest.{Manifest}
 use Rattle.slate_script.specs.declared.call.Call.{Call}
-use Rattle.slate_script.specs.declared.call.Call.TheVariants.{OpenWriter, Flush, WriteCheckpoint, ReplaceCheckpoint, RefreshCheckpoint, DeleteCheckpoint}
+use Rattle.slate_script.specs.declared.call.Call.TheVariants.{OpenWriter, Flush, WriteCheckpoint, ReplaceCheckpoint, RefreshCheckpoint, DeleteCheckpoint, Pass}
 use Rattle.slate_txn.specs.Fencing.{fence}
 use Rattle.slate_protocol.specs.Calls.{right_of, fenced, fence_of}
 use Rattle.slate_protocol.specs.Chains.{Link, link_at, IsChain, Follows}
@@ -46,6 +46,7 @@ author_above facts (WriteCheckpoint id lifetime source name) old new epoch passe
 author_above facts (ReplaceCheckpoint replaced id lifetime source name) old new epoch passed up h = absurd cc
 author_above facts (RefreshCheckpoint id lifetime) old new epoch passed up h = absurd cc
 author_above facts (DeleteCheckpoint id) old new epoch passed up h = absurd cc
+author_above facts (Pass pass min_age dry_run filter) old new epoch passed up h = absurd cc
 author_above facts OpenWriter old new epoch passed up h = let same : new.writer_epoch ≡ epoch = cc in omega arith
 author_above facts (Flush seq tick) old new epoch passed up h = by_epoch facts.epoch passed h
   where

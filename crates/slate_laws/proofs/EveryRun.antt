@@ -2,7 +2,6 @@
 use Rattle.std.proofs.Common.{◌≡◌, ℕ, List, map, Some, refl, sym, ap, ◌∙◌, subst, arith}
 use Rattle.slate_script.specs.declared.db_spec.DbSpec.{DbSpec}
 use Rattle.slate_script.specs.declared.event.Event.{Event}
-use Rattle.slate_log.specs.Boundary.{boundary_got}
 use Rattle.slate_protocol.specs.ByRows.{nobody}
 use Rattle.slate_protocol.specs.Lawful.{IsAccepted, HasDb, chains_at_end, IsRun, IsLawful, Lawful}
 use Rattle.slate_protocol.specs.Logs.{Chains, manifests, world_after, opening_chains}
@@ -10,7 +9,6 @@ use Rattle.slate_protocol.specs.Runs.{Course, opening}
 use Rattle.slate_protocol.specs.Specs.{opening_world}
 use Rattle.slate_protocol.specs.Trails.{numbered, store_of, told}
 use Rattle.slate_protocol.specs.World.{World}
-use Rattle.slate_laws.proofs.Facts.{bound_in}
 use Rattle.slate_laws.proofs.GoingOn.{run_world}
 use Rattle.slate_laws.proofs.Epochs.{chain_fenced}
 use Rattle.slate_laws.proofs.Opening.{opening_inv}
@@ -29,16 +27,16 @@ pub course_inv : (course : Course) (past : IsRun course) → Inv course.world (c
 course_inv course past =
     subst (λ (w : World). Inv w (chains_at_end course.specs past.events)) (sym (run_world past.events 0 (opening course.specs) course past.run)) (after_inv course.specs past.events past.accepted)
 
--- no boundary has moved at this stage, so that each committed version stands
 log_lawful : (course : Course) (db : List ℕ) (chains : Chains) → Inv course.world chains → HasDb course.world db → IsLawful course db (chains db)
 log_lawful course db chains i has =
     let log = i.logs db has in
-    let none : bound_in manifests db course.world.store ≡ Some 0 = ap boundary_got (i.unmoved db has) in
-    let zero : log.bound ≡ 0 = cc (log.read, none) in
     record {
       chain = log.chain;
       greatest = i.told db;
-      stands = λ n one le. let small = log.small in log.above n (omega arith) (omega arith);
+      bound = log.bound;
+      read = log.read;
+      below = log.below;
+      stands = λ n lt le. let small = log.small in log.above n lt (omega arith);
       fenced = chain_fenced (chains db) log.chain;
     }
 

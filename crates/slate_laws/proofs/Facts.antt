@@ -2,23 +2,22 @@
 use Rattle.std.proofs.Common.{◌≡◌, ℕ, ◌+◌, ◌<◌, ◌≤◌, ◌^◌, List, Option, Some, None, Ok, Err}
 use Rattle.slate_store.specs.Machines.{Goes, Stay, End}
 use Rattle.slate_store.specs.Store.{Store, object_at}
-use Rattle.slate_log.specs.Boundary.{boundary_got}
+use Rattle.slate_store.specs.declared.object.StoredObject.{StoredObject}
+use Rattle.slate_log.specs.Boundary.{boundary_of}
 use Rattle.slate_log.specs.LogPaths.{boundary_path}
+use Rattle.slate_log.specs.declared.advance.AdvancePhase.{AdvancePhase}
+use Rattle.slate_log.specs.declared.advance.AdvancePhase.TheVariants as advancing
 use Rattle.slate_log.specs.declared.commit.CommitPhase.{CommitPhase}
 use Rattle.slate_log.specs.declared.commit.CommitPhase.TheVariants as committing
 use Rattle.slate_log.specs.declared.read.ReadPhase.{ReadPhase}
 use Rattle.slate_log.specs.declared.read.ReadPhase.TheVariants as reading
 use Rattle.slate_log.specs.declared.right.Right.{Right}
-use Rattle.slate_protocol.specs.Chains.{Link, Log, link_at, top, IsChain, Stands}
+use Rattle.slate_protocol.specs.Chains.{Link, Log, link_at, top, IsChain, bound_in, Stands}
 
 -- what is read back of a value, and the rules on it
 pub record IsLog {V A : Type 0} (log : Log V A) : Type 0 where
   pub round : (v : V) (bytes : List ℕ) → log.encoded v ≡ Ok bytes → log.decoded bytes ≡ Ok (log.normal v)
   pub plain : (n : ℕ) (old v : V) (right : Right) → log.refusal n old v right ≡ None → log.refusal n old (log.normal v) right ≡ None
-
--- the boundary of a log, where it can be read
-abbrev pub bound_in : {V A : Type 0} → Log V A → List ℕ → Store → Option ℕ
-bound_in log db s = boundary_got (object_at (boundary_path log.kind db) s)
 
 -- what holds of a log at each moment
 pub record IsSound {V A : Type 0} (log : Log V A) (db : List ℕ) (s : Store) (c : List (Link V A)) : Type 0 where
@@ -29,6 +28,7 @@ pub record IsSound {V A : Type 0} (log : Log V A) (db : List ℕ) (s : Store) (c
   pub read : bound_in log db s ≡ Some bound
   pub below : bound < top c
   pub above : (k : ℕ) → bound < k → k < 2 ^ 64 → Stands log db s c k
+  pub tagged : (o : StoredObject) → object_at (boundary_path log.kind db) s ≡ Some o → o.e_tag ≤ s.last_tag
 
 -- the committed value of a number
 pub record IsValue {V A : Type 0} (c : List (Link V A)) (n : ℕ) (v : V) : Type 0 where
@@ -64,6 +64,35 @@ CommitKnows log db s c author (committing.Putting n bytes v) = IsNext log c auth
 CommitKnows log db s c author (committing.Bounding n v) = Holds log db s c n (log.normal v)
 CommitKnows log db s c author committing.Over = ⊥
 
+-- the boundary object, where it still has this tag, is at most a number
+pub record IsAtMost {V A : Type 0} (log : Log V A) (db : List ℕ) (s : Store) (tag n : ℕ) : Type 0 where
+  pub given : tag ≤ s.last_tag
+  pub most : (o : StoredObject) → object_at (boundary_path log.kind db) s ≡ Some o → o.e_tag ≡ tag → (b : ℕ) × (boundary_of o.bytes ≡ Some b) × (b ≤ n)
+
+-- what one knows that moves the boundary: it is to stay below the greatest
+abbrev pub AdvanceKnows : {V A : Type 0} → Log V A → List ℕ → Store → List (Link V A) → AdvancePhase → Type 0
+AdvanceKnows log db s c (advancing.Bounding n) = n < top c
+AdvanceKnows log db s c (advancing.Creating n) = n < top c
+AdvanceKnows log db s c (advancing.Replacing n tag) = (n < top c) × IsAtMost log db s tag n
+AdvanceKnows log db s c advancing.Over = ⊥
+
+-- the number to which a boundary is moved
+abbrev pub target : AdvancePhase → ℕ
+target (advancing.Bounding n) = n
+target (advancing.Creating n) = n
+target (advancing.Replacing n tag) = n
+target advancing.Over = 0
+
+-- the boundary is at least a number
+pub record IsReached {V A : Type 0} (log : Log V A) (db : List ℕ) (s : Store) (n : ℕ) : Type 0 where
+  pub reached : (b : ℕ) → bound_in log db s ≡ Some b → n ≤ b
+
+-- what the end of an advance may be relied on for: the boundary is at least its number
+abbrev pub AdvanceBrings : {V A : Type 0} → Log V A → List ℕ → Store → List (Link V A) → ℕ → Goes AdvancePhase (Unit {0}) → Type 0
+AdvanceBrings log db s c n (Stay phase) = (target phase ≡ n) × AdvanceKnows log db s c phase
+AdvanceBrings log db s c n (End phase (Ok u)) = IsReached log db s n
+AdvanceBrings log db s c n (End phase (Err e)) = Unit {0}
+
 -- what the end of a read may be relied on for: a version that it answers is a committed one
 abbrev pub ReadBrings : {V A : Type 0} → Log V A → List ℕ → Store → List (Link V A) → Goes (ReadPhase V) (Option (ℕ × V)) → Type 0
 ReadBrings log db s c (Stay phase) = ReadKnows log db s c phase
@@ -77,7 +106,11 @@ CommitBrings log db s c author (Stay phase) = CommitKnows log db s c author phas
 CommitBrings log db s c author (End phase (Ok version)) = IsValue c version.0 (log.normal version.1)
 CommitBrings log db s c author (End phase (Err e)) = Unit {0}
 
--- what a step can do to a log, as far as the others can see: the boundary doesn't fall, and what was committed stays
+-- what a step can do to a log, as far as the others can see: the boundary doesn't fall, a tag is given once, and what was
+-- committed stays
 pub record Grows {V A : Type 0} (log : Log V A) (db : List ℕ) (s : Store) (c : List (Link V A)) (s' : Store) (c' : List (Link V A)) : Type 0 where
   pub bound : (b' : ℕ) → bound_in log db s' ≡ Some b' → (b : ℕ) × (bound_in log db s ≡ Some b) × (b ≤ b')
+  pub later : s.last_tag ≤ s'.last_tag
+  pub tags : (o : StoredObject) → object_at (boundary_path log.kind db) s' ≡ Some o → o.e_tag ≤ s.last_tag → object_at (boundary_path log.kind db) s ≡ Some o
+  pub rises : top c ≤ top c'
   pub kept : (k : ℕ) (l : Link V A) → link_at k c ≡ Some l → link_at k c' ≡ Some l

@@ -1,12 +1,14 @@
 -- What a party knows stays true under whatever the others do.
-use Rattle.std.proofs.Common.{ℕ, List, arith}
+use Rattle.std.proofs.Common.{ℕ, ◌≤◌, List, arith}
 use Rattle.slate_store.specs.Store.{Store}
+use Rattle.slate_log.specs.declared.advance.AdvancePhase.{AdvancePhase}
+use Rattle.slate_log.specs.declared.advance.AdvancePhase.TheVariants as advancing
 use Rattle.slate_log.specs.declared.commit.CommitPhase.{CommitPhase}
 use Rattle.slate_log.specs.declared.commit.CommitPhase.TheVariants as committing
 use Rattle.slate_log.specs.declared.read.ReadPhase.{ReadPhase}
 use Rattle.slate_log.specs.declared.read.ReadPhase.TheVariants as reading
 use Rattle.slate_protocol.specs.Chains.{Link, Log}
-use Rattle.slate_laws.proofs.Facts.{IsValue, Holds, IsNext, ReadKnows, CommitKnows, Grows}
+use Rattle.slate_laws.proofs.Facts.{IsValue, Holds, IsNext, IsAtMost, IsReached, ReadKnows, CommitKnows, AdvanceKnows, Grows}
 
 module _ {V A : Type 0} (log : Log V A) (db : List ℕ) (s : Store) (c : List (Link V A)) (s' : Store) (c' : List (Link V A)) (g : Grows log db s c s' c') where
   pub kept_value : (n : ℕ) (v : V) → IsValue c n v → IsValue c' n v
@@ -28,3 +30,21 @@ module _ {V A : Type 0} (log : Log V A) (db : List ℕ) (s : Store) (c : List (L
   kept_commit author (committing.Putting n bytes v) h = kept_next author n bytes v h
   kept_commit author (committing.Bounding n v) h = kept_holds n (log.normal v) h
   kept_commit author committing.Over h = h
+
+  kept_most : (tag n : ℕ) → IsAtMost log db s tag n → IsAtMost log db s' tag n
+  kept_most tag n h =
+      let later = g.later in
+      let given = h.given in
+      record { given = omega arith; most = λ o at same. h.most o (g.tags o at (omega arith)) same }
+
+  pub kept_reached : (n : ℕ) → IsReached log db s n → IsReached log db s' n
+  kept_reached n h = record { reached = λ b' read. let was = g.bound b' read in let le = was.2 in let here = h.reached was.0 was.1 in omega arith }
+
+  pub kept_advance : (phase : AdvancePhase) → AdvanceKnows log db s c phase → AdvanceKnows log db s' c' phase
+  kept_advance (advancing.Bounding n) h = let up = g.rises in omega arith
+  kept_advance (advancing.Creating n) h = let up = g.rises in omega arith
+  kept_advance (advancing.Replacing n tag) h =
+      let up = g.rises in
+      let lt = h.0 in
+      (omega arith, kept_most tag n h.1)
+  kept_advance advancing.Over h = h

@@ -4,10 +4,13 @@ pub mod Facts
 pub mod Frame
 pub mod Paths
 pub mod Puts
+pub mod Moves
 pub mod Lists
 pub mod Turns
 pub mod Maps
 pub mod Manifests
+pub mod Advances
+pub mod Passes
 pub mod Steps
 pub mod Calls
 pub mod Tallies

@@ -164,6 +164,7 @@ module _ (specs : List DbSpec) (accepted : IsAccepted specs) where
       read = ap boundary_got no_boundary;
       below = omega arith;
       above = first_stands;
+      tagged = λ o at. absurd (cc (no_boundary, at));
     }
 
     tally_top : (t : Tally) → tally_of d w.tallies ≡ Some t → t.manifest ≡ top (opening_chains specs d)
@@ -177,6 +178,5 @@ module _ (specs : List DbSpec) (accepted : IsAccepted specs) where
     named = λ d h. named d h;
     logs = λ d h. subst (λ (c : Chain). IsSound manifests d w.store c) (sym (chain_is d h)) (sound d h);
     told = λ d t h. tally_top d (ap is_some h) t h;
-    unmoved = λ d h. no_boundary d h;
     parties = λ n p h. absurd cc;
   }

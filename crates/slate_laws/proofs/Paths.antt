@@ -1,5 +1,5 @@
 -- The paths of a log are apart from one another, and from those of other logs.
-use Rattle.std.proofs.Common.{◌≡◌, ◌≢◌, ℕ, ◌<◌, ◌^◌, List, true, sym}
+use Rattle.std.proofs.Common.{◌≡◌, ◌≢◌, ℕ, ◌<◌, ◌^◌, List, true, sym, subst}
 use Rattle.slate_ids.specs.FinePath.{IsFine}
 use Rattle.slate_ids.specs.Ids.{is_db_path}
 use Rattle.slate_ids.specs.PathText.{path_text}
@@ -44,3 +44,24 @@ module _ (db : List ℕ) (named : is_db_path db ≡ true) where
     version = λ n a e. let same : paths.Manifest db n ≡ paths.Manifest other k = same_path (paths.Manifest db n) (paths.Manifest other k) (named, a) (other_named, small) e in ne cc;
     boundary = λ e. let same : paths.ManifestBoundary db ≡ paths.Manifest other k = same_path (paths.ManifestBoundary db) (paths.Manifest other k) named (other_named, small) e in absurd cc;
   }
+
+  -- and so is its boundary
+  pub bound_elsewhere : (other : List ℕ) → is_db_path other ≡ true → db ≢ other → IsElsewhere Manifest db (paths.ManifestBoundary other)
+  bound_elsewhere other other_named ne = record {
+    version = λ n a e. let same : paths.Manifest db n ≡ paths.ManifestBoundary other = same_path (paths.Manifest db n) (paths.ManifestBoundary other) (named, a) other_named e in absurd cc;
+    boundary = λ e. let same : paths.ManifestBoundary db ≡ paths.ManifestBoundary other = same_path (paths.ManifestBoundary db) (paths.ManifestBoundary other) named other_named e in ne cc;
+  }
+
+-- a version of a database's manifests, or their boundary
+pub data IsOwn (db : List ℕ) (p : ObjectPath) : Type 0 where
+  Version : (n : ℕ) → n < 2 ^ 64 → p ≡ paths.Manifest db n → IsOwn db p
+  Boundary : p ≡ paths.ManifestBoundary db → IsOwn db p
+
+pub own_fine : (db : List ℕ) (p : ObjectPath) → is_db_path db ≡ true → IsOwn db p → IsFine p
+own_fine db p named (Version n small e) = subst IsFine (sym e) (named, small)
+own_fine db p named (Boundary e) = subst IsFine (sym e) named
+
+-- what is another database's own is elsewhere
+pub own_elsewhere : (db other : List ℕ) (p : ObjectPath) → is_db_path db ≡ true → is_db_path other ≡ true → db ≢ other → IsOwn other p → IsElsewhere Manifest db p
+own_elsewhere db other p named other_named ne (Version n small e) = subst (IsElsewhere Manifest db) (sym e) (manifest_elsewhere db named other n other_named small ne)
+own_elsewhere db other p named other_named ne (Boundary e) = subst (IsElsewhere Manifest db) (sym e) (bound_elsewhere db named other other_named ne)

@@ -1,16 +1,17 @@
 -- What a put leaves of a log.
-use Rattle.std.proofs.Common.{◌≡◌, ◌≢◌, ℕ, ℤ, ◌+◌, ◌<◌, ◌^◌, true, List, [], ◌∷◌, Option, Some, None, ⊎_elim, refl, sym, ap, ◌∙◌, subst, arith}
+use Rattle.std.proofs.Common.{◌≡◌, ◌≢◌, ℕ, ℤ, ◌+◌, ◌<◌, ◌≤◌, ◌^◌, true, List, [], ◌∷◌, Option, Some, None, ⊎_elim, refl, sym, ap, ◌∙◌, subst, arith}
 use Rattle.slate_ids.specs.Ids.{is_db_path}
 use Rattle.slate_ids.specs.declared.object_path.ObjectPath.{ObjectPath}
 use Rattle.slate_store.specs.Store.{Store, object_at, stored}
+use Rattle.slate_store.specs.declared.object.StoredObject.{StoredObject}
 use Rattle.slate_log.specs.Boundary.{boundary_got}
 use Rattle.slate_log.specs.LogPaths.{version_path, boundary_path}
-use Rattle.slate_protocol.specs.Chains.{Link, Log, link_at, top, if_new, with_link, IsChain, Follows, bytes_of, link_bytes, Stands, Changed}
+use Rattle.slate_protocol.specs.Chains.{Link, Log, link_at, top, if_new, with_link, IsChain, Follows, bytes_of, link_bytes, bound_in, Stands, Changed}
 use Rattle.slate_protocol.specs.Chains.Changed.{Stays, Gets}
 use Rattle.slate_laws.proofs.Stores.{at_put, at_else}
 use Rattle.slate_laws.proofs.Links.{link_here, link_there, same_or_not, next_is_top}
 use Rattle.slate_laws.proofs.Paths.{IsElsewhere, versions_apart, boundary_apart}
-use Rattle.slate_laws.proofs.Facts.{IsLog, bound_in, IsSound, Holds, IsNext, Grows}
+use Rattle.slate_laws.proofs.Facts.{IsLog, IsSound, Holds, IsNext, Grows}
 
 -- what one effect leaves of a log, by an author
 pub record Leaves {V A : Type 0} (log : Log V A) (db : List ℕ) (author : A) (s : Store) (c : List (Link V A)) (s' : Store) (c' : List (Link V A)) : Type 0 where
@@ -20,18 +21,21 @@ pub record Leaves {V A : Type 0} (log : Log V A) (db : List ℕ) (author : A) (s
 
 module _ {V A : Type 0} (log : Log V A) (db : List ℕ) where
   pub grows_not : (s : Store) (c : List (Link V A)) → Grows log db s c s c
-  grows_not s c = record { bound = λ b read. (b, read, omega arith); kept = λ k l h. h }
+  grows_not s c = record { bound = λ b read. (b, read, omega arith); later = omega arith; tags = λ o at le. at; rises = omega arith; kept = λ k l h. h }
 
   pub leaves_not : (author : A) (s : Store) (c : List (Link V A)) → IsSound log db s c → Leaves log db author s c s c
   leaves_not author s c i = record { sound = i; grows = grows_not s c; changed = Stays refl }
 
   -- a put elsewhere leaves the log as it is
   module _ (s : Store) (c : List (Link V A)) (p : ObjectPath) (bytes : List ℕ) (moment : ℤ) (away : IsElsewhere log.kind db p) where
+    same_object : object_at (boundary_path log.kind db) (stored p bytes moment s) ≡ object_at (boundary_path log.kind db) s
+    same_object = at_else p (boundary_path log.kind db) bytes moment s away.boundary
+
     same_bound : bound_in log db (stored p bytes moment s) ≡ bound_in log db s
-    same_bound = ap boundary_got (at_else p (boundary_path log.kind db) bytes moment s away.boundary)
+    same_bound = ap boundary_got same_object
 
     pub elsewhere_grows : Grows log db s c (stored p bytes moment s) c
-    elsewhere_grows = record { bound = λ b read. (b, sym same_bound ∙ read, omega arith); kept = λ k l h. h }
+    elsewhere_grows = record { bound = λ b read. (b, sym same_bound ∙ read, omega arith); later = omega arith; tags = λ o at le. sym same_object ∙ at; rises = omega arith; kept = λ k l h. h }
 
     pub elsewhere_sound : IsSound log db s c → IsSound log db (stored p bytes moment s) c
     elsewhere_sound i = record {
@@ -42,6 +46,7 @@ module _ {V A : Type 0} (log : Log V A) (db : List ℕ) where
       read = same_bound ∙ i.read;
       below = i.below;
       above = λ k lt small. ap bytes_of (at_else p (version_path log.kind db k) bytes moment s (away.version k small)) ∙ i.above k lt small;
+      tagged = λ o at. let le = i.tagged o (sym same_object ∙ at) in omega arith;
     }
 
   -- the put of the next version
@@ -53,8 +58,14 @@ module _ {V A : Type 0} (log : Log V A) (db : List ℕ) where
     abbrev after : Store
     after = stored (version_path log.kind db n) bytes moment s
 
+    put_object : object_at (boundary_path log.kind db) after ≡ object_at (boundary_path log.kind db) s
+    put_object = at_else (version_path log.kind db n) (boundary_path log.kind db) bytes moment s (boundary_apart db named log.kind n h.small)
+
     put_bound : bound_in log db after ≡ bound_in log db s
-    put_bound = ap boundary_got (at_else (version_path log.kind db n) (boundary_path log.kind db) bytes moment s (boundary_apart db named log.kind n h.small))
+    put_bound = ap boundary_got put_object
+
+    put_tagged : (o : StoredObject) → object_at (boundary_path log.kind db) after ≡ Some o → o.e_tag ≤ after.last_tag
+    put_tagged o at = let le = i.tagged o (sym put_object ∙ at) in omega arith
 
     put_here : bytes_of (object_at (version_path log.kind db n) after) ≡ Some bytes
     put_here = ap bytes_of (at_put (version_path log.kind db n) bytes moment s)
@@ -110,9 +121,13 @@ module _ {V A : Type 0} (log : Log V A) (db : List ℕ) where
               read = put_bound ∙ i.read;
               below = omega arith;
               above = put_stands;
+              tagged = put_tagged;
             };
             grows = record {
               bound = λ b read. (b, sym put_bound ∙ read, omega arith);
+              later = omega arith;
+              tags = λ o at le. sym put_object ∙ at;
+              rises = omega arith;
               kept = λ k l at. link_there k new c (λ (e' : n ≡ k). absurd (cc (fresh, at, e'))) ∙ at;
             };
             changed = Gets new author refl refl refl;
@@ -140,8 +155,9 @@ module _ {V A : Type 0} (log : Log V A) (db : List ℕ) where
           read = put_bound ∙ i.read;
           below = i.below;
           above = late_stands;
+          tagged = put_tagged;
         };
-        grows = record { bound = λ b read. (b, sym put_bound ∙ read, omega arith); kept = λ k l at. at };
+        grows = record { bound = λ b read. (b, sym put_bound ∙ read, omega arith); later = omega arith; tags = λ o at le. sym put_object ∙ at; rises = omega arith; kept = λ k l at. at };
         changed = Stays refl;
       }
 

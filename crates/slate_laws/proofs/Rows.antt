@@ -31,10 +31,10 @@ use Rattle.slate_laws.proofs.Maps.{number_order, set_here, set_else, insert_here
 
 -- one answer more
 more_answers : (facts : Facts) (call : Call) (answers : List Answered) (a : Answered) (from : Next) (purpose : Purpose) (position : Position) → after_answers facts call from answers ≡ Go purpose position
-    → after_answers facts call from (answers ++ a ∷ []) ≡ follow facts call purpose a.1 (goes position a.0)
+    → after_answers facts call from (answers ++ a ∷ []) ≡ follow facts call purpose a.1 (goes position a.1 a.0)
 more_answers facts call [] a from purpose position h = ap (λ (x : Next). after_answers facts call x (a ∷ [])) h
 more_answers facts call (b ∷ answers) a (Finish reply) purpose position h = absurd cc
-more_answers facts call (b ∷ answers) a (Go p q) purpose position h = more_answers facts call answers a (follow facts call p b.1 (goes q b.0)) purpose position h
+more_answers facts call (b ∷ answers) a (Go p q) purpose position h = more_answers facts call answers a (follow facts call p b.1 (goes q b.1 b.0)) purpose position h
 
 -- the reply of a row is that of the call
 row_reply : (next : Next) → reply_in (row_of next) ≡ reply_of next
@@ -149,7 +149,7 @@ module _ (n : ℕ) (w : World) (p : Party) (at : party_of n w.parties ≡ Some p
       → Brought (Step n moment mark) (Some s) w (stepped w n p.facts call purpose position moment mark)
   step_on moment mark call purpose position answers is h =
       let answer = (effect mark (asks position) moment w.store).answer in
-      let next = follow p.facts call purpose moment (goes position answer) in
+      let next = follow p.facts call purpose moment (goes position moment answer) in
       let more = more_answers p.facts call answers (answer, moment) (begin p.facts call) purpose position h in
       let asked : row s.facts call answers ≡ Asks (asks position) = ap (λ (f : Facts). row f call answers) e ∙ ap row_of h in
       let reply : reply_in (row s.facts call (answers ++ (answer, moment) ∷ [])) ≡ reply_of next = ap (λ (f : Facts). reply_in (row f call (answers ++ (answer, moment) ∷ []))) e ∙ (ap (λ (x : Next). reply_in (row_of x)) more ∙ row_reply next) in

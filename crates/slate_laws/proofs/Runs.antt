@@ -33,14 +33,16 @@ use Rattle.slate_laws.proofs.Maps.{number_order, set_here, set_else, insert_here
 use Rattle.slate_laws.proofs.Links.{same_or_not}
 use Rattle.slate_laws.proofs.Facts.{IsSound, Grows}
 use Rattle.slate_laws.proofs.Frame.{kept_read, kept_commit}
-use Rattle.slate_laws.proofs.Paths.{manifest_elsewhere, boundary_apart}
+use Rattle.slate_laws.proofs.Paths.{own_elsewhere}
+use Rattle.slate_laws.proofs.Moves.{gone_grows, gone_sound}
+use Rattle.slate_laws.proofs.Passes.{kept_pass}
 use Rattle.slate_laws.proofs.Puts.{grows_not, elsewhere_grows, elsewhere_sound}
 use Rattle.slate_laws.proofs.Steps.{PhraseKnows, PhraseBrings, AfterPhrase, other_put, phrase_step}
 use Rattle.slate_laws.proofs.Calls.{NextKnows, follow_reaches, begin_reaches}
 use Rattle.slate_laws.proofs.Tallies.{StoreAfter, store_after, tidy_after, Told, TalliesAfter, tallies_after}
-use Rattle.slate_laws.proofs.Tallies.StoreAfter.{Same, Put}
-use Rattle.slate_protocol.specs.declared.party.Purpose.TheVariants.{Reading, Committing}
-use Rattle.slate_protocol.specs.declared.position.Phrase.TheVariants.{Read, Commit}
+use Rattle.slate_laws.proofs.Tallies.StoreAfter.{Same, Wrote, Gone}
+use Rattle.slate_protocol.specs.declared.party.Purpose.TheVariants.{Reading, Committing, Passing}
+use Rattle.slate_protocol.specs.declared.position.Phrase.TheVariants.{Read, Commit, Pass}
 
 -- what a party knows, by its state: its call stands at its own database
 abbrev pub StateKnows : Store → Chains → ℕ → Facts → State → Type 0
@@ -58,7 +60,6 @@ pub record Inv (w : World) (chains : Chains) : Type 0 where
   pub named : (d : List ℕ) → HasDb w d → is_db_path d ≡ true
   pub logs : (d : List ℕ) → HasDb w d → IsSound manifests d w.store (chains d)
   pub told : (d : List ℕ) → Told w.tallies chains d
-  pub unmoved : (d : List ℕ) → HasDb w d → object_at (boundary_path ManifestLog d) w.store ≡ None
   pub parties : (n : ℕ) (p : Party) → party_of n w.parties ≡ Some p → PartyKnows w chains n p
 
 -- ---- the frame
@@ -66,8 +67,13 @@ pub record Inv (w : World) (chains : Chains) : Type 0 where
 phrase_kept : (s : Store) (c : Chain) (s' : Store) (c' : Chain) (db : List ℕ) → Grows manifests db s c s' c' → (author : Author) (purpose : Purpose) (phrase : Phrase) → PhraseKnows s c db author purpose phrase → PhraseKnows s' c' db author purpose phrase
 phrase_kept s c s' c' db g author Reading (Read phase) h = kept_read manifests db s c s' c' g phase h
 phrase_kept s c s' c' db g author (Committing now) (Commit phase) h = kept_commit manifests db s c s' c' g author phase h
+phrase_kept s c s' c' db g author Passing (Pass options phase) h = kept_pass s c s' c' db g phase h
 phrase_kept s c s' c' db g author Reading (Commit phase) h = absurd h
+phrase_kept s c s' c' db g author Reading (Pass options phase) h = absurd h
 phrase_kept s c s' c' db g author (Committing now) (Read phase) h = absurd h
+phrase_kept s c s' c' db g author (Committing now) (Pass options phase) h = absurd h
+phrase_kept s c s' c' db g author Passing (Read phase) h = absurd h
+phrase_kept s c s' c' db g author Passing (Commit phase) h = absurd h
 
 state_kept : (s : Store) (chains : Chains) (s' : Store) (chains' : Chains) (n : ℕ) (facts : Facts) → Grows manifests facts.db s (chains facts.db) s' (chains' facts.db) → (state : State) → StateKnows s chains n facts state → StateKnows s' chains' n facts state
 state_kept s chains s' chains' n facts g Resting h = tt
@@ -116,7 +122,6 @@ moved_inv w chains n p q i at own =
       named = i.named;
       logs = i.logs;
       told = i.told;
-      unmoved = i.unmoved;
       parties = each_knows w w' chains chains n q (party_in_place n p q w.parties at) (λ k ne. others_stay n k q w.parties ne) (λ d h. h) (λ d h. grows_not manifests d w.store (chains d))
           (record { has = own.has; knows = own.knows }) i.parties;
     }
@@ -127,11 +132,13 @@ moved_inv w chains n p q i at own =
 module _ (s s' : Store) (db d : List ℕ) (c : Chain) (named : is_db_path d ≡ true) (own : is_db_path db ≡ true) (ne : d ≢ db) where
   other_grows : StoreAfter db s s' → Grows manifests d s c s' c
   other_grows (Same e) = subst (λ (t : Store). Grows manifests d s c t c) (sym e) (grows_not manifests d s c)
-  other_grows (Put n bytes moment small e) = subst (λ (t : Store). Grows manifests d s c t c) (sym e) (elsewhere_grows manifests d s c _ bytes moment (manifest_elsewhere d named db n own small ne))
+  other_grows (Wrote p bytes moment is e) = subst (λ (t : Store). Grows manifests d s c t c) (sym e) (elsewhere_grows manifests d s c p bytes moment (own_elsewhere d db p named own ne is))
+  other_grows (Gone p is e) = subst (λ (t : Store). Grows manifests d s c t c) (sym e) (gone_grows manifests d s c p (own_elsewhere d db p named own ne is))
 
   other_sound : StoreAfter db s s' → IsSound manifests d s c → IsSound manifests d s' c
   other_sound (Same e) i = subst (λ (t : Store). IsSound manifests d t c) (sym e) i
-  other_sound (Put n bytes moment small e) i = subst (λ (t : Store). IsSound manifests d t c) (sym e) (elsewhere_sound manifests d s c _ bytes moment (manifest_elsewhere d named db n own small ne) i)
+  other_sound (Wrote p bytes moment is e) i = subst (λ (t : Store). IsSound manifests d t c) (sym e) (elsewhere_sound manifests d s c p bytes moment (own_elsewhere d db p named own ne is) i)
+  other_sound (Gone p is e) i = subst (λ (t : Store). IsSound manifests d t c) (sym e) (gone_sound manifests d s c p (own_elsewhere d db p named own ne is) i)
 
 -- what a step changes of each log
 pub record LogAfter (s : Store) (c : Chain) (s' : Store) (c' : Chain) (d : List ℕ) (author : Author) : Type 0 where
@@ -150,7 +157,7 @@ module _ (w : World) (chains : Chains) (i : Inv w chains) (n : ℕ) (p : Party) 
   s' = (effect mark (asks position) moment w.store).store
 
   abbrev next : Next
-  next = follow facts call purpose moment (goes position (effect mark (asks position) moment w.store).answer)
+  next = follow facts call purpose moment (goes position moment (effect mark (asks position) moment w.store).answer)
 
   abbrev chains' : Chains
   chains' = chains_stepped w n facts call purpose position moment mark chains
@@ -165,7 +172,7 @@ module _ (w : World) (chains : Chains) (i : Inv w chains) (n : ℕ) (p : Party) 
   after = phrase_step w.store chains position.db author (i.named position.db has) i.tidy (i.logs position.db has) mark moment purpose position.phrase here_knows
 
   stored : StoreAfter position.db w.store s'
-  stored = store_after w.store (chains position.db) position.db author mark moment purpose position.phrase here_knows
+  stored = store_after w.store (chains position.db) position.db author mark moment (i.logs position.db has) purpose position.phrase here_knows
 
   tallies : TalliesAfter w.tallies (tallied (asks position) (wrote w.store s') w.tallies) chains'
   tallies = tallies_after w.store chains position.db author w.tallies i.told (i.logs position.db has) (λ d. decides d position.db) purpose position.phrase (wrote w.store s') here_knows
@@ -181,25 +188,10 @@ module _ (w : World) (chains : Chains) (i : Inv w chains) (n : ℕ) (p : Party) 
       subst (λ (c : Chain). LogAfter w.store (chains d) s' c d author) (sym same) (record { sound = k; grows = g; changed = Stays refl }))
       (same_name d position.db)
 
-  -- a put of a version moves no boundary
-  no_move : (d : List ℕ) → HasDb w d → object_at (boundary_path ManifestLog d) s' ≡ None
-  no_move d h = by_store stored
-    where
-      by_store : StoreAfter position.db w.store s' → object_at (boundary_path ManifestLog d) s' ≡ None
-      by_store (Same e) = subst (λ (t : Store). object_at (boundary_path ManifestLog d) t ≡ None) (sym e) (i.unmoved d h)
-      by_store (Put k bytes at small e) =
-          subst (λ (t : Store). object_at (boundary_path ManifestLog d) t ≡ None) (sym e)
-          (at_else (version_path ManifestLog position.db k) (boundary_path ManifestLog d) bytes at w.store
-          (⊎_elim
-          (λ (same : d ≡ position.db). subst (λ x. path_text (boundary_path ManifestLog x) ≢ path_text (version_path ManifestLog position.db k)) (sym same) (boundary_apart position.db (i.named position.db has) ManifestLog k small))
-          (λ (ne : d ≢ position.db). (manifest_elsewhere d (i.named d h) position.db k (i.named position.db has) small ne).boundary)
-          (same_name d position.db))
-          ∙ i.unmoved d h)
-
   own_next : NextKnows s' (chains' facts.db) n facts call next
   own_next =
-      let b = subst (λ d. PhraseBrings s' (chains' d) d author purpose (goes position (effect mark (asks position) moment w.store).answer)) knows.0 after.brings in
-      follow_reaches s' (chains' facts.db) n facts call (log_after facts.db (i.parties n p at).has).sound purpose moment (goes position (effect mark (asks position) moment w.store).answer) b
+      let b = subst (λ d. PhraseBrings s' (chains' d) d author purpose (goes position moment (effect mark (asks position) moment w.store).answer)) knows.0 after.brings in
+      follow_reaches s' (chains' facts.db) n facts call (log_after facts.db (i.parties n p at).has).sound purpose moment (goes position moment (effect mark (asks position) moment w.store).answer) b
 
   abbrev w' : World
   w' = (stepped w n facts call purpose position moment mark).world
@@ -222,7 +214,6 @@ module _ (w : World) (chains : Chains) (i : Inv w chains) (n : ℕ) (p : Party) 
     named = λ d h. i.named d (was_db d h);
     logs = λ d h. (log_after d (was_db d h)).sound;
     told = tallies.told;
-    unmoved = λ d h. no_move d (was_db d h);
     parties = each_knows w w' chains chains' n (settled facts call next) (party_in_place n p (settled facts call next) w.parties at) (λ k ne. others_stay n k (settled facts call next) w.parties ne)
         same_db (λ d h. (log_after d h).grows) own_knows i.parties;
   }
@@ -258,7 +249,6 @@ carried_inv w chains n call i = record {
   named = i.named;
   logs = i.logs;
   told = i.told;
-  unmoved = i.unmoved;
   parties = λ k p at. let known = i.parties k p at in record { has = known.has; knows = known.knows };
 }
 
@@ -276,7 +266,6 @@ open_inv w chains n kind db t i none found =
       named = i.named;
       logs = i.logs;
       told = i.told;
-      unmoved = i.unmoved;
       parties = each_knows w w' chains chains n (newcomer kind db) (insert_here nat_cmp number_order n (newcomer kind db) w.parties) (λ k ne. insert_else nat_cmp number_order n k (newcomer kind db) w.parties ne)
           (λ d h. h) (λ d h. grows_not manifests d w.store (chains d)) (record { has = ap is_some found; knows = tt }) i.parties;
     }

@@ -1,6 +1,6 @@
 -- What a look-up finds after a put.
 use Rattle.std.proofs.Common.{◌≡◌, ◌≢◌, ℕ, ℤ, ◌+◌, Bool, true, false, List, [], ◌∷◌, Option, Some, None, ◌⊎◌, inl, inr, refl, sym, ap, ◌∙◌, cond}
-use Rattle.std.specs.Map.{lookup}
+use Rattle.std.specs.Map.{lookup, remove_entry}
 use Rattle.std.specs.BTreeMap.{is_at, insert_entry}
 use Rattle.std.specs.Ordering.{is_eq, match_ordering}
 use Rattle.std.specs.Str.{bytes_eq}
@@ -11,7 +11,7 @@ use Rattle.std.proofs.lemmas.Slice.Eq.{bytes_eq-Decides}
 use Rattle.slate_ids.specs.FinePath.{IsFine}
 use Rattle.slate_ids.specs.PathText.{path_text, path_cmp}
 use Rattle.slate_ids.specs.declared.object_path.ObjectPath.{ObjectPath}
-use Rattle.slate_store.specs.Store.{Store, object_at, stored}
+use Rattle.slate_store.specs.Store.{Store, object_at, stored, removed}
 use Rattle.slate_store.specs.declared.object.StoredObject.{StoredObject}
 
 abbrev Entries : Type 0
@@ -106,3 +106,28 @@ at_put p bytes moment s = found_put p (put_object s bytes moment) s.objects
 
 pub at_else : (p q : ObjectPath) (bytes : List ℕ) (moment : ℤ) (s : Store) → path_text q ≢ path_text p → object_at q (stored p bytes moment s) ≡ object_at q s
 at_else p q bytes moment s ne = found_else p (put_object s bytes moment) q ne s.objects
+
+-- ---- after a removal
+
+module _ (p : ObjectPath) where
+  -- at another text nothing changes
+  left_else : (q : ObjectPath) → path_text q ≢ path_text p → (es : Entries) → look q (remove_entry (is_at (path_cmp p)) es) ≡ look q es
+  left_else q ne [] = refl
+  left_else q ne (e ∷ es) = test (is_at (path_cmp p) e.0) refl (left_else q ne es)
+    where
+      test : (b : Bool) → is_at (path_cmp p) e.0 ≡ b → look q (remove_entry (is_at (path_cmp p)) es) ≡ look q es → look q (cond b es (e ∷ remove_entry (is_at (path_cmp p)) es)) ≡ look q (e ∷ es)
+      test true is rest =
+          let off = passes_by q e.0 (λ same. ne (same ∙ sym (same_found p e.0 is))) in
+          sym (ap (λ b. cond b (Some e.1) (look q es)) off)
+      test false is rest = ap (λ r. cond (is_at (path_cmp q) e.0) (Some e.1) r) rest
+
+  pub tidy_left : (es : Entries) → IsTidy es → IsTidy (remove_entry (is_at (path_cmp p)) es)
+  tidy_left [] h = tt
+  tidy_left (e ∷ es) h = test (is_at (path_cmp p) e.0) (tidy_left es h.1)
+    where
+      test : (b : Bool) → IsTidy (remove_entry (is_at (path_cmp p)) es) → IsTidy (cond b es (e ∷ remove_entry (is_at (path_cmp p)) es))
+      test true rest = h.1
+      test false rest = (h.0, rest)
+
+  pub at_left : (q : ObjectPath) (s : Store) → path_text q ≢ path_text p → object_at q (removed p s) ≡ object_at q s
+  at_left q s ne = left_else q ne s.objects

@@ -1,32 +1,43 @@
 -- The greatest committed numbers that are kept beside the store, and where a step leaves the store.
-use Rattle.std.proofs.Common.{◌≡◌, ◌≢◌, ℕ, ℤ, ◌+◌, ◌<◌, ◌≤◌, ◌^◌, max, Bool, true, false, List, Option, Some, None, is_some, refl, sym, ap, ◌∙◌, subst, arith}
-use Rattle.std.specs.Prelude.{bytes_eq}
+use Rattle.std.proofs.Common.{◌≡◌, ◌≢◌, ℕ, ℤ, ◌+◌, ◌<◌, ◌≤◌, ◌^◌, max, Bool, true, false, List, [], ◌∷◌, Option, Some, None, is_some, refl, sym, ap, ◌∙◌, subst, arith}
+use Rattle.std.specs.Prelude.{bytes_eq, decimal}
 use Rattle.slate_ids.specs.Ids.{is_db_path}
+use Rattle.slate_ids.specs.declared.object_path.ObjectPath.{ObjectPath}
 use Rattle.slate_model.specs.Normal.{normal}
 use Rattle.slate_model.specs.declared.manifest.Manifest.{Manifest}
-use Rattle.slate_store.specs.Store.{Store, object_at, stored, put_new, under, taken, effect}
+use Rattle.slate_store.specs.Store.{Store, object_at, stored, removed, has_tag, put_new, replace, under, taken, effect}
 use Rattle.slate_store.specs.declared.mark.Mark.{Mark}
 use Rattle.slate_store.specs.declared.mark.Mark.TheVariants.{Good, Fail, Lost}
 use Rattle.slate_store.specs.declared.object.StoredObject.{StoredObject}
-use Rattle.slate_store.specs.declared.store_call.StoreCall.TheVariants.{PutNew}
-use Rattle.slate_log.specs.LogPaths.{version_path}
+use Rattle.slate_store.specs.declared.store_answer.StoreAnswer.{StoreAnswer}
+use Rattle.slate_store.specs.declared.store_answer.StoreAnswer.TheVariants.{Deleted}
+use Rattle.slate_store.specs.declared.store_call.StoreCall.TheVariants.{PutNew, Replace}
+use Rattle.slate_log.specs.Advance.{advance_asks}
+use Rattle.slate_log.specs.LogPaths.{version_path, boundary_path}
+use Rattle.slate_log.specs.declared.advance.AdvancePhase.{AdvancePhase}
+use Rattle.slate_log.specs.declared.advance.AdvancePhase.TheVariants as advancing
 use Rattle.slate_log.specs.declared.commit.CommitPhase.TheVariants as committing
 use Rattle.slate_log.specs.declared.log_kind.LogKind.TheVariants.{Manifest as ManifestLog}
 use Rattle.slate_log.specs.declared.read.ReadPhase.TheVariants as reading
+use Rattle.slate_gc.specs.Pass.{pass_asks}
+use Rattle.slate_gc.specs.declared.pass_phase.PassPhase.{PassPhase}
+use Rattle.slate_gc.specs.declared.pass_phase.PassPhase.TheVariants as passing
 use Rattle.slate_protocol.specs.Chains.{Link, link_at, top, if_new}
 use Rattle.slate_protocol.specs.Logs.{Author, Chain, Chains, manifests, put_by, chains_put}
 use Rattle.slate_protocol.specs.Phrases.{phrase_asks}
 use Rattle.slate_protocol.specs.World.{tally_of, tallied, raise_tally, to_manifest}
 use Rattle.slate_protocol.specs.declared.party.Purpose.{Purpose}
-use Rattle.slate_protocol.specs.declared.party.Purpose.TheVariants.{Reading, Committing}
+use Rattle.slate_protocol.specs.declared.party.Purpose.TheVariants.{Reading, Committing, Passing}
 use Rattle.slate_protocol.specs.declared.position.Phrase.{Phrase}
-use Rattle.slate_protocol.specs.declared.position.Phrase.TheVariants.{Read, Commit}
+use Rattle.slate_protocol.specs.declared.position.Phrase.TheVariants.{Read, Commit, Pass}
 use Rattle.slate_protocol.specs.declared.tally.Tally.{Tally}
-use Rattle.slate_laws.proofs.Stores.{IsTidy, tidy_put, put_object}
+use Rattle.slate_laws.proofs.Stores.{IsTidy, tidy_put, tidy_left, put_object}
 use Rattle.slate_laws.proofs.Links.{at_most, next_is_top}
 use Rattle.slate_laws.proofs.Maps.{name_order, set_here, set_else}
-use Rattle.slate_laws.proofs.Facts.{IsSound, IsNext}
-use Rattle.slate_laws.proofs.Paths.{version_fine}
+use Rattle.slate_laws.proofs.Facts.{IsSound, IsNext, IsReached}
+use Rattle.slate_laws.proofs.Paths.{IsOwn, own_fine}
+use Rattle.slate_laws.proofs.Paths.IsOwn.{Version, Boundary}
+use Rattle.slate_laws.proofs.Passes.{PassKnows}
 use Rattle.slate_laws.proofs.Steps.{PhraseKnows, own_put, other_put, none_put}
 
 abbrev Tallies : Type 0
@@ -34,43 +45,80 @@ Tallies = List (List ℕ × Tally)
 
 -- ---- the store after a step
 
--- a step leaves the store, or puts a version of the database's log
+-- a step leaves the store, or writes or deletes at a path of the database's log
 pub data StoreAfter (db : List ℕ) (s s' : Store) : Type 0 where
   Same : s' ≡ s → StoreAfter db s s'
-  Put : (n : ℕ) → (bytes : List ℕ) → (moment : ℤ) → n < 2 ^ 64 → s' ≡ stored (version_path ManifestLog db n) bytes moment s → StoreAfter db s s'
+  Wrote : (p : ObjectPath) → (bytes : List ℕ) → (moment : ℤ) → IsOwn db p → s' ≡ stored p bytes moment s → StoreAfter db s s'
+  Gone : (p : ObjectPath) → IsOwn db p → s' ≡ removed p s → StoreAfter db s s'
 
-put_after : (db : List ℕ) (n : ℕ) (bytes : List ℕ) (moment : ℤ) (s : Store) → n < 2 ^ 64 → (o : Option StoredObject) (mark : Mark)
-    → StoreAfter db s (under mark (put_new o (version_path ManifestLog db n) bytes moment s) s).store
-put_after db n bytes moment s small (Some object) Good = Same refl
-put_after db n bytes moment s small (Some object) Fail = Same refl
-put_after db n bytes moment s small (Some object) Lost = Same refl
-put_after db n bytes moment s small None Good = Put n bytes moment small refl
-put_after db n bytes moment s small None Fail = Same refl
-put_after db n bytes moment s small None Lost = Put n bytes moment small refl
+put_after : (db : List ℕ) (p : ObjectPath) (bytes : List ℕ) (moment : ℤ) (s : Store) → IsOwn db p → (o : Option StoredObject) (mark : Mark) → StoreAfter db s (under mark (put_new o p bytes moment s) s).store
+put_after db p bytes moment s own (Some object) Good = Same refl
+put_after db p bytes moment s own (Some object) Fail = Same refl
+put_after db p bytes moment s own (Some object) Lost = Same refl
+put_after db p bytes moment s own None Good = Wrote p bytes moment own refl
+put_after db p bytes moment s own None Fail = Same refl
+put_after db p bytes moment s own None Lost = Wrote p bytes moment own refl
 
-pub store_after : (s : Store) (c : Chain) (db : List ℕ) (author : Author) (mark : Mark) (moment : ℤ) (purpose : Purpose) (phrase : Phrase) → PhraseKnows s c db author purpose phrase → StoreAfter db s (effect mark (phrase_asks db phrase) moment s).store
-store_after s c db author Good moment Reading (Read reading.Listing) h = Same refl
-store_after s c db author Fail moment Reading (Read reading.Listing) h = Same refl
-store_after s c db author Lost moment Reading (Read reading.Listing) h = Same refl
-store_after s c db author Good moment Reading (Read (reading.Getting n)) h = Same refl
-store_after s c db author Fail moment Reading (Read (reading.Getting n)) h = Same refl
-store_after s c db author Lost moment Reading (Read (reading.Getting n)) h = Same refl
-store_after s c db author Good moment Reading (Read (reading.Bounding n m)) h = Same refl
-store_after s c db author Fail moment Reading (Read (reading.Bounding n m)) h = Same refl
-store_after s c db author Lost moment Reading (Read (reading.Bounding n m)) h = Same refl
-store_after s c db author mark moment Reading (Read reading.Over) h = absurd h
-store_after s c db author mark moment (Committing now) (Commit (committing.Putting n bytes m)) h = put_after db n bytes moment s h.small (object_at (version_path ManifestLog db n) s) (taken mark (PutNew (version_path ManifestLog db n) bytes) s)
-store_after s c db author Good moment (Committing now) (Commit (committing.Bounding n m)) h = Same refl
-store_after s c db author Fail moment (Committing now) (Commit (committing.Bounding n m)) h = Same refl
-store_after s c db author Lost moment (Committing now) (Commit (committing.Bounding n m)) h = Same refl
-store_after s c db author mark moment (Committing now) (Commit committing.Over) h = absurd h
-store_after s c db author mark moment Reading (Commit phase) h = absurd h
-store_after s c db author mark moment (Committing now) (Read phase) h = absurd h
+replace_after : (db : List ℕ) (p : ObjectPath) (bytes : List ℕ) (moment : ℤ) (s : Store) → IsOwn db p → (b : Bool) (mark : Mark) → StoreAfter db s (under mark (replace b p bytes moment s) s).store
+replace_after db p bytes moment s own false Good = Same refl
+replace_after db p bytes moment s own false Fail = Same refl
+replace_after db p bytes moment s own false Lost = Same refl
+replace_after db p bytes moment s own true Good = Wrote p bytes moment own refl
+replace_after db p bytes moment s own true Fail = Same refl
+replace_after db p bytes moment s own true Lost = Wrote p bytes moment own refl
+
+-- a call that reads
+got_after : (db : List ℕ) (s : Store) (mark : Mark) (answer : StoreAnswer) → StoreAfter db s (under mark (record { store = s; answer = answer }) s).store
+got_after db s Good answer = Same refl
+got_after db s Fail answer = Same refl
+got_after db s Lost answer = Same refl
+
+advance_after : (db : List ℕ) (s : Store) (mark : Mark) (moment : ℤ) (phase : AdvancePhase) → StoreAfter db s (effect mark (advance_asks db ManifestLog phase) moment s).store
+advance_after db s mark moment (advancing.Bounding n) = got_after db s mark _
+advance_after db s mark moment (advancing.Creating n) = put_after db (boundary_path ManifestLog db) (decimal n) moment s (Boundary refl) (object_at (boundary_path ManifestLog db) s) (taken mark (PutNew (boundary_path ManifestLog db) (decimal n)) s)
+advance_after db s mark moment (advancing.Replacing n tag) = replace_after db (boundary_path ManifestLog db) (decimal n) moment s (Boundary refl) (has_tag tag (object_at (boundary_path ManifestLog db) s)) (taken mark (Replace (boundary_path ManifestLog db) tag (decimal n)) s)
+advance_after db s mark moment advancing.Over = got_after db s mark _
+
+delete_after : (db : List ℕ) (s : Store) (n : ℕ) → n < 2 ^ 64 → (mark : Mark) → StoreAfter db s (under mark (record { store = removed (version_path ManifestLog db n) s; answer = Deleted }) s).store
+delete_after db s n small Good = Gone (version_path ManifestLog db n) (Version n small refl) refl
+delete_after db s n small Fail = Same refl
+delete_after db s n small Lost = Gone (version_path ManifestLog db n) (Version n small refl) refl
+
+-- what is at or below the boundary is a number of 64 bits
+reached_small : (s : Store) (c : Chain) (db : List ℕ) (n : ℕ) → IsSound manifests db s c → IsReached manifests db s n → n < 2 ^ 64
+reached_small s c db n i h = let le = h.reached i.bound i.read in let lt = i.below in let small = i.small in omega arith
+
+pass_after : (s : Store) (c : Chain) (db : List ℕ) (mark : Mark) (moment : ℤ) → IsSound manifests db s c → (phase : PassPhase) → PassKnows s c db phase → StoreAfter db s (effect mark (pass_asks db phase) moment s).store
+pass_after s c db mark moment i passing.Listing h = got_after db s mark _
+pass_after s c db mark moment i (passing.Getting now n dates) h = got_after db s mark _
+pass_after s c db mark moment i (passing.Bounding n ns) h = got_after db s mark _
+pass_after s c db mark moment i (passing.Advancing phase ns) h = advance_after db s mark moment phase
+pass_after s c db mark moment i (passing.Deleting [] counts) h = got_after db s mark _
+pass_after s c db mark moment i (passing.Deleting (n ∷ ns) counts) h = delete_after db s n (reached_small s c db n i h.0) mark
+pass_after s c db mark moment i passing.Over h = absurd h
+
+pub store_after : (s : Store) (c : Chain) (db : List ℕ) (author : Author) (mark : Mark) (moment : ℤ) → IsSound manifests db s c → (purpose : Purpose) (phrase : Phrase) → PhraseKnows s c db author purpose phrase
+    → StoreAfter db s (effect mark (phrase_asks db phrase) moment s).store
+store_after s c db author mark moment i Reading (Read reading.Listing) h = got_after db s mark _
+store_after s c db author mark moment i Reading (Read (reading.Getting n)) h = got_after db s mark _
+store_after s c db author mark moment i Reading (Read (reading.Bounding n m)) h = got_after db s mark _
+store_after s c db author mark moment i Reading (Read reading.Over) h = absurd h
+store_after s c db author mark moment i (Committing now) (Commit (committing.Putting n bytes m)) h =
+    put_after db (version_path ManifestLog db n) bytes moment s (Version n h.small refl) (object_at (version_path ManifestLog db n) s) (taken mark (PutNew (version_path ManifestLog db n) bytes) s)
+store_after s c db author mark moment i (Committing now) (Commit (committing.Bounding n m)) h = got_after db s mark _
+store_after s c db author mark moment i (Committing now) (Commit committing.Over) h = absurd h
+store_after s c db author mark moment i Passing (Pass options phase) h = pass_after s c db mark moment i phase h
+store_after s c db author mark moment i Reading (Commit phase) h = absurd h
+store_after s c db author mark moment i Reading (Pass options phase) h = absurd h
+store_after s c db author mark moment i (Committing now) (Read phase) h = absurd h
+store_after s c db author mark moment i (Committing now) (Pass options phase) h = absurd h
+store_after s c db author mark moment i Passing (Read phase) h = absurd h
+store_after s c db author mark moment i Passing (Commit phase) h = absurd h
 
 pub tidy_after : (db : List ℕ) (s s' : Store) → is_db_path db ≡ true → StoreAfter db s s' → IsTidy s.objects → IsTidy s'.objects
 tidy_after db s s' named (Same e) h = subst (λ (t : Store). IsTidy t.objects) (sym e) h
-tidy_after db s s' named (Put n bytes moment small e) h =
-    subst (λ (t : Store). IsTidy t.objects) (sym e) (tidy_put (version_path ManifestLog db n) (put_object s bytes moment) (version_fine db named ManifestLog n small) s.objects h)
+tidy_after db s s' named (Wrote p bytes moment own e) h = subst (λ (t : Store). IsTidy t.objects) (sym e) (tidy_put p (put_object s bytes moment) (own_fine db p named own) s.objects h)
+tidy_after db s s' named (Gone p own e) h = subst (λ (t : Store). IsTidy t.objects) (sym e) (tidy_left p s.objects h)
 
 -- ---- the tallies after a step
 
@@ -145,6 +193,22 @@ module _ (s : Store) (chains : Chains) (db : List ℕ) (author : Author) (tallie
     puts_tallies decides true = put_tallies decides
     puts_tallies decides false = tallies_same tallies chains chains told (λ d. refl)
 
+  advance_tallies : (phase : AdvancePhase) (b : Bool) → tallied (advance_asks db ManifestLog phase) b tallies ≡ tallies
+  advance_tallies (advancing.Bounding n) b = refl
+  advance_tallies (advancing.Creating n) true = refl
+  advance_tallies (advancing.Creating n) false = refl
+  advance_tallies (advancing.Replacing n tag) b = refl
+  advance_tallies advancing.Over b = refl
+
+  pass_tallies : (phase : PassPhase) (b : Bool) → tallied (pass_asks db phase) b tallies ≡ tallies
+  pass_tallies passing.Listing b = refl
+  pass_tallies (passing.Getting now n dates) b = refl
+  pass_tallies (passing.Bounding n ns) b = refl
+  pass_tallies (passing.Advancing phase ns) b = advance_tallies phase b
+  pass_tallies (passing.Deleting [] counts) b = refl
+  pass_tallies (passing.Deleting (n ∷ ns) counts) b = refl
+  pass_tallies passing.Over b = refl
+
   pub tallies_after : ((d : List ℕ) → (bytes_eq d db ≡ true → d ≡ db) × (bytes_eq d db ≡ false → d ≢ db)) → (purpose : Purpose) (phrase : Phrase) (b : Bool) → PhraseKnows s (chains db) db author purpose phrase
       → TalliesAfter tallies (tallied (phrase_asks db phrase) b tallies) (chains_put b db (put_by author phrase) chains)
   tallies_after decides Reading (Read reading.Listing) b h = tallies_same tallies chains _ told (none_put b db chains)
@@ -154,5 +218,11 @@ module _ (s : Store) (chains : Chains) (db : List ℕ) (author : Author) (tallie
   tallies_after decides (Committing now) (Commit (committing.Putting n bytes m)) b h = puts_tallies n bytes m h decides b
   tallies_after decides (Committing now) (Commit (committing.Bounding n m)) b h = tallies_same tallies chains _ told (none_put b db chains)
   tallies_after decides (Committing now) (Commit committing.Over) b h = absurd h
+  tallies_after decides Passing (Pass options phase) b h =
+      subst (λ (ts : Tallies). TalliesAfter tallies ts (chains_put b db None chains)) (sym (pass_tallies phase b)) (tallies_same tallies chains (chains_put b db None chains) told (none_put b db chains))
   tallies_after decides Reading (Commit phase) b h = absurd h
+  tallies_after decides Reading (Pass options phase) b h = absurd h
   tallies_after decides (Committing now) (Read phase) b h = absurd h
+  tallies_after decides (Committing now) (Pass options phase) b h = absurd h
+  tallies_after decides Passing (Read phase) b h = absurd h
+  tallies_after decides Passing (Commit phase) b h = absurd h

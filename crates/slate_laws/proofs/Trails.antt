@@ -9,7 +9,14 @@ use Rattle.slate_script.specs.declared.call.Call.{Call}
 use Rattle.slate_script.specs.declared.entry.Entry.{Entry}
 use Rattle.slate_script.specs.declared.event.Event.{Event}
 use Rattle.slate_script.specs.declared.event.Event.TheVariants.{Open, Start, Step, Stop}
+use Rattle.slate_log.specs.Advance.{advance_asks}
+use Rattle.slate_log.specs.declared.advance.AdvancePhase.{AdvancePhase}
+use Rattle.slate_log.specs.declared.advance.AdvancePhase.TheVariants as advancing
 use Rattle.slate_log.specs.declared.commit.CommitPhase.TheVariants as committing
+use Rattle.slate_log.specs.declared.log_kind.LogKind.TheVariants.{Manifest as ManifestLog}
+use Rattle.slate_gc.specs.Pass.{pass_asks}
+use Rattle.slate_gc.specs.declared.pass_phase.PassPhase.{PassPhase}
+use Rattle.slate_gc.specs.declared.pass_phase.PassPhase.TheVariants as passing
 use Rattle.slate_log.specs.declared.read.ReadPhase.TheVariants as reading
 use Rattle.slate_protocol.specs.ByRows.{Standings, standings_after, entry_store, trail_by}
 use Rattle.slate_protocol.specs.Chains.{Link, link_at, if_new, with_link}
@@ -23,7 +30,7 @@ use Rattle.slate_protocol.specs.declared.party.Party.{Party}
 use Rattle.slate_protocol.specs.declared.party.State.{State}
 use Rattle.slate_protocol.specs.declared.party.State.TheVariants.{Resting, Busy, Halted}
 use Rattle.slate_protocol.specs.declared.position.Phrase.{Phrase}
-use Rattle.slate_protocol.specs.declared.position.Phrase.TheVariants.{Read, Commit}
+use Rattle.slate_protocol.specs.declared.position.Phrase.TheVariants.{Read, Commit, Pass}
 use Rattle.slate_protocol.specs.declared.tally.Tally.{Tally}
 use Rattle.slate_laws.proofs.Rows.{AllMatch, ended, event_brings, all_after}
 use Rattle.slate_laws.proofs.Steps.{none_put}
@@ -56,6 +63,21 @@ put_told firsts chains db l h d false = h d
 silent : (firsts : Firsts) (chains : Chains) (db : List ℕ) → Tells firsts chains → (b : Bool) (d : List ℕ) → firsts d ≡ map numbered (chains_put b db None chains d)
 silent firsts chains db h b d = h d ∙ ap (map numbered) (sym (none_put b db chains d))
 
+advance_told : (firsts : Firsts) (chains : Chains) (db : List ℕ) → Tells firsts chains → (phase : AdvancePhase) → Tells (told_by true (advance_asks db ManifestLog phase) firsts) (chains_put true db None chains)
+advance_told firsts chains db h (advancing.Bounding n) = silent firsts chains db h true
+advance_told firsts chains db h (advancing.Creating n) = silent firsts chains db h true
+advance_told firsts chains db h (advancing.Replacing n tag) = silent firsts chains db h true
+advance_told firsts chains db h advancing.Over = silent firsts chains db h true
+
+pass_told : (firsts : Firsts) (chains : Chains) (db : List ℕ) → Tells firsts chains → (phase : PassPhase) → Tells (told_by true (pass_asks db phase) firsts) (chains_put true db None chains)
+pass_told firsts chains db h passing.Listing = silent firsts chains db h true
+pass_told firsts chains db h (passing.Getting now n dates) = silent firsts chains db h true
+pass_told firsts chains db h (passing.Bounding n ns) = silent firsts chains db h true
+pass_told firsts chains db h (passing.Advancing phase ns) = advance_told firsts chains db h phase
+pass_told firsts chains db h (passing.Deleting [] counts) = silent firsts chains db h true
+pass_told firsts chains db h (passing.Deleting (n ∷ ns) counts) = silent firsts chains db h true
+pass_told firsts chains db h passing.Over = silent firsts chains db h true
+
 phrase_told : (firsts : Firsts) (chains : Chains) (db : List ℕ) (author : Author) → Tells firsts chains → (phrase : Phrase) (b : Bool) → Tells (told_by b (phrase_asks db phrase) firsts) (chains_put b db (put_by author phrase) chains)
 phrase_told firsts chains db author h (Read reading.Listing) true = silent firsts chains db h true
 phrase_told firsts chains db author h (Read (reading.Getting n)) true = silent firsts chains db h true
@@ -64,6 +86,7 @@ phrase_told firsts chains db author h (Read reading.Over) true = silent firsts c
 phrase_told firsts chains db author h (Commit (committing.Putting n bytes m)) true = λ d. put_told firsts chains db (record { number = n; bytes = bytes; value = normal m; by = Some author }) h d (bytes_eq d db)
 phrase_told firsts chains db author h (Commit (committing.Bounding n m)) true = silent firsts chains db h true
 phrase_told firsts chains db author h (Commit committing.Over) true = silent firsts chains db h true
+phrase_told firsts chains db author h (Pass options phase) true = pass_told firsts chains db h phase
 phrase_told firsts chains db author h phrase false = h
 
 step_told : (w : World) (n : ℕ) (facts : Facts) (state : State) (moment : ℤ) (mark : Mark) (firsts : Firsts) (chains : Chains) → Tells firsts chains

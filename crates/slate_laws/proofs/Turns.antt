@@ -21,12 +21,12 @@ use Rattle.slate_log.specs.Commit.{commit_asks, commit_goes, bounded_goes}
 use Rattle.slate_log.specs.declared.commit.CommitPhase.TheVariants as committing
 use Rattle.slate_log.specs.declared.read.ReadPhase.{ReadPhase}
 use Rattle.slate_log.specs.declared.read.ReadPhase.TheVariants as reading
-use Rattle.slate_protocol.specs.Chains.{Link, Log, link_at, with_link, bytes_of, link_bytes}
+use Rattle.slate_protocol.specs.Chains.{Link, Log, link_at, with_link, bytes_of, link_bytes, bound_in}
 use Rattle.slate_protocol.specs.World.{wrote}
 use Rattle.slate_laws.proofs.Stores.{IsTidy}
 use Rattle.slate_laws.proofs.Lists.{listed_small}
 use Rattle.slate_laws.proofs.Links.{decodes}
-use Rattle.slate_laws.proofs.Facts.{IsLog, bound_in, IsSound, IsValue, Holds, IsNext, ReadKnows, ReadBrings, CommitBrings}
+use Rattle.slate_laws.proofs.Facts.{IsLog, IsSound, IsValue, Holds, IsNext, ReadKnows, ReadBrings, CommitBrings}
 use Rattle.slate_laws.proofs.Puts.{Leaves, leaves_not, put_leaves}
 
 -- the chain after a put, where it wrote
@@ -34,7 +34,7 @@ abbrev pub chain_if : {V A : Type 0} → Bool → Link V A → List (Link V A) �
 chain_if true l c = with_link l c
 chain_if false l c = c
 
-above_test : (n b : ℕ) → nat_le n b ≡ false → b < n
+pub above_test : (n b : ℕ) → nat_le n b ≡ false → b < n
 above_test n b h = grind (arith, nat_tests)
 
 wrote_not : (n : ℕ) → nat_lt n n ≡ false
@@ -45,7 +45,7 @@ wrote_one n = grind (arith, nat_tests)
 
 module _ {V A : Type 0} (log : Log V A) (laws : IsLog log) (db : List ℕ) (s : Store) (c : List (Link V A)) (i : IsSound log db s c) where
   -- what stands above the boundary has the committed value
-  got_holds : (n : ℕ) (object : StoredObject) (v : V) → n < 2 ^ 64 → object_at (version_path log.kind db n) s ≡ Some object → log.decoded object.bytes ≡ Ok v → Holds log db s c n v
+  pub got_holds : (n : ℕ) (object : StoredObject) (v : V) → n < 2 ^ 64 → object_at (version_path log.kind db n) s ≡ Some object → log.decoded object.bytes ≡ Ok v → Holds log db s c n v
   got_holds n object v small at is = record { same = λ b read lt. found b read lt (link_at n c) refl }
     where
       found : (b : ℕ) → bound_in log db s ≡ Some b → b < n → (o : Option (Link V A)) → link_at n c ≡ o → IsValue c n v

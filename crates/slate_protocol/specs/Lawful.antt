@@ -1,11 +1,11 @@
 -- What holds of every run: one chain, fenced epochs, and the rows.
-use Rattle.std.specs.Prelude.{◌≡◌, ℕ, ◌≤◌, true, List, map, Some, None, is_some}
+use Rattle.std.specs.Prelude.{◌≡◌, ℕ, ◌≤◌, ◌<◌, true, List, map, Some, None, is_some}
 use Rattle.std.specs.List.{list_all}
 use Rattle.slate_ids.specs.Ids.{is_db_path}
 use Rattle.slate_script.specs.declared.db_spec.DbSpec.{DbSpec}
 use Rattle.slate_script.specs.declared.event.Event.{Event}
 use Rattle.slate_protocol.specs.ByRows.{nobody, trail_by}
-use Rattle.slate_protocol.specs.Chains.{top, IsChain, Stands}
+use Rattle.slate_protocol.specs.Chains.{top, IsChain, bound_in, Stands}
 use Rattle.slate_protocol.specs.Fenced.{IsFenced}
 use Rattle.slate_protocol.specs.Logs.{Chain, Chains, manifests, chains_of, opening_chains}
 use Rattle.slate_protocol.specs.Runs.{Course, opening, run}
@@ -38,8 +38,12 @@ pub record IsLawful (course : Course) (db : List ℕ) (c : Chain) : Type 0 where
   pub chain : IsChain manifests c
   -- the greatest of them is the one that the report tells
   pub greatest : (t : _) → tally_of db course.world.tallies ≡ Some t → t.manifest ≡ top c
-  -- at each of them the store has the committed bytes
-  pub stands : (n : ℕ) → 1 ≤ n → n ≤ top c → Stands manifests db course.world.store c n
+  -- the boundary can be read, and is below the greatest
+  pub bound : ℕ
+  pub read : bound_in manifests db course.world.store ≡ Some bound
+  pub below : bound < top c
+  -- at each committed number above it the store has the committed bytes
+  pub stands : (n : ℕ) → bound < n → n ≤ top c → Stands manifests db course.world.store c n
   -- no writer committed below the writer epoch of an earlier version
   pub fenced : IsFenced c
 

@@ -1,0 +1,117 @@
+-- What a boundary that is moved, and a version that is deleted, leave of a log.
+use Rattle.std.proofs.Common.{◌≡◌, ◌≢◌, ℕ, ℤ, ◌+◌, ◌<◌, ◌≤◌, ◌^◌, true, List, Option, Some, None, refl, sym, ap, ◌∙◌, subst, arith}
+use Rattle.std.proofs.lemmas.Fmt.{decimal_injective}
+use Rattle.std.specs.Prelude.{decimal}
+use Rattle.slate_ids.specs.Ids.{is_db_path}
+use Rattle.slate_ids.specs.declared.object_path.ObjectPath.{ObjectPath}
+use Rattle.slate_store.specs.Store.{Store, object_at, stored, removed}
+use Rattle.slate_store.specs.declared.object.StoredObject.{StoredObject}
+use Rattle.slate_log.specs.Boundary.{boundary_of, boundary_got, ReadsDecimal}
+use Rattle.slate_log.specs.LogPaths.{version_path, boundary_path}
+use Rattle.slate_log.proofs.Decimals.{reads_decimal}
+use Rattle.slate_protocol.specs.Chains.{Link, Log, link_at, top, bytes_of, bound_in, Changed}
+use Rattle.slate_protocol.specs.Chains.Changed.{Stays}
+use Rattle.slate_laws.proofs.Stores.{put_object, at_put, at_else, at_left}
+use Rattle.slate_laws.proofs.Paths.{IsElsewhere, versions_apart, boundary_apart}
+use Rattle.slate_laws.proofs.Facts.{IsSound, IsReached, Grows}
+use Rattle.slate_laws.proofs.Puts.{Leaves}
+
+-- a number is read of its decimal text
+pub read_back : (n : ℕ) → n < 2 ^ 64 → boundary_of (decimal n) ≡ Some n
+read_back n small = by_read (boundary_of (decimal n)) (reads_decimal (decimal n))
+  where
+    by_read : (o : Option ℕ) → ReadsDecimal (decimal n) o → o ≡ Some n
+    by_read None h = absurd (h n small refl)
+    by_read (Some k) h = ap (λ (j : ℕ). Some j) (sym (decimal_injective n k small h.1 h.0))
+
+module _ {V A : Type 0} (log : Log V A) (db : List ℕ) (named : is_db_path db ≡ true) (author : A) (s : Store) (c : List (Link V A)) (i : IsSound log db s c) where
+  -- the boundary is moved to a number that is not below it, and below the greatest
+  module _ (n : ℕ) (moment : ℤ) (up : i.bound ≤ n) (below : n < top c) where
+    abbrev moved : Store
+    moved = stored (boundary_path log.kind db) (decimal n) moment s
+
+    small : n < 2 ^ 64
+    small = let lt = i.small in omega arith
+
+    moved_read : bound_in log db moved ≡ Some n
+    moved_read = ap boundary_got (at_put (boundary_path log.kind db) (decimal n) moment s) ∙ read_back n small
+
+    moved_object : (o : StoredObject) → object_at (boundary_path log.kind db) moved ≡ Some o → o.e_tag ≡ s.last_tag + 1
+    moved_object o at =
+        let same : put_object s (decimal n) moment ≡ o = cc (at_put (boundary_path log.kind db) (decimal n) moment s, at) in
+        sym (ap (λ (x : StoredObject). x.e_tag) same)
+
+    pub move_leaves : Leaves log db author s c moved c
+    move_leaves = record {
+      sound = record {
+        chain = i.chain;
+        some = i.some;
+        small = i.small;
+        bound = n;
+        read = moved_read;
+        below = below;
+        above = λ k lt k_small. ap bytes_of (at_else (boundary_path log.kind db) (version_path log.kind db k) (decimal n) moment s (λ e. boundary_apart db named log.kind k k_small (sym e))) ∙ i.above k (omega arith) k_small;
+        tagged = λ o at. let e = moved_object o at in omega arith;
+      };
+      grows = record {
+        bound = λ b read. let same : n ≡ b = cc (moved_read, read) in (i.bound, i.read, omega arith);
+        later = omega arith;
+        tags = λ o at le. let e = moved_object o at in absurd (omega arith);
+        rises = omega arith;
+        kept = λ k l at. at;
+      };
+      changed = Stays refl;
+    }
+
+    pub move_reaches : IsReached log db moved n
+    move_reaches = record { reached = λ b read. let same : n ≡ b = cc (moved_read, read) in omega arith }
+
+  -- a version at or below the boundary is deleted
+  module _ (n : ℕ) (small : n < 2 ^ 64) (due : n ≤ i.bound) where
+    abbrev left : Store
+    left = removed (version_path log.kind db n) s
+
+    left_object : object_at (boundary_path log.kind db) left ≡ object_at (boundary_path log.kind db) s
+    left_object = at_left (version_path log.kind db n) (boundary_path log.kind db) s (boundary_apart db named log.kind n small)
+
+    left_bound : bound_in log db left ≡ bound_in log db s
+    left_bound = ap boundary_got left_object
+
+    pub delete_leaves : Leaves log db author s c left c
+    delete_leaves = record {
+      sound = record {
+        chain = i.chain;
+        some = i.some;
+        small = i.small;
+        bound = i.bound;
+        read = left_bound ∙ i.read;
+        below = i.below;
+        above = λ k lt k_small. ap bytes_of (at_left (version_path log.kind db n) (version_path log.kind db k) s (versions_apart db named log.kind k n k_small small (λ (e : k ≡ n). omega arith))) ∙ i.above k lt k_small;
+        tagged = λ o at. i.tagged o (sym left_object ∙ at);
+      };
+      grows = record { bound = λ b read. (b, sym left_bound ∙ read, omega arith); later = omega arith; tags = λ o at le. sym left_object ∙ at; rises = omega arith; kept = λ k l at. at };
+      changed = Stays refl;
+    }
+
+module _ {V A : Type 0} (log : Log V A) (db : List ℕ) (s : Store) (c : List (Link V A)) (p : ObjectPath) (away : IsElsewhere log.kind db p) where
+  gone_object : object_at (boundary_path log.kind db) (removed p s) ≡ object_at (boundary_path log.kind db) s
+  gone_object = at_left p (boundary_path log.kind db) s away.boundary
+
+  gone_bound : bound_in log db (removed p s) ≡ bound_in log db s
+  gone_bound = ap boundary_got gone_object
+
+  -- a deletion elsewhere leaves the log as it is
+  pub gone_grows : Grows log db s c (removed p s) c
+  gone_grows = record { bound = λ b read. (b, sym gone_bound ∙ read, omega arith); later = omega arith; tags = λ o at le. sym gone_object ∙ at; rises = omega arith; kept = λ k l h. h }
+
+  pub gone_sound : IsSound log db s c → IsSound log db (removed p s) c
+  gone_sound i = record {
+    chain = i.chain;
+    some = i.some;
+    small = i.small;
+    bound = i.bound;
+    read = gone_bound ∙ i.read;
+    below = i.below;
+    above = λ k lt small. ap bytes_of (at_left p (version_path log.kind db k) s (away.version k small)) ∙ i.above k lt small;
+    tagged = λ o at. i.tagged o (sym gone_object ∙ at);
+  }
