@@ -17,12 +17,12 @@ use Rattle.slate_store.specs.declared.object.ObjectMetadata.{ObjectMetadata}
 use Rattle.slate_store.specs.declared.object.StoredObject.{StoredObject}
 use Rattle.slate_store.specs.declared.store_answer.StoreAnswer.{StoreAnswer}
 use Rattle.slate_log.specs.Advance.{AdvanceGoes, advance_asks, advance_goes}
-use Rattle.slate_log.specs.Boundary.{greatest}
+use Rattle.slate_log.specs.Boundary.{greater, greatest}
 use Rattle.slate_log.specs.LogPaths.{version_path, folder}
 use Rattle.slate_log.specs.declared.advance.AdvancePhase.TheVariants as advancing
 use Rattle.slate_log.specs.declared.log_kind.LogKind.TheVariants.{Manifest as ManifestLog}
-use Rattle.slate_gc.specs.Pass.{pass_asks, pass_goes, listed_goes, got_goes, decoded_goes, bounded_goes, bounded_next, deletes_next, advanced_goes}
-use Rattle.slate_gc.specs.Picks.{Dated, is_candidate, is_aged, candidates, greater_of, greatest_number, picks}
+use Rattle.slate_gc.specs.Pass.{pass_asks, pass_goes, listed_goes, got_goes, candidates_by, decoded_goes, bounded_goes, bounded_next, moves_to, deletes_next, advanced_goes}
+use Rattle.slate_gc.specs.Picks.{Dated, is_candidate, is_aged, candidates, greatest_number, picks}
 use Rattle.slate_gc.specs.declared.pass_counts.PassCounts.{PassCounts}
 use Rattle.slate_gc.specs.declared.pass_options.PassOptions.{PassOptions}
 use Rattle.slate_gc.specs.declared.pass_phase.PassPhase.{PassPhase}
@@ -69,6 +69,14 @@ module _ (min_age : ℕ) (now : ℤ) (greatest : ℕ) (cs : List Checkpoint) whe
       test true is rest = (less d.0 greatest (first_of (nat_lt d.0 greatest) (not (is_named d.0 cs)) (is_aged min_age now d.1) is), rest)
       test false is rest = rest
 
+-- there is a greatest one
+some_greatest : (b : ℕ) (ns : List ℕ) → greatest_number (b ∷ ns) ≡ None → ⊥
+some_greatest b ns e = by_rest (greatest_number ns) e
+  where
+    by_rest : (o : Option ℕ) → greater (Some b) o ≡ None → ⊥
+    by_rest None e = absurd cc
+    by_rest (Some j) e = absurd cc
+
 -- the greatest number is one of them, and none is above it
 greatest_is : (n k : ℕ) (ns : List ℕ) → Each (λ j. j < n) ns → greatest_number ns ≡ Some k → k < n
 greatest_is n k [] h e = absurd cc
@@ -78,8 +86,8 @@ greatest_is n k (a ∷ b ∷ ns) h e = by_rest (greatest_number (b ∷ ns)) refl
     both : (j : ℕ) → a < n → j < n → max a j < n
     both j lt below = grind arith
 
-    by_rest : (o : Option ℕ) → greatest_number (b ∷ ns) ≡ o → Some (greater_of a o) ≡ Some k → ((j : ℕ) → greatest_number (b ∷ ns) ≡ Some j → j < n) → k < n
-    by_rest None is e rest = absurd cc
+    by_rest : (o : Option ℕ) → greatest_number (b ∷ ns) ≡ o → greater (Some a) o ≡ Some k → ((j : ℕ) → greatest_number (b ∷ ns) ≡ Some j → j < n) → k < n
+    by_rest None is e rest = absurd (some_greatest b ns is)
     by_rest (Some j) is e rest = let same : max a j ≡ k = cc in subst (λ i. i < n) same (both j h.0 (rest j is))
 
 greatest_most : (k : ℕ) (ns : List ℕ) → greatest_number ns ≡ Some k → Each (λ j. j ≤ k) ns
@@ -90,17 +98,17 @@ greatest_most k (a ∷ b ∷ ns) e = by_rest (greatest_number (b ∷ ns)) refl e
     up : (j : ℕ) → max a j ≡ k → (a ≤ k) × (j ≤ k)
     up j e = (grind arith, grind arith)
 
-    by_rest : (o : Option ℕ) → greatest_number (b ∷ ns) ≡ o → Some (greater_of a o) ≡ Some k → ((j : ℕ) → greatest_number (b ∷ ns) ≡ Some j → Each (λ i. i ≤ j) (b ∷ ns)) → Each (λ j. j ≤ k) (a ∷ b ∷ ns)
-    by_rest None is e rest = absurd cc
+    by_rest : (o : Option ℕ) → greatest_number (b ∷ ns) ≡ o → greater (Some a) o ≡ Some k → ((j : ℕ) → greatest_number (b ∷ ns) ≡ Some j → Each (λ i. i ≤ j) (b ∷ ns)) → Each (λ j. j ≤ k) (a ∷ b ∷ ns)
+    by_rest None is e rest = absurd (some_greatest b ns is)
     by_rest (Some j) is e rest = let same : max a j ≡ k = cc in let both = up j same in (both.0, each_map (λ i. i ≤ j) (λ i. i ≤ k) (λ i le. let le' = both.1 in omega arith) (b ∷ ns) (rest j is))
 
 -- what is picked is among the candidates
 picks_have : (P : ℕ → Type 0) (options : PassOptions) (ns : List ℕ) → Each P ns → Each P (picks options ns)
-picks_have P options ns h = test (options.dry_run || not options.allows)
+picks_have P options ns h = test (options.allows && not options.dry_run)
   where
-    test : (b : Bool) → Each P (if b then [] else ns)
-    test true = tt
-    test false = h
+    test : (b : Bool) → Each P (if b then ns else [])
+    test true = h
+    test false = tt
 
 -- ---- what a pass knows
 
@@ -146,7 +154,7 @@ module _ (db : List ℕ) (named : is_db_path db ≡ true) (author : Author) (opt
   listed_brings now found (Some n) h = h
 
   decoded_brings : (now : ℤ) (n : ℕ) (dates : List Dated) (object : StoredObject) (r : Result Manifest SlateDBError) → n < 2 ^ 64 → object_at (version_path ManifestLog db n) s ≡ Some object → decoded object.bytes ≡ r
-      → PassBrings s c db (decoded_goes options now n dates r)
+      → PassBrings s c db (decoded_goes n (candidates_by options now n dates r))
   decoded_brings now n dates object (Ok m) small at is = record {
     value = m;
     holds = got_holds manifests manifests_log db s c i n object m small at is;
@@ -159,12 +167,12 @@ module _ (db : List ℕ) (named : is_db_path db ≡ true) (author : Author) (opt
   got_brings now n dates (Some object) small at = decoded_brings now n dates object (decoded object.bytes) small at refl
 
   -- the greatest candidate is below the greatest committed number
-  next_brings : (n : ℕ) (ns : List ℕ) (k : Option ℕ) → greatest_number ns ≡ k → n ≤ top c → Each (λ j. j < n) ns → PassBrings s c db (bounded_next ns k)
+  next_brings : (n : ℕ) (ns : List ℕ) (k : Option ℕ) → greatest_number ns ≡ k → n ≤ top c → Each (λ j. j < n) ns → PassBrings s c db (moves_to ns k)
   next_brings n ns None e le below = tt
   next_brings n ns (Some k) e le below = let lt = greatest_is n k ns below e in (omega arith, greatest_most k ns e)
 
   test_brings : (n : ℕ) (ns : List ℕ) (b : ℕ) (t : Bool) → nat_le n b ≡ t → bound_in manifests db s ≡ Some b → IsRead s c db n ns
-      → PassBrings s c db (if t then End Over (Err (ManifestMissing n)) else bounded_next ns (greatest_number ns))
+      → PassBrings s c db (if t then End Over (Err (ManifestMissing n)) else bounded_next ns)
   test_brings n ns b true is read h = tt
   test_brings n ns b false is read h =
       let value = h.holds.same b read (above_test n b is) in

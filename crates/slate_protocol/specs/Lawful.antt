@@ -1,4 +1,4 @@
--- What holds of every run: one chain, fenced epochs, and the rows.
+-- What holds of every run: one chain, fenced epochs, the rows, and exact passes.
 use Rattle.std.specs.Prelude.{◌≡◌, ℕ, ◌≤◌, ◌<◌, true, List, map, Some, None, is_some}
 use Rattle.std.specs.List.{list_all}
 use Rattle.slate_ids.specs.Ids.{is_db_path}
@@ -8,6 +8,7 @@ use Rattle.slate_protocol.specs.ByRows.{nobody, trail_by}
 use Rattle.slate_protocol.specs.Chains.{top, IsChain, bound_in, Stands}
 use Rattle.slate_protocol.specs.Fenced.{IsFenced}
 use Rattle.slate_protocol.specs.Logs.{Chain, Chains, manifests, chains_of, opening_chains}
+use Rattle.slate_protocol.specs.Passes.{ExactPasses}
 use Rattle.slate_protocol.specs.Runs.{Course, opening, run}
 use Rattle.slate_protocol.specs.Specs.{cause_of_specs, opening_world}
 use Rattle.slate_protocol.specs.Trails.{numbered, store_of, told}
@@ -52,6 +53,8 @@ pub record Lawful (course : Course) : Type 0 where
   pub past : IsRun course
   -- each step of a party made the one store call that its row names, and each reply is the row's
   pub rows : course.trail ≡ trail_by past.events nobody (opening_world course.specs).store
+  -- each pass has deleted a front of what it picks, and all of it where it ended without a refusal
+  pub passes : ExactPasses past.events nobody (opening_world course.specs).store
   -- the store is what the calls of the trail left
   pub store : course.world.store ≡ store_of course.trail (opening_world course.specs).store
   -- what is committed is what the trail alone tells: the first put of each number

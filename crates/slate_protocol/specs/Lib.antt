@@ -11,5 +11,7 @@ pub mod Chains
 pub mod Logs
 pub mod ByRows
 pub mod Trails
+pub mod Passes
+pub mod Alone
 pub mod Fenced
 pub mod Lawful
