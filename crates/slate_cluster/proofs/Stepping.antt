@@ -62,7 +62,7 @@ moves_built : (w after : World) (n : ℕ) (facts : Facts) (call : Call) (purpose
     → stepped w n facts call purpose position moment mark ≡ built w n moment mark made.call made.answer after.store reply to
 moves_built w after n facts call purpose position moment mark made reply to m =
     let o = effect mark (asks position) moment w.store in
-    let next = follow facts call purpose moment (goes position o.answer) in
+    let next = follow facts call purpose moment (goes position moment o.answer) in
     ap (λ (c : StoreCall). built w n moment mark c o.answer o.store (reply_of next) (settled facts call next)) (sym m.stepped.call)
     ∙ (ap (λ (a : StoreAnswer). built w n moment mark made.call a o.store (reply_of next) (settled facts call next)) (sym m.stepped.answer)
     ∙ (ap (λ (s : Store). built w n moment mark made.call made.answer s (reply_of next) (settled facts call next)) (sym m.stepped.store)

@@ -8,18 +8,24 @@ use Rattle.slate_store.specs.declared.step.Step.TheVariants.{Done}
 use Rattle.slate_log.specs.declared.read.ReadPhase.{ReadPhase}
 use Rattle.slate_log.specs.declared.read.ReadPhase.TheVariants.{Bounding}
 use Rattle.slate_log.specs.declared.commit.CommitPhase.{CommitPhase}
-use Rattle.slate_protocol.specs.Phrases.{asks, goes, at_read, at_commit}
+use Rattle.slate_gc.specs.declared.pass_options.PassOptions.{PassOptions}
+use Rattle.slate_gc.specs.declared.pass_phase.PassPhase.{PassPhase}
+use Rattle.slate_protocol.specs.Phrases.{asks, goes, at_read, at_commit, at_pass}
 use Rattle.slate_protocol.specs.declared.position.Position.{Position}
 use Rattle.slate_protocol.specs.declared.position.Ended.{Ended}
 use Rattle.slate_protocol.specs.declared.position.Ended.TheVariants.{Version}
 
 -- a step of a read, as one of the position
 abbrev pub ReadSteps : List ℕ → ReadPhase Manifest → ReadPhase Manifest → ℤ → Told → Told → Step Ended → Type 0
-ReadSteps db from to moment old new step = Steps old new (asks (at_read db from)) moment (goes (at_read db from)) (at_read db from) (at_read db to) step
+ReadSteps db from to moment old new step = Steps old new (asks (at_read db from)) moment (goes (at_read db from) moment) (at_read db from) (at_read db to) step
 
 -- a step of a commit, as one of the position
 abbrev pub CommitSteps : List ℕ → CommitPhase Manifest → CommitPhase Manifest → ℤ → Told → Told → Step Ended → Type 0
-CommitSteps db from to moment old new step = Steps old new (asks (at_commit db from)) moment (goes (at_commit db from)) (at_commit db from) (at_commit db to) step
+CommitSteps db from to moment old new step = Steps old new (asks (at_commit db from)) moment (goes (at_commit db from) moment) (at_commit db from) (at_commit db to) step
+
+-- a step of a pass, as one of the position
+abbrev pub PassSteps : List ℕ → PassOptions → PassPhase → PassPhase → ℤ → Told → Told → Step Ended → Type 0
+PassSteps db options from to moment old new step = Steps old new (asks (at_pass db options from)) moment (goes (at_pass db options from) moment) (at_pass db options from) (at_pass db options to) step
 
 -- a version is given where its boundary was read
 abbrev pub ReadAtEnd : ReadPhase Manifest → Step Ended → Type 0

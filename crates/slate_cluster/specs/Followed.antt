@@ -40,7 +40,7 @@ Ends facts call db now from ended purpose position (Err e) = PutBack db from end
 pub record Followed (facts : Facts) (call : Call) (purpose : Purpose) (position : Position) (old new : Told) (moment : ℤ) (to : Purpose) (at : Position) (reply : Option Reply) : Type 0 where
   pub answer : StoreAnswer
   pub makes : Makes old new (asks position) (moment_of (asks position) moment) answer
-  pub next : follow facts call purpose moment (goes position answer) ≡ next_by to at reply
+  pub next : follow facts call purpose moment (goes position moment answer) ≡ next_by to at reply
 
 -- memory ran out: the call and the contents are as they were
 pub record Kept (purpose : Purpose) (position : Position) (old new : Told) (to : Purpose) (at : Position) : Type 0 where

@@ -20,7 +20,7 @@ pub record IsStepped (facts : Facts) (under : Call) (purpose : Purpose) (positio
   pub call : made.call ≡ asks position
   pub answer : made.answer ≡ (effect mark (asks position) moment old).answer
   pub store : new ≡ (effect mark (asks position) moment old).store
-  pub next : follow facts under purpose moment (goes position (effect mark (asks position) moment old).answer) ≡ to
+  pub next : follow facts under purpose moment (goes position moment (effect mark (asks position) moment old).answer) ≡ to
 
 -- whether a store call is due in a party's call
 abbrev pub is_busy : State → Bool

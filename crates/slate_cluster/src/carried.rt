@@ -1,5 +1,5 @@
 //! The ids of checkpoints that events carried.
-ghost use Rattle.std.specs.Prelude.{◌≡◌, ◌++◌, ◌∷◌, [], map, bytes_eq, OnOk, OnErr};
+ghost use Rattle.std.specs.Prelude.{◌≡◌, ◌++◌, ◌∷◌, [], map, bytes_eq, IfOk, OnOk, OnErr};
 ghost use Rattle.std.specs.List.{list_any};
 ghost use Rattle.slate_protocol.specs.Ids as ids;
 
@@ -43,7 +43,7 @@ fn names(call: &Call, id: &CheckpointId) -> bool
     ensures { result ≡ list_any (bytes_eq id.now) (ids.named_ids call.now) }
 {
     match call {
-        Call::OpenWriter | Call::Flush { .. } => false,
+        Call::OpenWriter | Call::Flush { .. } | Call::Pass { .. } => false,
         Call::WriteCheckpoint { source, .. } => is_one(id, source),
         Call::ReplaceCheckpoint { old, source, .. } => id.is(old) || is_one(id, source),
         Call::RefreshCheckpoint { id: other, .. } => id.is(other),
@@ -87,7 +87,7 @@ fn push_names(all: &mut Vec<(CheckpointId, Carrier)>, call: &Call) -> Result<(),
     ensures { OnOk result (all.new.items ≡ all.old.items ++ map ids.only_named (ids.named_ids call.now)) }
 {
     match call {
-        Call::OpenWriter | Call::Flush { .. } => Ok(()),
+        Call::OpenWriter | Call::Flush { .. } | Call::Pass { .. } => Ok(()),
         Call::WriteCheckpoint { source, .. } => push_one(all, source),
         Call::ReplaceCheckpoint { old, source, .. } => {
             push_named(all, *old)?;
@@ -125,7 +125,7 @@ fn ids_of(
     number: u32,
     call: &Call,
 ) -> Result<Vec<(CheckpointId, Carrier)>, OutOfMemory>
-    ensures { Rattle.std.specs.Prelude.IfOk result (λ all. all.items ≡ ids.ids_of number call.now) }
+    ensures { IfOk result (λ all. all.items ≡ ids.ids_of number call.now) }
 {
     let mut all = Vec::new(alloc);
     push_fresh(&mut all, number, fresh_id(call))?;

@@ -1,5 +1,6 @@
-//! What the checkpoint calls make of a manifest.
+//! What the checkpoint calls, and the passes of a collector, make of a manifest.
 ghost use Rattle.std.specs.Prelude.{◌≡◌, map, filter, not, bytes_eq, IfOk};
+ghost use Rattle.std.specs.List.{list_any};
 ghost use Rattle.slate_ids.specs.Answers.{Gives};
 ghost use Rattle.slate_model.specs.Checkpoints as made;
 
@@ -226,5 +227,59 @@ pub(crate) fn delete_checkpoint(
         return Ok(None);
     }
     let kept = without(alloc, manifest.checkpoints.as_slice(), id)?;
+    Ok(Some(with_checkpoints(alloc, kept, manifest)?))
+}
+
+// Whether a checkpoint is expired at a moment.
+fn is_expired(now: Millis, checkpoint: &Checkpoint) -> bool
+    ensures { result ≡ made.is_expired now checkpoint.now }
+{
+    match checkpoint.expire_time {
+        None => false,
+        Some(expire_time) => expire_time <= now,
+    }
+}
+
+// Whether one of the checkpoints is expired at a moment.
+fn has_expired(now: Millis, checkpoints: &[Checkpoint]) -> bool
+    ensures { result ≡ list_any (made.is_expired now) checkpoints.now }
+{
+    for checkpoint in checkpoints {
+        if is_expired(now, checkpoint) {
+            return true;
+        }
+    }
+    false
+}
+
+// Equal checkpoints, without those that are expired at a moment.
+fn without_expired(
+    alloc: Global,
+    now: Millis,
+    checkpoints: &[Checkpoint],
+) -> Result<Listed<Checkpoint>, OutOfMemory>
+    ensures { IfOk result (λ kept. kept ≡ filter (λ c. not (made.is_expired now c)) checkpoints.now) }
+{
+    let mut kept = Listed::new(alloc);
+    for checkpoint in checkpoints {
+        if !is_expired(now, checkpoint) {
+            kept.push(checkpoint.copy(alloc)?)?;
+        }
+    }
+    Ok(kept)
+}
+
+/// What a pass makes of a manifest at a moment: its expired checkpoints go, and nothing is made where it has none.
+pub(crate) fn expire_checkpoints(
+    alloc: Global,
+    now: Millis,
+    manifest: &Manifest,
+) -> Result<Option<Manifest>, SlateDBError>
+    ensures { Gives result (made.unexpired now manifest.now) }
+{
+    if !has_expired(now, manifest.checkpoints.as_slice()) {
+        return Ok(None);
+    }
+    let kept = without_expired(alloc, now, manifest.checkpoints.as_slice())?;
     Ok(Some(with_checkpoints(alloc, kept, manifest)?))
 }

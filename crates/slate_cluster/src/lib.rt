@@ -25,10 +25,14 @@ mod opening;
 mod parties;
 mod party_calls;
 mod party_steps;
+#[cfg(test)]
+mod pass_tests;
 mod phrases;
 #[cfg(test)]
 mod program_tests;
 mod progress;
+#[cfg(test)]
+mod racing_tests;
 mod recorder;
 mod report;
 mod rules;

@@ -37,6 +37,13 @@ fn holder_has(call: &Call) -> bool
     }
 }
 
+// Whether a call is a collector's.
+fn collector_has(call: &Call) -> bool
+    ensures { result ≡ has.collector_has call.now }
+{
+    matches!(call, Call::Pass { .. })
+}
+
 /// Whether a kind of party has a call.
 pub(crate) fn has_call(kind: PartyKind, call: &Call) -> bool
     ensures { result ≡ has.has_call kind call.now }
@@ -44,6 +51,7 @@ pub(crate) fn has_call(kind: PartyKind, call: &Call) -> bool
     match kind {
         PartyKind::Writer => writer_has(call),
         PartyKind::Holder => holder_has(call),
+        PartyKind::Collector => collector_has(call),
     }
 }
 

@@ -19,7 +19,7 @@ fn take_reply(facts: &mut Facts, reply: &Reply)
 {
     match reply {
         Reply::Epoch(epoch) => facts.epoch = Some(*epoch),
-        Reply::Done | Reply::Checkpoint(_, _) | Reply::Refused(_) => {}
+        Reply::Done | Reply::Checkpoint(_, _) | Reply::Pass { .. } | Reply::Refused(_) => {}
     }
 }
 

@@ -3,9 +3,11 @@ ghost use Rattle.std.specs.Prelude.{◌≡◌, true};
 ghost use Rattle.slate_store.specs.Machines.{Steps};
 ghost use Rattle.slate_log.specs.Read.{read_due};
 ghost use Rattle.slate_log.specs.Commit.{commit_due};
+ghost use Rattle.slate_gc.specs.Pass.{pass_due};
 ghost use Rattle.slate_protocol.specs.Phrases.{asks, goes, is_due as due_at};
-ghost use Rattle.slate_cluster.specs.Advanced.{ReadSteps, ReadAtEnd, CommitSteps, AtEnd};
+ghost use Rattle.slate_cluster.specs.Advanced.{ReadSteps, ReadAtEnd, CommitSteps, PassSteps, AtEnd};
 
+use slate_gc::{PassOptions, PassPhase};
 use slate_ids::{DbPath, Millis};
 use slate_log::{CommitPhase, LogKind, ReadPhase, Sequenced};
 use slate_model::{FirstManifestCodec, Manifest};
@@ -57,6 +59,24 @@ fn commit_on<S: ObjectStore>(
     }
 }
 
+fn pass_on<S: ObjectStore>(
+    alloc: Global,
+    db: DbPath,
+    options: &PassOptions,
+    phase: &mut PassPhase,
+    store: &mut S,
+    moment: Millis,
+) -> Step<Ended>
+    requires { pass_due phase.old ≡ true }
+    ensures { PassSteps db options.now phase.old phase.new moment (S.told store.old) (S.told store.new) result }
+{
+    match phase.next(alloc, &manifests(db), options, store, moment) {
+        Step::Again => Step::Again,
+        Step::Done(Ok(counts)) => Step::Done(Ok(Ended::Passed(counts))),
+        Step::Done(Err(e)) => Step::Done(Err(e)),
+    }
+}
+
 /// Whether a call is due.
 pub(crate) fn is_due(position: &Position) -> bool
     ensures { result ≡ due_at position.now }
@@ -64,6 +84,7 @@ pub(crate) fn is_due(position: &Position) -> bool
     match &position.phrase {
         Phrase::Read(phase) => phase.due(),
         Phrase::Commit(phase) => phase.due(),
+        Phrase::Pass(_, phase) => phase.due(),
     }
 }
 
@@ -75,12 +96,13 @@ pub(crate) fn advance<S: ObjectStore>(
     moment: Millis,
 ) -> Step<Ended>
     requires { due_at position.old ≡ true }
-    ensures steps { Steps (S.told store.old) (S.told store.new) (asks position.old) moment (goes position.old) position.old position.new result }
+    ensures steps { Steps (S.told store.old) (S.told store.new) (asks position.old) moment (goes position.old moment) position.old position.new result }
     ensures from { AtEnd position.old result }
 {
     let db = position.db;
     match &mut position.phrase {
         Phrase::Read(phase) => read_on(alloc, db, phase, store, moment),
         Phrase::Commit(phase) => commit_on(alloc, db, phase, store, moment),
+        Phrase::Pass(options, phase) => pass_on(alloc, db, options, phase, store, moment),
     }
 }

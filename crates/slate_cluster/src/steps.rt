@@ -1,19 +1,20 @@
 //! One step of a call.
 ghost use Rattle.std.specs.Prelude.{◌≡◌, true, IfOk, OnErr};
 ghost use Rattle.slate_model.specs.Checkpoints.{checkpoint_at};
-ghost use Rattle.slate_protocol.specs.Calls.{reply_to as replies, checkpoint_reply as replied};
+ghost use Rattle.slate_protocol.specs.Calls.{done_next, checkpoint_reply as replied, options_of as pass_options};
 ghost use Rattle.slate_protocol.specs.Phrases.{is_due};
 ghost use Rattle.slate_cluster.specs.Recorded.{told_by};
-ghost use Rattle.slate_cluster.specs.Followed.{Commits, Ends, Followed, Kept};
+ghost use Rattle.slate_cluster.specs.Followed.{next_by, Commits, Ends, Followed, Kept};
 
 use crate::commits::commit_call;
 use crate::phrases::advance;
 use crate::recorder::Recorder;
+use slate_gc::{PassOptions, PassPhase};
 use slate_ids::{CheckpointId, DbPath, Millis, OutOfMemory, SlateDBError};
 use slate_log::ReadPhase;
 use slate_model::{Manifest, find_checkpoint};
 use slate_protocol::{Ended, Facts, Phrase, Position, Purpose};
-use slate_script::{Call, Reply};
+use slate_script::{Call, FilterWord, Reply};
 use slate_store::Step;
 use std::alloc::Global;
 
@@ -27,16 +28,51 @@ fn checkpoint_reply(id: CheckpointId, manifest: &Manifest) -> Reply
     }
 }
 
-// The reply where a manifest was committed, or needed no commit.
-fn reply_to(call: &Call, manifest: &Manifest) -> Reply
-    ensures { result ≡ replies call.now manifest.now }
+// The options of a pass.
+fn options_of(min_age: u64, dry_run: bool, filter: FilterWord) -> PassOptions
+    ensures { result ≡ pass_options min_age dry_run filter }
+{
+    let allows = match filter {
+        FilterWord::All => true,
+        FilterWord::Nothing => false,
+    };
+    PassOptions {
+        min_age,
+        dry_run,
+        allows,
+    }
+}
+
+// A manifest was committed, or needed no commit: a pass goes on to its list, and every other call replies.
+fn go_on(
+    facts: &Facts,
+    call: &Call,
+    purpose: &mut Purpose,
+    position: &mut Position,
+    manifest: &Manifest,
+) -> Option<Reply>
+    ensures { done_next facts.now call.now manifest.now ≡ next_by purpose.new position.new result }
 {
     match call {
-        Call::OpenWriter => Reply::Epoch(manifest.writer_epoch),
-        Call::Flush { .. } | Call::DeleteCheckpoint { .. } => Reply::Done,
-        Call::WriteCheckpoint { id, .. } => checkpoint_reply(*id, manifest),
-        Call::ReplaceCheckpoint { id, .. } => checkpoint_reply(*id, manifest),
-        Call::RefreshCheckpoint { id, .. } => checkpoint_reply(*id, manifest),
+        Call::OpenWriter => Some(Reply::Epoch(manifest.writer_epoch)),
+        Call::Flush { .. } | Call::DeleteCheckpoint { .. } => Some(Reply::Done),
+        Call::WriteCheckpoint { id, .. } => Some(checkpoint_reply(*id, manifest)),
+        Call::ReplaceCheckpoint { id, .. } => Some(checkpoint_reply(*id, manifest)),
+        Call::RefreshCheckpoint { id, .. } => Some(checkpoint_reply(*id, manifest)),
+        Call::Pass {
+            min_age,
+            dry_run,
+            filter,
+            ..
+        } => {
+            let options = options_of(*min_age, *dry_run, *filter);
+            *purpose = Purpose::Passing;
+            *position = Position {
+                db: facts.db,
+                phrase: Phrase::Pass(options, PassPhase::Listing),
+            };
+            None
+        }
     }
 }
 
@@ -63,7 +99,7 @@ fn read_version(
             };
             Ok(None)
         }
-        Ok(None) => Ok(Some(reply_to(call, &value))),
+        Ok(None) => Ok(go_on(facts, call, purpose, position, &value)),
         Err(e) => {
             if e.is_memory() {
                 *position = Position {
@@ -98,7 +134,14 @@ fn end_phrase(
         (Purpose::Reading, Ended::Version(n, value)) => {
             read_version(alloc, facts, call, db, now, purpose, position, n, value)
         }
-        (Purpose::Committing(_), Ended::Committed(_, value)) => Ok(Some(reply_to(call, &value))),
+        (Purpose::Committing(_), Ended::Committed(_, value)) => {
+            Ok(go_on(facts, call, purpose, position, &value))
+        }
+        (Purpose::Passing, Ended::Passed(counts)) => Ok(Some(Reply::Pass {
+            picked: counts.picked,
+            deleted: counts.deleted,
+            failed: counts.failed,
+        })),
         _ => Ok(Some(Reply::Refused(SlateDBError::StoreFault))),
     }
 }

@@ -5,7 +5,8 @@ ghost use Rattle.slate_protocol.specs.Calls.{new_value as made_by};
 ghost use Rattle.slate_protocol.specs.Manifests.{raised_writer};
 
 use crate::checkpoints::{
-    delete_checkpoint, refresh_checkpoint, replace_checkpoint, write_checkpoint,
+    delete_checkpoint, expire_checkpoints, refresh_checkpoint, replace_checkpoint,
+    write_checkpoint,
 };
 use crate::flushing::flush;
 use slate_ids::{CheckpointId, Millis, OutOfMemory, SlateDBError, Text};
@@ -77,5 +78,6 @@ pub(crate) fn new_value(
             refresh_checkpoint(alloc, *id, *lifetime, now, manifest)
         }
         Call::DeleteCheckpoint { id } => delete_checkpoint(alloc, id, manifest),
+        Call::Pass { .. } => expire_checkpoints(alloc, now, manifest),
     }
 }
