@@ -55,10 +55,16 @@ module _ {V A : Type 0} (log : Log V A) (db : List ℕ) (named : is_db_path db �
   test_brings n b o true is at read h = record {
     reached = λ k here. let same : b ≡ k = cc (ap boundary_got at, read, here) in let le = at_least n b is in omega arith;
   }
-  test_brings n b o false is at read h = (refl, (h, record {
-    given = i.tagged o at;
-    most = λ p found same. (b, ap (λ (x : StoredObject). boundary_of x.bytes) (one p found) ∙ read, no_more n b is);
-  }))
+  test_brings n b o false is at read h = (
+    refl,
+    (
+      h,
+      record {
+        given = i.tagged o at;
+        most = λ p found same. (b, ap (λ (x : StoredObject). boundary_of x.bytes) (one p found) ∙ read, no_more n b is);
+      },
+    ),
+  )
     where
       one : (p : StoredObject) → object_at path s ≡ Some p → p ≡ o
       one p found = cc (at, found)

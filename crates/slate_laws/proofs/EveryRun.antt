@@ -11,6 +11,7 @@ use Rattle.slate_protocol.specs.Trails.{numbered, store_of, told}
 use Rattle.slate_protocol.specs.World.{World}
 use Rattle.slate_laws.proofs.GoingOn.{run_world}
 use Rattle.slate_laws.proofs.Epochs.{chain_fenced}
+use Rattle.slate_laws.proofs.Exact.{exact_passes}
 use Rattle.slate_laws.proofs.Opening.{opening_inv}
 use Rattle.slate_laws.proofs.Rows.{AllMatch, rows_run}
 use Rattle.slate_laws.proofs.Runs.{Inv, run_inv}
@@ -47,6 +48,7 @@ lawful course past =
     record {
       past = past;
       rows = rows;
+      passes = exact_passes past.events nobody (opening_world course.specs).store;
       store = tells.store ∙ ap (λ xs. store_of xs (opening_world course.specs).store) (sym rows);
       told = λ d. ap (λ xs. told xs (opening_world course.specs).store (λ e. map numbered (opening_chains course.specs e)) d) rows ∙ tells.told d;
       manifests = λ db has. log_lawful course db (chains_at_end course.specs past.events) (course_inv course past) has;

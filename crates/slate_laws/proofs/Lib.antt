@@ -22,6 +22,8 @@ pub mod Trails
 pub mod GoingOn
 pub mod Beginnings
 pub mod Opening
+pub mod Deletes
+pub mod Exact
 pub mod EveryRun
 pub mod Listed
 pub mod Changes

@@ -70,7 +70,7 @@ module _ (min_age : ℕ) (now : ℤ) (greatest : ℕ) (cs : List Checkpoint) whe
       test false is rest = rest
 
 -- there is a greatest one
-some_greatest : (b : ℕ) (ns : List ℕ) → greatest_number (b ∷ ns) ≡ None → ⊥
+pub some_greatest : (b : ℕ) (ns : List ℕ) → greatest_number (b ∷ ns) ≡ None → ⊥
 some_greatest b ns e = by_rest (greatest_number ns) e
   where
     by_rest : (o : Option ℕ) → greater (Some b) o ≡ None → ⊥

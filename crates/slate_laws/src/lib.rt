@@ -4,6 +4,8 @@
 
 mod chains;
 mod courses;
+mod exact_passes;
 
 pub use chains::{changed, list_top, taken_path};
 pub use courses::{begins, goes_on, lawful, stops};
+pub use exact_passes::exact_pass;
