@@ -96,3 +96,7 @@ by_tests bs false (Some m) e h =
 -- exactly the decimal texts are read
 pub reads_decimal : (bs : List ℕ) → ReadsDecimal bs (boundary_of bs)
 reads_decimal bs = by_tests bs (leads bs) (digits_from 0 bs) refl refl
+
+-- a decimal text is read as the boundary that it writes
+pub boundary_decimal : (n : ℕ) → n < 2 ^ 64 → boundary_of (decimal n) ≡ Some n
+boundary_decimal n small = let read = decimal_read n small in ap (λ (b : Bool). if b then None else digits_from 0 (decimal n)) read.0 ∙ read.1

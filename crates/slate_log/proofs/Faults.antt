@@ -14,7 +14,7 @@ use Rattle.slate_store.specs.declared.step.Step.TheVariants.{Again, Done}
 use Rattle.slate_store.specs.declared.store_answer.StoreAnswer.{StoreAnswer}
 use Rattle.slate_store.specs.declared.store_answer.StoreAnswer.TheVariants.{Found, Got, Created, Replaced, Written, Deleted, Fault}
 use Rattle.slate_store.specs.declared.store_call.StoreCall.{StoreCall}
-use Rattle.slate_store.specs.declared.store_call.StoreCall.TheVariants.{List as ListCall, Get, PutNew}
+use Rattle.slate_store.specs.declared.store_call.StoreCall.TheVariants.{List as ListCall, Get, PutNew, Replace, Delete}
 use Rattle.slate_store.specs.declared.object.ObjectMetadata.{ObjectMetadata}
 use Rattle.slate_store.specs.declared.object.StoredObject.{StoredObject}
 use Rattle.slate_store.specs.declared.list_dir.ListDir.{ListDir}
@@ -93,7 +93,7 @@ pub call_rose : {P R M : Type 0} {due is_start : P → Bool} {asks : P → Store
 call_rose result only due (inl ran) = ran_rose only due ran
 call_rose result only due (inr m) = λ fault. absurd (let out : ran_out result ≡ true = m.0 in let not : ran_out result ≡ false = ap ran_out fault in cc)
 
--- the answers to a list, a get, and a put of a new object
+-- the answers to a list, a get, a put of a new object, a replacement, and a delete
 pub list_answers : (dir : ListDir) (answer : StoreAnswer) → IsAnswerTo (ListCall dir) answer → (answer ≡ Fault) ⊎ ((found : List ObjectMetadata) × (answer ≡ Found found))
 list_answers dir (Found found) kind = inr (found, refl)
 list_answers dir (Got object) kind = absurd kind
@@ -120,6 +120,24 @@ create_answers path bytes (Replaced tag) kind = absurd kind
 create_answers path bytes (Written tag) kind = absurd kind
 create_answers path bytes Deleted kind = absurd kind
 create_answers path bytes Fault kind = inl refl
+
+pub replace_answers : (path : ObjectPath) (tag : ℕ) (bytes : List ℕ) (answer : StoreAnswer) → IsAnswerTo (Replace path tag bytes) answer → (answer ≡ Fault) ⊎ ((new : Option ℕ) × (answer ≡ Replaced new))
+replace_answers path tag bytes (Found found) kind = absurd kind
+replace_answers path tag bytes (Got object) kind = absurd kind
+replace_answers path tag bytes (Created new) kind = absurd kind
+replace_answers path tag bytes (Replaced new) kind = inr (new, refl)
+replace_answers path tag bytes (Written new) kind = absurd kind
+replace_answers path tag bytes Deleted kind = absurd kind
+replace_answers path tag bytes Fault kind = inl refl
+
+pub delete_answers : (path : ObjectPath) (answer : StoreAnswer) → IsAnswerTo (Delete path) answer → (answer ≡ Fault) ⊎ ((u : Unit {0}) × (answer ≡ Deleted))
+delete_answers path (Found found) kind = absurd kind
+delete_answers path (Got object) kind = absurd kind
+delete_answers path (Created tag) kind = absurd kind
+delete_answers path (Replaced tag) kind = absurd kind
+delete_answers path (Written tag) kind = absurd kind
+delete_answers path Deleted kind = inr (tt, refl)
+delete_answers path Fault kind = inl refl
 
 -- sound at an answer of its kind
 pub sound_at : {P R X : Type 0} (due : P → Bool) (goes : StoreAnswer → Goes P R) (made : X → StoreAnswer) (answer : StoreAnswer) → (answer ≡ Fault) ⊎ ((x : X) × (answer ≡ made x)) → IsEnd (goes Fault) → ((x : X) → Fine due (goes (made x)))

@@ -5,3 +5,7 @@ pub mod Once
 pub mod Faults
 pub mod ReadFaults
 pub mod Commits
+pub mod Advances
+pub mod Stored
+pub mod Reached
+pub mod Deletes

@@ -1,6 +1,5 @@
 -- Advance: get the boundary, and where it is below a number put that number in its place.
-use Rattle.std.specs.Prelude.{◌≡◌, ℕ, ◌<◌, ◌==◌, Bool, true, false, List, Option, Some, None, Result, Ok, Err, nat_le, decimal, if◌then◌else◌}
-use Rattle.slate_ids.specs.declared.error.SlateDBError.{SlateDBError}
+use Rattle.std.specs.Prelude.{ℕ, ◌<◌, ◌==◌, Bool, true, false, List, Option, Some, None, Ok, Err, nat_le, decimal, if◌then◌else◌}
 use Rattle.slate_ids.specs.declared.error.SlateDBError.TheVariants.{StoreFault, Corrupt}
 use Rattle.slate_ids.specs.declared.error.FormatName.TheVariants.{Boundary as BoundaryFormat}
 use Rattle.slate_store.specs.declared.object.StoredObject.{StoredObject}

@@ -1,6 +1,5 @@
 -- Delete: get the boundary, and delete a version that isn't above it; or delete it as it is.
-use Rattle.std.specs.Prelude.{ℕ, Bool, true, false, List, Option, Some, None, Result, Ok, Err, nat_le, if◌then◌else◌}
-use Rattle.slate_ids.specs.declared.error.SlateDBError.{SlateDBError}
+use Rattle.std.specs.Prelude.{ℕ, Bool, true, false, List, Option, Some, None, Ok, Err, nat_le, if◌then◌else◌}
 use Rattle.slate_ids.specs.declared.error.SlateDBError.TheVariants.{StoreFault, Corrupt, InvalidDeletion}
 use Rattle.slate_ids.specs.declared.error.FormatName.TheVariants.{Boundary as BoundaryFormat}
 use Rattle.slate_store.specs.declared.store_call.StoreCall.{StoreCall}

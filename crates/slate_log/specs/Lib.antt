@@ -10,4 +10,6 @@ pub mod Commit
 pub mod Advance
 pub mod Delete
 pub mod Committing
+pub mod Advancing
+pub mod Deleting
 pub mod Numbers

@@ -1,9 +1,11 @@
 //! The boundary of a log, and the greatest number of a list.
-ghost use Rattle.std.specs.Prelude.{◌≡◌};
+ghost use Rattle.std.specs.Prelude.{◌≡◌, decimal, IfOk};
 ghost use Rattle.slate_log.specs.Boundary.{digits_from, boundary_of, boundary_got, greater, greatest, ReadsDecimal};
 
 use crate::log_kind::LogKind;
+use slate_ids::{ByteList, OutOfMemory};
 use slate_store::{ObjectMetadata, StoredObject};
+use std::alloc::Global;
 
 // The number that the digits are, where it is below 2^64.
 fn digits(text: &[u8]) -> Option<u64>
@@ -38,6 +40,15 @@ pub fn decode_boundary(bytes: &[u8]) -> Option<u64>
     ensures decimal { ReadsDecimal bytes.now result }
 {
     plain_digits(bytes)
+}
+
+/// The bytes of a boundary: its number in decimal.
+pub fn encode_boundary(alloc: Global, number: u64) -> Result<ByteList, OutOfMemory>
+    ensures { IfOk result (λ bytes. bytes ≡ decimal number) }
+{
+    let mut text = String::new(alloc);
+    write!(text, "{number}")?;
+    Ok(ByteList::new(text.into_bytes()))
 }
 
 /// The boundary that was got, where the bytes are one. An absent boundary is 0.

@@ -1,11 +1,16 @@
-//! The versioned log, over any codec, rules and store: reads, commits and lists of its versions.
+//! The versioned log, over any codec, rules and store: reads, commits, lists and deletions of its versions, and advances of
+//! its boundary.
 #![tactic(auto)]
 
 mod advance;
+mod advancing;
 mod boundary;
+#[cfg(test)]
+mod boundary_tests;
 mod commit;
 mod committing;
 mod delete;
+mod deleting;
 mod log_kind;
 #[cfg(test)]
 mod log_tests;

@@ -3,8 +3,8 @@ use Rattle.std.specs.Prelude.{◌≡◌, ℕ, ◌+◌, ◌==◌, List, [], ◌�
 use Rattle.slate_ids.specs.declared.error.SlateDBError.{SlateDBError}
 use Rattle.slate_store.specs.Store.{Store, object_at}
 use Rattle.slate_store.specs.declared.object.StoredObject.{StoredObject}
-use Rattle.slate_log.specs.Boundary.{boundary_got}
-use Rattle.slate_log.specs.LogPaths.{version_path, boundary_path}
+use Rattle.slate_log.specs.Advancing.{boundary_at}
+use Rattle.slate_log.specs.LogPaths.{version_path}
 use Rattle.slate_log.specs.declared.log_kind.LogKind.{LogKind}
 use Rattle.slate_log.specs.declared.right.Right.{Right}
 
@@ -86,7 +86,7 @@ Stands log db s c n = bytes_of (object_at (version_path log.kind db n) s) ≡ li
 
 -- the boundary of a log, where it can be read
 abbrev pub bound_in : {V A : Type 0} → Log V A → List ℕ → Store → Option ℕ
-bound_in log db s = boundary_got (object_at (boundary_path log.kind db) s)
+bound_in log db s = boundary_at db log.kind s
 
 -- the chain stays, or gets one version on top, by an author of this kind
 pub data Changed {V A : Type 0} (P : A → Type 0) (c c' : List (Link V A)) : Type 0 where

@@ -1,11 +1,12 @@
 -- The call that an item with `start` stands for, by its name.
-use Rattle.std.specs.Prelude.{pos, [], ◌∷◌, Option, Some, None, codes, ⊤}
+use Rattle.std.specs.Prelude.{pos, false, [], ◌∷◌, Option, Some, None, codes, ⊤}
 use Rattle.serde_json.specs.Data.{Data, Items, no_items, item}
 use Rattle.serde_json.specs.Find.{as_str}
-use Rattle.slate_script.specs.Fields.{◌>>=◌, only, required, optional, array_in, u64_in, checkpoint_id_in}
-use Rattle.slate_script.specs.Words.{name_in}
+use Rattle.slate_script.specs.Fields.{◌>>=◌, only, required, defaulted, optional, array_in, u64_in, bool_in, checkpoint_id_in}
+use Rattle.slate_script.specs.Words.{pass_in, filter_in, name_in}
 use Rattle.slate_script.specs.declared.call.Call.{Call}
-use Rattle.slate_script.specs.declared.call.Call.TheVariants.{OpenWriter, Flush, WriteCheckpoint, ReplaceCheckpoint, RefreshCheckpoint, DeleteCheckpoint}
+use Rattle.slate_script.specs.declared.call.Call.TheVariants.{OpenWriter, Flush, WriteCheckpoint, ReplaceCheckpoint, RefreshCheckpoint, DeleteCheckpoint, Pass}
+use Rattle.slate_script.specs.declared.filter_word.FilterWord.TheVariants.{All}
 use Rattle.slate_script.specs.declared.call_name.CallName.{CallName}
 use Rattle.slate_script.specs.declared.call_name.CallName.TheVariants as name
 
@@ -67,6 +68,16 @@ delete_checkpoint_in d = do
   id ← required checkpoint_id_in (codes "id") d
   Some (DeleteCheckpoint id)
 
+-- a pass of a collector, over versions older than five minutes where no age is given
+unfoldable pub collector_pass_in : Data → Option Call
+collector_pass_in d = do
+  _ ← only (codes "start" ∷ codes "call" ∷ codes "pass" ∷ codes "min_age" ∷ codes "dry_run" ∷ codes "filter" ∷ []) d
+  pass ← required pass_in (codes "pass") d
+  min_age ← defaulted 300000 u64_in (codes "min_age") d
+  dry_run ← defaulted false bool_in (codes "dry_run") d
+  filter ← defaulted All filter_in (codes "filter") d
+  Some (Pass pass min_age dry_run filter)
+
 -- the call of this name, with its fields
 abbrev pub call_of : CallName → Data → Option Call
 call_of name.OpenWriter d = open_writer_in d
@@ -75,6 +86,7 @@ call_of name.WriteCheckpoint d = write_checkpoint_in d
 call_of name.ReplaceCheckpoint d = replace_checkpoint_in d
 call_of name.RefreshCheckpoint d = refresh_checkpoint_in d
 call_of name.DeleteCheckpoint d = delete_checkpoint_in d
+call_of name.Pass d = collector_pass_in d
 
 -- a call by its name
 unfoldable pub call_in : Data → Option Call

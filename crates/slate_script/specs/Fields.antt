@@ -2,7 +2,7 @@
 use Rattle.std.specs.Prelude.{◌≡◌, ℕ, ◌^◌, ◌&&◌, ℤ, nat_lt, Bool, true, List, [], ◌∷◌, Option, Some, None, Result, Ok, Err, option_map, if◌then◌else◌, bytes_eq, ⊤}
 use Rattle.std.specs.List.{list_any}
 use Rattle.serde_json.specs.Data.{Data, Items, no_items, item, Members, no_members, member}
-use Rattle.serde_json.specs.Find.{get, as_number, as_str, as_array, as_object, as_u64, as_i64}
+use Rattle.serde_json.specs.Find.{get, as_bool, as_number, as_str, as_array, as_object, as_u64, as_i64}
 use Rattle.slate_ids.specs.Ids.{is_db_path, checkpoint_of}
 use Rattle.slate_script.specs.declared.refusal.Refusal.{Refusal}
 use Rattle.slate_script.specs.declared.refusal.Refusal.TheVariants.{Malformed, OutOfMemory}
@@ -75,6 +75,10 @@ u32_in d = u64_in d >>= below (2 ^ 32)
 -- a signed whole number of 64 bits
 abbrev pub i64_in : Data → Option ℤ
 i64_in d = as_number d >>= as_i64
+
+-- true or false
+abbrev pub bool_in : Data → Option Bool
+bool_in d = as_bool d
 
 -- a text that is the path of a database
 abbrev pub db_path_in : Data → Option (List ℕ)

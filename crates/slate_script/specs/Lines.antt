@@ -114,6 +114,7 @@ abbrev pub reply_text : Reply → List ℕ
 reply_text reply.Done = codes "done"
 reply_text (reply.Epoch n) = codes "epoch" ++ spaced n
 reply_text (reply.Checkpoint id version) = codes "checkpoint " ++ hyphenated_text lower id ++ spaced version
+reply_text (reply.Pass picked deleted failed) = codes "pass" ++ spaced picked ++ spaced deleted ++ spaced failed
 reply_text (reply.Refused e) = codes "refused " ++ refusal_text e
 
 -- the reply that ends a call, where one does

@@ -2,9 +2,13 @@
 use Rattle.std.specs.Prelude.{ℕ, List, [], ◌∷◌, Option, Some, None, codes, if◌then◌else◌, bytes_eq}
 use Rattle.serde_json.specs.Data.{Data}
 use Rattle.serde_json.specs.Find.{as_str}
+use Rattle.slate_ids.specs.declared.gc_message.GcMessage.{GcMessage}
+use Rattle.slate_ids.specs.declared.gc_message.GcMessage.TheVariants as pass
 use Rattle.slate_store.specs.declared.mark.Mark.{Mark}
 use Rattle.slate_store.specs.declared.mark.Mark.TheVariants as mark
 use Rattle.slate_script.specs.Fields.{◌>>=◌}
+use Rattle.slate_script.specs.declared.filter_word.FilterWord.{FilterWord}
+use Rattle.slate_script.specs.declared.filter_word.FilterWord.TheVariants as filter
 use Rattle.slate_script.specs.declared.party_kind.PartyKind.{PartyKind}
 use Rattle.slate_script.specs.declared.party_kind.PartyKind.TheVariants as kind
 use Rattle.slate_script.specs.declared.call_name.CallName.{CallName}
@@ -17,7 +21,7 @@ word_in (w ∷ ws) s = if bytes_eq s w.0 then Some w.1 else word_in ws s
 
 -- the kinds of parties
 unfoldable pub kind_word : List ℕ → Option PartyKind
-kind_word s = word_in ((codes "writer", kind.Writer) ∷ (codes "holder", kind.Holder) ∷ []) s
+kind_word s = word_in ((codes "writer", kind.Writer) ∷ (codes "holder", kind.Holder) ∷ (codes "collector", kind.Collector) ∷ []) s
 
 -- a text that is the word of a kind
 abbrev pub kind_in : Data → Option PartyKind
@@ -31,9 +35,25 @@ mark_word s = word_in ((codes "fail", mark.Fail) ∷ (codes "lost", mark.Lost) �
 abbrev pub mark_in : Data → Option Mark
 mark_in d = as_str d >>= mark_word
 
--- the calls of a writer, then those of a holder
+-- the passes of a collector
+unfoldable pub pass_word : List ℕ → Option GcMessage
+pass_word s = word_in ((codes "manifest", pass.Manifest) ∷ []) s
+
+-- a text that is the word of a pass
+abbrev pub pass_in : Data → Option GcMessage
+pass_in d = as_str d >>= pass_word
+
+-- the filters of a pass
+unfoldable pub filter_word : List ℕ → Option FilterWord
+filter_word s = word_in ((codes "all", filter.All) ∷ (codes "none", filter.Nothing) ∷ []) s
+
+-- a text that is the word of a filter
+abbrev pub filter_in : Data → Option FilterWord
+filter_in d = as_str d >>= filter_word
+
+-- the calls of a writer, then those of a holder, then the one of a collector
 unfoldable pub name_word : List ℕ → Option CallName
-name_word s = word_in ((codes "open_writer", name.OpenWriter) ∷ (codes "flush", name.Flush) ∷ (codes "write_checkpoint", name.WriteCheckpoint) ∷ (codes "replace_checkpoint", name.ReplaceCheckpoint) ∷ (codes "refresh_checkpoint", name.RefreshCheckpoint) ∷ (codes "delete_checkpoint", name.DeleteCheckpoint) ∷ []) s
+name_word s = word_in ((codes "open_writer", name.OpenWriter) ∷ (codes "flush", name.Flush) ∷ (codes "write_checkpoint", name.WriteCheckpoint) ∷ (codes "replace_checkpoint", name.ReplaceCheckpoint) ∷ (codes "refresh_checkpoint", name.RefreshCheckpoint) ∷ (codes "delete_checkpoint", name.DeleteCheckpoint) ∷ (codes "pass", name.Pass) ∷ []) s
 
 -- a text that is the name of a call
 abbrev pub name_in : Data → Option CallName

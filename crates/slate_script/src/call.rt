@@ -1,7 +1,8 @@
 //! Calls of parties.
 ghost use Rattle.std.specs.Prelude.{◌≡◌, IfOk};
 
-use slate_ids::{CheckpointId, Millis, OutOfMemory, Text};
+use crate::filter_word::FilterWord;
+use slate_ids::{CheckpointId, GcMessage, Millis, OutOfMemory, Text};
 use slate_model::copy_name;
 use std::alloc::Global;
 
@@ -47,6 +48,20 @@ pub enum Call {
     DeleteCheckpoint {
         id: CheckpointId,
     },
+    /// Reads the latest manifest and, where it has expired checkpoints, commits it without them. Then lists the versions,
+    /// gets the greatest and the boundary, moves the boundary to the greatest candidate, and deletes one by one what is
+    /// picked: the candidates that the filter allows, in the order of the list. Candidates are the listed numbers below the
+    /// greatest that no checkpoint of it names and whose age at the moment of the list is strictly above `min_age`, in
+    /// milliseconds. A dry run picks nothing, but moves the boundary. A fault of a delete is counted, and the pass goes on;
+    /// any other fault ends it. Refused with `LatestTransactionalObjectVersionMissing` where a list is empty, and with
+    /// `ManifestMissing` where the greatest listed version is gone, or at or below the boundary. The reply is the three
+    /// counts.
+    Pass {
+        pass: GcMessage,
+        min_age: u64,
+        dry_run: bool,
+        filter: FilterWord,
+    },
 }
 
 impl Call {
@@ -89,6 +104,17 @@ impl Call {
                 lifetime: *lifetime,
             },
             Call::DeleteCheckpoint { id } => Call::DeleteCheckpoint { id: *id },
+            Call::Pass {
+                pass,
+                min_age,
+                dry_run,
+                filter,
+            } => Call::Pass {
+                pass: *pass,
+                min_age: *min_age,
+                dry_run: *dry_run,
+                filter: *filter,
+            },
         })
     }
 }

@@ -16,6 +16,7 @@ pub(crate) enum CallName {
     ReplaceCheckpoint,
     RefreshCheckpoint,
     DeleteCheckpoint,
+    Pass,
 }
 
 #[tactic(auto, unfolding(crate::specs::Words::name_word))]
@@ -29,6 +30,7 @@ fn name_of(text: &str) -> Option<CallName>
         "replace_checkpoint" => Some(CallName::ReplaceCheckpoint),
         "refresh_checkpoint" => Some(CallName::RefreshCheckpoint),
         "delete_checkpoint" => Some(CallName::DeleteCheckpoint),
+        "pass" => Some(CallName::Pass),
         _ => None,
     }
 }

@@ -8,12 +8,14 @@ mod db_spec;
 mod entry;
 mod event;
 mod fields;
+mod filter_word;
 #[cfg(test)]
 mod line_tests;
 mod party_kind;
 mod read_call;
 mod read_database;
 mod read_event;
+mod read_pass;
 mod reading;
 #[cfg(test)]
 mod reading_tests;
@@ -29,6 +31,7 @@ pub use cluster_cause::ClusterCause;
 pub use db_spec::DbSpec;
 pub use entry::Entry;
 pub use event::Event;
+pub use filter_word::FilterWord;
 pub use party_kind::PartyKind;
 pub use reading::read_script;
 pub use reply::Reply;

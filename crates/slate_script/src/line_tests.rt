@@ -81,6 +81,14 @@ fn entries_with_a_store_call(rt: HostRuntime) -> Result<(), Fail> {
             Some(Reply::Checkpoint(checkpoint, 3)),
             " reply checkpoint 00000000-0000-0000-0000-000000000008 3\n",
         ),
+        (
+            Some(Reply::Pass {
+                picked: 2,
+                deleted: 1,
+                failed: 1,
+            }),
+            " reply pass 2 1 1\n",
+        ),
         (refused(fenced), " reply refused 2 Fenced 1 2\n"),
     ];
     for (reply, end) in rows {

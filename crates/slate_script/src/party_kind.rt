@@ -7,4 +7,6 @@ pub enum PartyKind {
     Writer,
     /// It holds checkpoints.
     Holder,
+    /// It runs passes of the garbage collector.
+    Collector,
 }

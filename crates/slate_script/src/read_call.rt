@@ -6,6 +6,7 @@ ghost use Rattle.slate_script.specs.Calls.{open_writer_in, is_empty, no_tables_i
 use crate::call::Call;
 use crate::call_name::CallName;
 use crate::fields::{array_of, only, optional, required};
+use crate::read_pass::read_pass;
 use crate::refusal::Refusal;
 use serde_json::Value;
 use std::alloc::Global;
@@ -118,5 +119,6 @@ pub(crate) fn read_call(alloc: Global, d: &Value) -> Result<Call, Refusal>
         CallName::ReplaceCheckpoint => replace_checkpoint(alloc, d),
         CallName::RefreshCheckpoint => refresh_checkpoint(alloc, d),
         CallName::DeleteCheckpoint => delete_checkpoint(alloc, d),
+        CallName::Pass => read_pass(alloc, d),
     }
 }

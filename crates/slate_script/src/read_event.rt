@@ -35,6 +35,7 @@ fn kind_of(text: &str) -> Option<PartyKind>
     match text {
         "writer" => Some(PartyKind::Writer),
         "holder" => Some(PartyKind::Holder),
+        "collector" => Some(PartyKind::Collector),
         _ => None,
     }
 }

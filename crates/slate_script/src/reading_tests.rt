@@ -23,6 +23,10 @@ const WHOLE: &str = r#"{"databases":[
 {"start":2,"call":"refresh_checkpoint","id":9},
 {"start":2,"call":"refresh_checkpoint","id":9,"lifetime":10},
 {"start":2,"call":"delete_checkpoint","id":0},
+{"open":5,"kind":"collector","db":"a"},
+{"start":5,"call":"pass","pass":"manifest"},
+{"start":5,"call":"pass","pass":"manifest","min_age":18446744073709551615,"dry_run":true,"filter":"none"},
+{"start":5,"call":"pass","pass":"manifest","min_age":0,"dry_run":false,"filter":"all"},
 {"step":1,"at":-9223372036854775808},
 {"step":2,"at":6,"mark":"fail","times":2},
 {"step":3,"at":9223372036854775807,"mark":"lost","times":1},
@@ -35,7 +39,7 @@ const DATABASES: [&str; 2] = [
 ];
 
 /// What its events are.
-const EVENTS: [&str; 16] = [
+const EVENTS: [&str; 20] = [
     "open 1 Writer a",
     "open 4294967295 Holder none",
     "start 1 open writer",
@@ -47,6 +51,10 @@ const EVENTS: [&str; 16] = [
     "start 2 refresh 9 None",
     "start 2 refresh 9 Some(10)",
     "start 2 delete 0",
+    "open 5 Collector a",
+    "start 5 pass Manifest 300000 false All",
+    "start 5 pass Manifest 18446744073709551615 true Nothing",
+    "start 5 pass Manifest 0 false All",
     "step 1 -9223372036854775808 Good",
     "step 2 6 Fail",
     "step 2 6 Fail",
@@ -119,6 +127,12 @@ fn call_text(alloc: Global, call: &Call) -> Result<String, Fail> {
             let id = id.as_u128();
             format!(in alloc; "delete {id}")?
         }
+        Call::Pass {
+            pass,
+            min_age,
+            dry_run,
+            filter,
+        } => format!(in alloc; "pass {pass:?} {min_age} {dry_run} {filter:?}")?,
     })
 }
 
@@ -256,6 +270,27 @@ const BAD_EVENTS: [(&str, u64); 24] = [
     ),
 ];
 
+// Fields of passes that are none.
+const BAD_PASSES: [&str; 17] = [
+    r#""min_age":0"#,
+    r#""pass":"wal""#,
+    r#""pass":"Manifest""#,
+    r#""pass":["manifest"]"#,
+    r#""pass":"manifest","min_age":-1"#,
+    r#""pass":"manifest","min_age":1.0"#,
+    r#""pass":"manifest","min_age":18446744073709551616"#,
+    r#""pass":"manifest","min_age":null"#,
+    r#""pass":"manifest","dry_run":1"#,
+    r#""pass":"manifest","dry_run":"true""#,
+    r#""pass":"manifest","dry_run":null"#,
+    r#""pass":"manifest","filter":[]"#,
+    r#""pass":"manifest","filter":"some""#,
+    r#""pass":"manifest","filter":"nothing""#,
+    r#""pass":"manifest","filter":null"#,
+    r#""pass":"manifest","id":1"#,
+    r#""pass":"manifest","at":0"#,
+];
+
 // A database that is none comes before an event that is none.
 #[test]
 fn databases_that_are_none(rt: HostRuntime) -> Result<(), Fail> {
@@ -275,6 +310,19 @@ fn events_that_are_none(rt: HostRuntime) -> Result<(), Fail> {
         let text = format!(in alloc; "{{\"databases\":[],\"events\":[{items}]}}")?;
         let found = place_of(alloc, text.as_str())?;
         assert_eq!(rt; found, Some(ScriptPlace::Event(place)), "at {text}");
+    }
+    Ok(())
+}
+
+#[test]
+fn passes_that_are_none(rt: HostRuntime) -> Result<(), Fail> {
+    let alloc = rt.alloc();
+    for fields in BAD_PASSES {
+        let text = format!(in alloc;
+            "{{\"databases\":[],\"events\":[{{\"stop\":1}},{{\"start\":1,\"call\":\"pass\",{fields}}}]}}"
+        )?;
+        let found = place_of(alloc, text.as_str())?;
+        assert_eq!(rt; found, Some(ScriptPlace::Event(1)), "at {text}");
     }
     Ok(())
 }

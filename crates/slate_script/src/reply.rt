@@ -13,6 +13,12 @@ pub enum Reply {
     Epoch(u64),
     /// A checkpoint, and the number of the version that it names.
     Checkpoint(CheckpointId, u64),
+    /// The end of a pass: how many objects it picked, how many of those it deleted, and how many deletes failed.
+    Pass {
+        picked: u64,
+        deleted: u64,
+        failed: u64,
+    },
     /// The call was refused.
     Refused(SlateDBError),
 }
@@ -26,6 +32,15 @@ impl Reply {
             Reply::Done => Reply::Done,
             Reply::Epoch(n) => Reply::Epoch(*n),
             Reply::Checkpoint(id, version) => Reply::Checkpoint(*id, *version),
+            Reply::Pass {
+                picked,
+                deleted,
+                failed,
+            } => Reply::Pass {
+                picked: *picked,
+                deleted: *deleted,
+                failed: *failed,
+            },
             Reply::Refused(refusal) => Reply::Refused(refusal.copy(alloc)?),
         })
     }

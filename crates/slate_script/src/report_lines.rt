@@ -95,6 +95,11 @@ fn push_reply(out: &mut String, reply: &Reply) -> Result<(), AllocError>
         Reply::Done => out.push_str("done"),
         Reply::Epoch(n) => write!(out, "epoch {n}"),
         Reply::Checkpoint(id, version) => write!(out, "checkpoint {id} {version}"),
+        Reply::Pass {
+            picked,
+            deleted,
+            failed,
+        } => write!(out, "pass {picked} {deleted} {failed}"),
         Reply::Refused(refusal) => {
             out.push_str("refused ")?;
             push_refusal(out, refusal)

@@ -3,7 +3,7 @@ ghost use Rattle.std.specs.Prelude.{◌≡◌, Option};
 ghost use Rattle.serde_json.specs.Data.{Data};
 ghost use Rattle.serde_json.specs.Find.{as_str};
 ghost use Rattle.serde_json.specs.View.{view, items_view};
-ghost use Rattle.slate_script.specs.Fields.{Gives, u64_in, u32_in, i64_in, db_path_in, checkpoint_id_in, items_in, list_in};
+ghost use Rattle.slate_script.specs.Fields.{Gives, u64_in, u32_in, i64_in, bool_in, db_path_in, checkpoint_id_in, items_in, list_in};
 
 use crate::refusal::Refusal;
 use serde_json::Value;
@@ -50,6 +50,17 @@ impl FromJson for i64 {
     fn from_json(_alloc: Global, value: &Value) -> Result<i64, Refusal> {
         match value.as_i64() {
             Some(n) => Ok(n),
+            None => Err(Refusal::Malformed),
+        }
+    }
+}
+
+impl FromJson for bool {
+    ghost reads = { bool_in };
+
+    fn from_json(_alloc: Global, value: &Value) -> Result<bool, Refusal> {
+        match value.as_bool() {
+            Some(b) => Ok(b),
             None => Err(Refusal::Malformed),
         }
     }
