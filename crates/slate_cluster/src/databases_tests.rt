@@ -102,7 +102,7 @@ fn scripts_are_refused_at_their_place(rt: HostRuntime) -> Result<(), Fail> {
             "bad script database 1\n",
         ),
         (
-            "{\"databases\":[],\"events\":[{\"step\":1,\"at\":1,\"times\":7},{\"open\":1,\"kind\":\"collector\",\"db\":\"db\"}]}",
+            "{\"databases\":[],\"events\":[{\"step\":1,\"at\":1,\"times\":7},{\"open\":1,\"kind\":\"compactor\",\"db\":\"db\"}]}",
             ScriptPlace::Event(7),
             "bad script event 7\n",
         ),

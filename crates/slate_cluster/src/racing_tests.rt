@@ -139,7 +139,7 @@ fn a_pass_is_raced_at_each_step(rt: HostRuntime) -> Result<(), Fail> {
             .store()
             .object(&ObjectPath::ManifestBoundary(database()?))
             .ok_or("no boundary")?;
-        assert_eq!(rt; boundary.bytes.as_slice(), b"2");
+        assert_eq!(rt; boundary.bytes.as_slice(), b"2".as_slice());
     }
     Ok(())
 }

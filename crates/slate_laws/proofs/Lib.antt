@@ -27,3 +27,7 @@ pub mod Exact
 pub mod EveryRun
 pub mod Listed
 pub mod Changes
+pub mod Ordered
+pub mod Left
+pub mod Alone
+pub mod Undisturbed

@@ -5,7 +5,9 @@
 mod chains;
 mod courses;
 mod exact_passes;
+mod passes_alone;
 
 pub use chains::{changed, list_top, taken_path};
 pub use courses::{begins, goes_on, lawful, stops};
 pub use exact_passes::exact_pass;
+pub use passes_alone::undisturbed_pass;
