@@ -61,12 +61,7 @@ ok
 ";
 
 // The three versions, and these events of the collector.
-fn check_pass(
-    rt: &impl Abort,
-    alloc: Global,
-    own: &[&str],
-    written: &[&str],
-) -> Result<(), Fail> {
+fn check_pass(rt: &impl Abort, alloc: Global, own: &[&str], written: &[&str]) -> Result<(), Fail> {
     let mut events = Vec::from_slice(alloc, &THREE_VERSIONS)?;
     for event in own {
         events.push(*event)?;
@@ -231,12 +226,7 @@ fn ages_are_compared_strictly(rt: HostRuntime) -> Result<(), Fail> {
 }
 
 // A database whose one checkpoint expires at 5000, and a pass whose steps are at this moment.
-fn check_expiry(
-    rt: &impl Abort,
-    alloc: Global,
-    steps: &str,
-    written: &[&str],
-) -> Result<(), Fail> {
+fn check_expiry(rt: &impl Abort, alloc: Global, steps: &str, written: &[&str]) -> Result<(), Fail> {
     let mut text = String::from_str(
         alloc,
         "{\"databases\":[{\"path\":\"db\",\"checkpoints\":[{\"id\":7,\"expire\":5000}]}],\"events\":[",
@@ -340,7 +330,10 @@ fn a_named_version_is_kept(rt: HostRuntime) -> Result<(), Fail> {
 fn only_collectors_have_passes(rt: HostRuntime) -> Result<(), Fail> {
     let alloc = rt.alloc();
     let cases = [
-        (COMES_1, "{\"start\":1,\"call\":\"pass\",\"pass\":\"manifest\"}"),
+        (
+            COMES_1,
+            "{\"start\":1,\"call\":\"pass\",\"pass\":\"manifest\"}",
+        ),
         (
             "{\"open\":1,\"kind\":\"collector\",\"db\":\"db\"}",
             "{\"start\":1,\"call\":\"open_writer\"}",

@@ -107,10 +107,12 @@ fn reply_of(number: u32, trail: &[Entry]) -> Option<(u64, u64)> {
 }
 
 fn stands(cluster: &Cluster, number: u64) -> Result<bool, Fail> {
-    Ok(cluster
-        .store()
-        .object(&ObjectPath::Manifest(database()?, number))
-        .is_some())
+    Ok(
+        cluster
+            .store()
+            .object(&ObjectPath::Manifest(database()?, number))
+            .is_some(),
+    )
 }
 
 // Whichever of the ten steps of the first pass the second comes before, both end, the greatest version alone is left, and the

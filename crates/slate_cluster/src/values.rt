@@ -5,8 +5,7 @@ ghost use Rattle.slate_protocol.specs.Calls.{new_value as made_by};
 ghost use Rattle.slate_protocol.specs.Manifests.{raised_writer};
 
 use crate::checkpoints::{
-    delete_checkpoint, expire_checkpoints, refresh_checkpoint, replace_checkpoint,
-    write_checkpoint,
+    delete_checkpoint, expire_checkpoints, refresh_checkpoint, replace_checkpoint, write_checkpoint,
 };
 use crate::flushing::flush;
 use slate_ids::{CheckpointId, Millis, OutOfMemory, SlateDBError, Text};
