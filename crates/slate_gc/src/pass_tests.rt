@@ -157,16 +157,16 @@ fn end(
     }
 }
 
-// The counts of a pass that ends after so many steps, or its refusal's number.
+// The counts of a pass that ends with the step after so many, or its refusal's number.
 fn run(
     alloc: Global,
     log: &Manifests,
     options: &PassOptions,
     store: &mut MemoryStore,
-    steps: u8,
+    before: u8,
 ) -> Result<([u64; 3], u8), Fail> {
     let mut pass = PassPhase::Listing;
-    go(alloc, log, &mut pass, options, store, steps - 1)?;
+    go(alloc, log, &mut pass, options, store, before)?;
     let reply = end(alloc, log, &mut pass, options, store)?;
     if pass.due() {
         return Err("a call is due after the end".into());
@@ -219,7 +219,7 @@ fn unpicked_candidates_only_move_the_boundary(rt: HostRuntime) -> Result<(), Fai
     ];
     for options in all {
         let mut store = three(alloc, &log, &[])?;
-        assert!(rt; run(alloc, &log, &options, &mut store, 5)? == ([0, 0, 0], 0));
+        assert!(rt; run(alloc, &log, &options, &mut store, 4)? == ([0, 0, 0], 0));
         assert!(rt; has_boundary(&log, &store, "2"));
         assert!(rt; has_versions(&log, &store, [true, true, true]));
     }
@@ -231,7 +231,7 @@ fn named_versions_stay(rt: HostRuntime) -> Result<(), Fail> {
     let alloc = rt.alloc();
     let log = manifests()?;
     let mut store = three(alloc, &log, &[2])?;
-    assert!(rt; run(alloc, &log, &OPTIONS, &mut store, 6)? == ([1, 1, 0], 0));
+    assert!(rt; run(alloc, &log, &OPTIONS, &mut store, 5)? == ([1, 1, 0], 0));
     assert!(rt; has_boundary(&log, &store, "1"));
     assert!(rt; has_versions(&log, &store, [false, true, true]));
     Ok(())
@@ -245,7 +245,7 @@ fn only_older_versions_go(rt: HostRuntime) -> Result<(), Fail> {
     put(alloc, &log, &mut store, 1, &[], NOW - 1001)?;
     put(alloc, &log, &mut store, 2, &[], NOW - 1000)?;
     put(alloc, &log, &mut store, 3, &[], 0)?;
-    assert!(rt; run(alloc, &log, &OPTIONS, &mut store, 6)? == ([1, 1, 0], 0));
+    assert!(rt; run(alloc, &log, &OPTIONS, &mut store, 5)? == ([1, 1, 0], 0));
     assert!(rt; has_versions(&log, &store, [false, true, true]));
     Ok(())
 }
@@ -265,7 +265,7 @@ fn without_candidates_nothing_is_written(rt: HostRuntime) -> Result<(), Fail> {
     let alloc = rt.alloc();
     let log = manifests()?;
     let mut store = three(alloc, &log, &[1, 2])?;
-    assert!(rt; run(alloc, &log, &OPTIONS, &mut store, 3)? == ([0, 0, 0], 0));
+    assert!(rt; run(alloc, &log, &OPTIONS, &mut store, 2)? == ([0, 0, 0], 0));
     assert!(rt; store.len() == 3);
     let mut store = three(alloc, &log, &[])?;
     let options = PassOptions {
@@ -273,7 +273,7 @@ fn without_candidates_nothing_is_written(rt: HostRuntime) -> Result<(), Fail> {
         dry_run: false,
         allows: true,
     };
-    assert!(rt; run(alloc, &log, &options, &mut store, 3)? == ([0, 0, 0], 0));
+    assert!(rt; run(alloc, &log, &options, &mut store, 2)? == ([0, 0, 0], 0));
     assert!(rt; store.len() == 3);
     Ok(())
 }
@@ -283,7 +283,7 @@ fn missing_versions_end_the_pass(rt: HostRuntime) -> Result<(), Fail> {
     let alloc = rt.alloc();
     let log = manifests()?;
     let mut store = MemoryStore::new(alloc, Vec::new(alloc));
-    assert!(rt; run(alloc, &log, &OPTIONS, &mut store, 1)?.1 == 3);
+    assert!(rt; run(alloc, &log, &OPTIONS, &mut store, 0)?.1 == 3);
     let mut store = three(alloc, &log, &[])?;
     let mut pass = PassPhase::Listing;
     go(alloc, &log, &mut pass, &OPTIONS, &mut store, 1)?;
@@ -300,7 +300,7 @@ fn boundaries_end_the_pass(rt: HostRuntime) -> Result<(), Fail> {
     for (text, code) in [("3", 4), ("4", 4), ("03", 13), ("", 13)] {
         let mut store = three(alloc, &log, &[])?;
         put_boundary(alloc, &log, &mut store, text)?;
-        assert!(rt; run(alloc, &log, &OPTIONS, &mut store, 3)?.1 == code);
+        assert!(rt; run(alloc, &log, &OPTIONS, &mut store, 2)?.1 == code);
         assert!(rt; has_boundary(&log, &store, text));
         assert!(rt; has_versions(&log, &store, [true, true, true]));
     }
@@ -313,12 +313,12 @@ fn lower_boundaries_are_moved_up(rt: HostRuntime) -> Result<(), Fail> {
     let log = manifests()?;
     let mut store = three(alloc, &log, &[])?;
     put_boundary(alloc, &log, &mut store, "1")?;
-    assert!(rt; run(alloc, &log, &OPTIONS, &mut store, 7)? == ([2, 2, 0], 0));
+    assert!(rt; run(alloc, &log, &OPTIONS, &mut store, 6)? == ([2, 2, 0], 0));
     assert!(rt; has_boundary(&log, &store, "2"));
     // a boundary that is high enough isn't written
     let mut store = three(alloc, &log, &[])?;
     put_boundary(alloc, &log, &mut store, "2")?;
-    assert!(rt; run(alloc, &log, &OPTIONS, &mut store, 6)? == ([2, 2, 0], 0));
+    assert!(rt; run(alloc, &log, &OPTIONS, &mut store, 5)? == ([2, 2, 0], 0));
     Ok(())
 }
 
