@@ -12,10 +12,9 @@ use Rattle.slate_script.specs.declared.event.Event.TheVariants.{Open, Start, Ste
 use Rattle.slate_protocol.specs.ByRows.{party_in}
 use Rattle.slate_protocol.specs.Chains.{Changed}
 use Rattle.slate_protocol.specs.Chains.Changed.{Stays, Gets}
-use Rattle.slate_protocol.specs.Lawful.{HasDb}
 use Rattle.slate_protocol.specs.Logs.{Author, Chain, Chains, author_of, chains_stepped, chains_state, chains_at, chains_after}
 use Rattle.slate_protocol.specs.Phrases.{is_due}
-use Rattle.slate_protocol.specs.World.{World, party_of}
+use Rattle.slate_protocol.specs.World.{World, party_of, HasDb}
 use Rattle.slate_protocol.specs.declared.party.Party.{Party}
 use Rattle.slate_protocol.specs.declared.party.State.{State}
 use Rattle.slate_protocol.specs.declared.party.State.TheVariants.{Resting, Busy, Halted}

@@ -1,5 +1,5 @@
 -- In a call under way a store call is due.
-use Rattle.std.proofs.Common.{◌≡◌, ℕ, ℤ, nat_le, Bool, true, false, List, [], ◌∷◌, Option, Some, None, Result, Ok, Err, refl, ap}
+use Rattle.std.proofs.Common.{◌≡◌, ℕ, ℤ, ◌==◌, nat_le, Bool, true, false, List, [], ◌∷◌, Option, Some, None, Result, Ok, Err, refl, ap}
 use Rattle.std.specs.Prelude.{if◌then◌else◌}
 use Rattle.slate_ids.specs.declared.error.SlateDBError.{SlateDBError}
 use Rattle.slate_ids.specs.declared.error.SlateDBError.TheVariants.{TransactionalObjectVersionExists, ManifestMissing}
@@ -9,11 +9,13 @@ use Rattle.slate_store.specs.Machines.{Goes, Stay, End}
 use Rattle.slate_store.specs.declared.object.ObjectMetadata.{ObjectMetadata}
 use Rattle.slate_store.specs.declared.object.StoredObject.{StoredObject}
 use Rattle.slate_store.specs.declared.store_answer.StoreAnswer.{StoreAnswer}
-use Rattle.slate_store.specs.declared.store_answer.StoreAnswer.TheVariants.{Found, Got, Created, Deleted, Fault}
+use Rattle.slate_store.specs.declared.store_answer.StoreAnswer.TheVariants.{Found, Got, Created, Replaced, Deleted, Fault}
 use Rattle.slate_script.specs.declared.call.Call.{Call}
 use Rattle.slate_script.specs.declared.call.Call.TheVariants.{OpenWriter, Flush, WriteCheckpoint, ReplaceCheckpoint, RefreshCheckpoint, DeleteCheckpoint, Pass}
-use Rattle.slate_log.specs.Advance.{AdvanceGoes, advance_goes}
-use Rattle.slate_log.specs.Boundary.{boundary_got, greatest}
+use Rattle.slate_log.specs.Advance.{AdvanceGoes, advance_goes, advance_due, read_goes_to, bound_goes, written_goes}
+use Rattle.slate_log.specs.declared.advance.AdvancePhase.{AdvancePhase}
+use Rattle.slate_log.specs.declared.advance.AdvancePhase.TheVariants as advancing
+use Rattle.slate_log.specs.Boundary.{boundary_of, boundary_got, greatest}
 use Rattle.slate_log.specs.Commit.{commit_goes, commit_due, created_goes, bounded_goes}
 use Rattle.slate_log.specs.Read.{read_goes, read_due, listed_goes, got_goes, decoded_goes, boundary_goes}
 use Rattle.slate_gc.specs.Pass as gc
@@ -96,6 +98,35 @@ commits_due _ _ = tt
 
 -- ---- passes
 
+abbrev AdvanceAt : AdvanceGoes → Type 0
+AdvanceAt g = DueAt advance_due g
+
+zero_due : (n : ℕ) (b : Bool) → AdvanceAt (if b then End advancing.Over (Ok tt) else Stay (advancing.Creating n))
+zero_due n true = tt
+zero_due n false = refl
+
+lower_due : (n tag : ℕ) (b : Bool) → AdvanceAt (if b then End advancing.Over (Ok tt) else Stay (advancing.Replacing n tag))
+lower_due n tag true = tt
+lower_due n tag false = refl
+
+read_to_due : (n tag : ℕ) (b : Option ℕ) → AdvanceAt (read_goes_to n tag b)
+read_to_due n tag None = tt
+read_to_due n tag (Some b) = lower_due n tag (nat_le n b)
+
+bound_due : (n : ℕ) (o : Option StoredObject) → AdvanceAt (bound_goes n o)
+bound_due n None = zero_due n (n == 0)
+bound_due n (Some object) = read_to_due n object.e_tag (boundary_of object.bytes)
+
+written_due : (n : ℕ) (tag : Option ℕ) → AdvanceAt (written_goes n tag)
+written_due n None = refl
+written_due n (Some tag) = tt
+
+advances_due : (phase : AdvancePhase) (answer : StoreAnswer) → AdvanceAt (advance_goes phase answer)
+advances_due (advancing.Bounding n) (Got o) = bound_due n o
+advances_due (advancing.Creating n) (Created tag) = written_due n tag
+advances_due (advancing.Replacing n old) (Replaced tag) = written_due n tag
+advances_due _ _ = tt
+
 abbrev PassAt : PassGoes → Type 0
 PassAt g = DueAt pass_due g
 
@@ -136,10 +167,10 @@ left_due : (ns : List ℕ) (counts : PassCounts) → PassAt (gc.deletes_next ns 
 left_due [] counts = tt
 left_due (n ∷ ns) counts = refl
 
-pass_advanced_due : (options : PassOptions) (ns : List ℕ) (g : AdvanceGoes) → PassAt (gc.advanced_goes options ns g)
-pass_advanced_due options ns (Stay phase) = refl
-pass_advanced_due options ns (End phase (Ok u)) = left_due (picks options ns) _
-pass_advanced_due options ns (End phase (Err e)) = tt
+pass_advanced_due : (options : PassOptions) (ns : List ℕ) (g : AdvanceGoes) → AdvanceAt g → PassAt (gc.advanced_goes options ns g)
+pass_advanced_due options ns (Stay phase) h = h
+pass_advanced_due options ns (End phase (Ok u)) h = left_due (picks options ns) _
+pass_advanced_due options ns (End phase (Err e)) h = tt
 
 deletes_due : (ns : List ℕ) (counts : PassCounts) (answer : StoreAnswer) → PassAt (gc.delete_goes ns counts answer)
 deletes_due [] counts answer = tt
@@ -151,7 +182,7 @@ passes_due : (options : PassOptions) (now : ℤ) (phase : PassPhase) (answer : S
 passes_due options now passing.Listing answer = pass_list_due now answer
 passes_due options now (passing.Getting at n dates) answer = pass_get_due options at n dates answer
 passes_due options now (passing.Bounding n ns) answer = pass_bound_due n ns answer
-passes_due options now (passing.Advancing phase ns) answer = pass_advanced_due options ns (advance_goes phase answer)
+passes_due options now (passing.Advancing phase ns) answer = pass_advanced_due options ns (advance_goes phase answer) (advances_due phase answer)
 passes_due options now (passing.Deleting ns counts) answer = deletes_due ns counts answer
 passes_due options now passing.Over answer = tt
 

@@ -1,10 +1,10 @@
 -- What holds of a log, and what a party knows while it is in a phrase: for any log.
-use Rattle.std.proofs.Common.{◌≡◌, ℕ, ◌+◌, ◌<◌, ◌≤◌, ◌^◌, List, Option, Some, None, Ok, Err}
+use Rattle.std.proofs.Common.{◌≡◌, ℕ, ◌+◌, ◌<◌, ◌≤◌, ◌^◌, true, false, List, Option, Some, None, Ok, Err, ◌⊎◌}
 use Rattle.slate_store.specs.Machines.{Goes, Stay, End}
 use Rattle.slate_store.specs.Store.{Store, object_at}
 use Rattle.slate_store.specs.declared.object.StoredObject.{StoredObject}
 use Rattle.slate_log.specs.Boundary.{boundary_of}
-use Rattle.slate_log.specs.LogPaths.{boundary_path}
+use Rattle.slate_log.specs.LogPaths.{version_path, boundary_path}
 use Rattle.slate_log.specs.declared.advance.AdvancePhase.{AdvancePhase}
 use Rattle.slate_log.specs.declared.advance.AdvancePhase.TheVariants as advancing
 use Rattle.slate_log.specs.declared.commit.CommitPhase.{CommitPhase}
@@ -12,12 +12,20 @@ use Rattle.slate_log.specs.declared.commit.CommitPhase.TheVariants as committing
 use Rattle.slate_log.specs.declared.read.ReadPhase.{ReadPhase}
 use Rattle.slate_log.specs.declared.read.ReadPhase.TheVariants as reading
 use Rattle.slate_log.specs.declared.right.Right.{Right}
-use Rattle.slate_protocol.specs.Chains.{Link, Log, link_at, top, IsChain, bound_in, Stands}
+use Rattle.slate_protocol.specs.Chains.{Link, Log, link_at, top, IsChain, bytes_of, bound_in, Stands}
+use Rattle.slate_protocol.specs.Reach.{IsNeeded, IsSpare}
 
 -- what is read back of a value, and the rules on it
 pub record IsLog {V A : Type 0} (log : Log V A) : Type 0 where
   pub round : (v : V) (bytes : List ℕ) → log.encoded v ≡ Ok bytes → log.decoded bytes ≡ Ok (log.normal v)
   pub plain : (n : ℕ) (old v : V) (right : Right) → log.refusal n old v right ≡ None → log.refusal n old (log.normal v) right ≡ None
+  pub known : (n : ℕ) (old v : V) (right : Right) (k : ℕ) → log.refusal n old v right ≡ None → log.names v k ≡ true → (k ≡ n + 1) ⊎ (log.names old k ≡ true)
+
+-- a version that stands with its committed bytes
+pub record IsCommitted {V A : Type 0} (log : Log V A) (db : List ℕ) (s : Store) (c : List (Link V A)) (k : ℕ) : Type 0 where
+  pub link : Link V A
+  pub at : link_at k c ≡ Some link
+  pub stands : bytes_of (object_at (version_path log.kind db k) s) ≡ Some link.bytes
 
 -- what holds of a log at each moment
 pub record IsSound {V A : Type 0} (log : Log V A) (db : List ℕ) (s : Store) (c : List (Link V A)) : Type 0 where
@@ -28,6 +36,7 @@ pub record IsSound {V A : Type 0} (log : Log V A) (db : List ℕ) (s : Store) (c
   pub read : bound_in log db s ≡ Some bound
   pub below : bound < top c
   pub above : (k : ℕ) → bound < k → k < 2 ^ 64 → Stands log db s c k
+  pub needed : (k : ℕ) → IsNeeded log c k → IsCommitted log db s c k
   pub tagged : (o : StoredObject) → object_at (boundary_path log.kind db) s ≡ Some o → o.e_tag ≤ s.last_tag
 
 -- the committed value of a number
@@ -106,11 +115,12 @@ CommitBrings log db s c author (Stay phase) = CommitKnows log db s c author phas
 CommitBrings log db s c author (End phase (Ok version)) = IsValue c version.0 (log.normal version.1)
 CommitBrings log db s c author (End phase (Err e)) = Unit {0}
 
--- what a step can do to a log, as far as the others can see: the boundary doesn't fall, a tag is given once, and what was
--- committed stays
+-- what a step can do to a log, as far as the others can see: the boundary doesn't fall, a tag is given once, what was
+-- committed stays, and what is spare stays spare
 pub record Grows {V A : Type 0} (log : Log V A) (db : List ℕ) (s : Store) (c : List (Link V A)) (s' : Store) (c' : List (Link V A)) : Type 0 where
   pub bound : (b' : ℕ) → bound_in log db s' ≡ Some b' → (b : ℕ) × (bound_in log db s ≡ Some b) × (b ≤ b')
   pub later : s.last_tag ≤ s'.last_tag
   pub tags : (o : StoredObject) → object_at (boundary_path log.kind db) s' ≡ Some o → o.e_tag ≤ s.last_tag → object_at (boundary_path log.kind db) s ≡ Some o
   pub rises : top c ≤ top c'
+  pub spares : (k : ℕ) → IsSpare log c k → IsSpare log c' k
   pub kept : (k : ℕ) (l : Link V A) → link_at k c ≡ Some l → link_at k c' ≡ Some l

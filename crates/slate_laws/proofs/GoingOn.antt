@@ -44,7 +44,7 @@ run_front (e ∷ es) p k c v h = went (happens c.world e) refl h (λ d r. run_fr
         let rest = f d h in
         record { events = e ∷ rest.events; run = ap (Leads rest.events 0 c) is ∙ run_place rest.events 0 1 (going_on c d) v rest.run }
 
-run_specs : (es : List Event) (p : ℕ) (c v : Course) → run es p c ≡ ended v → v.specs ≡ c.specs
+pub run_specs : (es : List Event) (p : ℕ) (c v : Course) → run es p c ≡ ended v → v.specs ≡ c.specs
 run_specs [] p c v h = ap (λ (r : Ran). r.course.specs) (sym h)
 run_specs (e ∷ es) p c v h = went (happens c.world e) h (λ d k. run_specs es (p + 1) (going_on c d) v k)
   where
@@ -74,3 +74,22 @@ is_run_on c v es past h =
 -- up to its first bad event too
 pub is_run_to : (c v : Course) (es : List Event) (k : ℕ) → IsRun c → run es 0 c ≡ record { course = v; bad = Some k } → IsRun v
 is_run_to c v es k past h = let front = run_front es 0 k c v h in is_run_on c v front.events past front.run
+
+-- a run of two lists, one after the other: the first leads somewhere, from where the second is a run
+pub record Split (front back : List Event) (p : ℕ) (c v : Course) : Type 0 where
+  pub first : run front p c ≡ ended (run front p c).course
+  pub second : run back 0 (run front p c).course ≡ ended v
+
+pub run_split : (front back : List Event) (p : ℕ) (c v : Course) → run (front ++ back) p c ≡ ended v → Split front back p c v
+run_split [] back p c v h = record { first = refl; second = run_place back p 0 c v h }
+run_split (e ∷ front) back p c v h = went (happens c.world e) refl h (λ d k. run_split front back (p + 1) (going_on c d) v k)
+  where
+    went : (o : Option Done) → happens c.world e ≡ o → Leads (front ++ back) p c o ≡ ended v → ((d : Done) → run (front ++ back) (p + 1) (going_on c d) ≡ ended v → Split front back (p + 1) (going_on c d) v) → Split (e ∷ front) back p c v
+    went None is h f = absurd (cc (ap (λ (r : Ran). r.bad) h))
+    went (Some d) is h f =
+        let s = f d h in
+        let leads : run (e ∷ front) p c ≡ run front (p + 1) (going_on c d) = ap (Leads front p c) is in
+        record {
+          first = leads ∙ (s.first ∙ ap (λ (r : Ran). ended r.course) (sym leads));
+          second = subst (λ (r : Ran). run back 0 r.course ≡ ended v) (sym leads) s.second;
+        }

@@ -3,6 +3,7 @@ pub mod Links
 pub mod Facts
 pub mod Frame
 pub mod Paths
+pub mod Spares
 pub mod Puts
 pub mod Moves
 pub mod Lists
@@ -24,6 +25,7 @@ pub mod Beginnings
 pub mod Opening
 pub mod Deletes
 pub mod Exact
+pub mod Safety
 pub mod EveryRun
 pub mod Listed
 pub mod Changes
@@ -31,3 +33,4 @@ pub mod Ordered
 pub mod Left
 pub mod Alone
 pub mod Undisturbed
+pub mod Holding

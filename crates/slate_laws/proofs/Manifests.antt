@@ -1,5 +1,5 @@
 -- The log of manifests: what its codec and its rules give, and what each call commits.
-use Rattle.std.proofs.Common.{◌≡◌, ℕ, ℤ, ◌+◌, ◌-◌, ◌^◌, ◌==◌, ◌≤◌, nat_lt, Bool, true, false, List, [], ◌∷◌, map, Option, Some, None, Result, Ok, Err, refl, ap, ◌∙◌, arith}
+use Rattle.std.proofs.Common.{◌≡◌, ℕ, ℤ, ◌+◌, ◌-◌, ◌^◌, ◌==◌, ◌≤◌, nat_lt, Bool, true, false, List, [], ◌∷◌, map, Option, Some, None, Result, Ok, Err, ◌⊎◌, inl, inr, refl, sym, ap, ◌∙◌, subst, arith}
 use Rattle.std.proofs.lemmas.Bool.Decides.{nat_tests}
 use Rattle.std.specs.Prelude.{if◌then◌else◌, ◌||◌, ◌&&◌}
 use Rattle.std.specs.List.{list_all}
@@ -26,6 +26,11 @@ use Rattle.slate_protocol.specs.Manifests.{refused_by, manifest_refusal}
 use Rattle.slate_protocol.specs.declared.party.Facts.{Facts}
 use Rattle.slate_laws.proofs.Facts.{IsLog}
 
+-- both of two
+all_true : (a b : Bool) → (a && b) ≡ true → (a ≡ true) × (b ≡ true)
+all_true true b h = (refl, h)
+all_true false b h = absurd cc
+
 -- the rules look at no moment, so what is read back keeps them
 names_normal : (n : ℕ) (old : Manifest) (cs : List Checkpoint)
     → list_all (λ c. c.manifest_id == n + 1 || is_named c.manifest_id old.checkpoints) (map normal_checkpoint cs) ≡ list_all (λ c. c.manifest_id == n + 1 || is_named c.manifest_id old.checkpoints) cs
@@ -35,8 +40,40 @@ names_normal n old (c ∷ cs) = ap (λ (b : Bool). (c.manifest_id == n + 1 || is
 refusal_normal : (n : ℕ) (old m : Manifest) (right : Right) → manifest_refusal n old (normal m) right ≡ manifest_refusal n old m right
 refusal_normal n old m right = ap (λ (b : Bool). refused_by (if falls old m then Some U1 else (if b then None else Some U2))) (names_normal n old m.checkpoints)
 
+-- a number that checkpoints name is one that all of them may name
+named_known : (n k : ℕ) (old : Manifest) (cs : List Checkpoint) → list_all (λ c. c.manifest_id == n + 1 || is_named c.manifest_id old.checkpoints) cs ≡ true → is_named k cs ≡ true → (k ≡ n + 1) ⊎ (is_named k old.checkpoints ≡ true)
+named_known n k old [] all h = absurd cc
+named_known n k old (c ∷ cs) all h = by_first (c.manifest_id == k) refl h (all_true (c.manifest_id == n + 1 || is_named c.manifest_id old.checkpoints) _ all)
+    (λ rest more. named_known n k old cs rest more)
+  where
+    same : (a b : ℕ) → (a == b) ≡ true → a ≡ b
+    same a b e = grind (arith, nat_tests)
+
+    either : (t : Bool) → (c.manifest_id == n + 1) ≡ t → c.manifest_id ≡ k → (t || is_named c.manifest_id old.checkpoints) ≡ true → (k ≡ n + 1) ⊎ (is_named k old.checkpoints ≡ true)
+    either true is e own = inl (sym e ∙ same c.manifest_id (n + 1) is)
+    either false is e own = inr (subst (λ j. is_named j old.checkpoints ≡ true) e own)
+
+    by_first : (t : Bool) → (c.manifest_id == k) ≡ t → (t || is_named k cs) ≡ true
+        → ((c.manifest_id == n + 1 || is_named c.manifest_id old.checkpoints) ≡ true) × (list_all (λ c. c.manifest_id == n + 1 || is_named c.manifest_id old.checkpoints) cs ≡ true)
+        → (list_all (λ c. c.manifest_id == n + 1 || is_named c.manifest_id old.checkpoints) cs ≡ true → is_named k cs ≡ true → (k ≡ n + 1) ⊎ (is_named k old.checkpoints ≡ true))
+        → (k ≡ n + 1) ⊎ (is_named k old.checkpoints ≡ true)
+    by_first true is h both rest = either (c.manifest_id == n + 1) refl (same c.manifest_id k is) both.0
+    by_first false is h both rest = rest both.1 h
+
+-- the rules let a version name no number that the one before doesn't name, but its own
+manifest_known : (n : ℕ) (old m : Manifest) (right : Right) (k : ℕ) → manifest_refusal n old m right ≡ None → is_named k m.checkpoints ≡ true → (k ≡ n + 1) ⊎ (is_named k old.checkpoints ≡ true)
+manifest_known n old m right k h named = by_falls (falls old m) h
+  where
+    by_names : (b : Bool) → names_known n old m ≡ b → refused_by (if b then None else Some U2) ≡ None → (k ≡ n + 1) ⊎ (is_named k old.checkpoints ≡ true)
+    by_names true is h = named_known n k old m.checkpoints is named
+    by_names false is h = absurd cc
+
+    by_falls : (b : Bool) → refused_by (if b then Some U1 else (if names_known n old m then None else Some U2)) ≡ None → (k ≡ n + 1) ⊎ (is_named k old.checkpoints ≡ true)
+    by_falls true h = absurd cc
+    by_falls false h = by_names (names_known n old m) refl h
+
 pub manifests_log : IsLog manifests
-manifests_log = record { round = λ m bytes h. round_trip m bytes h; plain = λ n old m right h. refusal_normal n old m right ∙ h }
+manifests_log = record { round = λ m bytes h. round_trip m bytes h; plain = λ n old m right h. refusal_normal n old m right ∙ h; known = manifest_known }
 
 -- what a prepared commit puts
 pub record IsPrepared {V : Type 0} (refusal : ℕ → V → V → Right → Option SlateDBError) (encoded : V → Result (List ℕ) SlateDBError) (n : ℕ) (old new : V) (right : Right) (commit : CommitPhase V) : Type 0 where

@@ -13,8 +13,10 @@ use Rattle.slate_protocol.specs.Chains.{Link, Log, link_at, top, bytes_of, bound
 use Rattle.slate_protocol.specs.Chains.Changed.{Stays}
 use Rattle.slate_laws.proofs.Stores.{put_object, at_put, at_else, at_left}
 use Rattle.slate_laws.proofs.Paths.{IsElsewhere, versions_apart, boundary_apart}
-use Rattle.slate_laws.proofs.Facts.{IsSound, IsReached, Grows}
-use Rattle.slate_laws.proofs.Puts.{Leaves}
+use Rattle.slate_protocol.specs.Reach.{IsSpare}
+use Rattle.slate_laws.proofs.Facts.{IsCommitted, IsSound, IsReached, Grows}
+use Rattle.slate_laws.proofs.Puts.{Leaves, committed_small}
+use Rattle.slate_laws.proofs.Spares.{spare_else}
 
 -- a number is read of its decimal text
 pub read_back : (n : ℕ) → n < 2 ^ 64 → boundary_of (decimal n) ≡ Some n
@@ -41,6 +43,11 @@ module _ {V A : Type 0} (log : Log V A) (db : List ℕ) (named : is_db_path db �
         let same : put_object s (decimal n) moment ≡ o = cc (at_put (boundary_path log.kind db) (decimal n) moment s, at) in
         sym (ap (λ (x : StoredObject). x.e_tag) same)
 
+    moved_committed : (k : ℕ) → IsCommitted log db s c k → IsCommitted log db moved c k
+    moved_committed k w =
+        let k_small = committed_small log db s c i k w in
+        record { link = w.link; at = w.at; stands = ap bytes_of (at_else (boundary_path log.kind db) (version_path log.kind db k) (decimal n) moment s (λ e. boundary_apart db named log.kind k k_small (sym e))) ∙ w.stands }
+
     pub move_leaves : Leaves log db author s c moved c
     move_leaves = record {
       sound = record {
@@ -51,6 +58,7 @@ module _ {V A : Type 0} (log : Log V A) (db : List ℕ) (named : is_db_path db �
         read = moved_read;
         below = below;
         above = λ k lt k_small. ap bytes_of (at_else (boundary_path log.kind db) (version_path log.kind db k) (decimal n) moment s (λ e. boundary_apart db named log.kind k k_small (sym e))) ∙ i.above k (omega arith) k_small;
+        needed = λ k w. moved_committed k (i.needed k w);
         tagged = λ o at. let e = moved_object o at in omega arith;
       };
       grows = record {
@@ -58,6 +66,7 @@ module _ {V A : Type 0} (log : Log V A) (db : List ℕ) (named : is_db_path db �
         later = omega arith;
         tags = λ o at le. let e = moved_object o at in absurd (omega arith);
         rises = omega arith;
+        spares = λ k w. w;
         kept = λ k l at. at;
       };
       changed = Stays refl;
@@ -66,8 +75,8 @@ module _ {V A : Type 0} (log : Log V A) (db : List ℕ) (named : is_db_path db �
     pub move_reaches : IsReached log db moved n
     move_reaches = record { reached = λ b read. let same : n ≡ b = cc (moved_read, read) in omega arith }
 
-  -- a version at or below the boundary is deleted
-  module _ (n : ℕ) (small : n < 2 ^ 64) (due : n ≤ i.bound) where
+  -- a spare version at or below the boundary is deleted
+  module _ (n : ℕ) (small : n < 2 ^ 64) (due : n ≤ i.bound) (spare : IsSpare log c n) where
     abbrev left : Store
     left = removed (version_path log.kind db n) s
 
@@ -76,6 +85,11 @@ module _ {V A : Type 0} (log : Log V A) (db : List ℕ) (named : is_db_path db �
 
     left_bound : bound_in log db left ≡ bound_in log db s
     left_bound = ap boundary_got left_object
+
+    left_committed : (k : ℕ) → k ≢ n → IsCommitted log db s c k → IsCommitted log db left c k
+    left_committed k ne w =
+        let k_small = committed_small log db s c i k w in
+        record { link = w.link; at = w.at; stands = ap bytes_of (at_left (version_path log.kind db n) (version_path log.kind db k) s (versions_apart db named log.kind k n k_small small ne)) ∙ w.stands }
 
     pub delete_leaves : Leaves log db author s c left c
     delete_leaves = record {
@@ -87,9 +101,10 @@ module _ {V A : Type 0} (log : Log V A) (db : List ℕ) (named : is_db_path db �
         read = left_bound ∙ i.read;
         below = i.below;
         above = λ k lt k_small. ap bytes_of (at_left (version_path log.kind db n) (version_path log.kind db k) s (versions_apart db named log.kind k n k_small small (λ (e : k ≡ n). omega arith))) ∙ i.above k lt k_small;
+        needed = λ k w. left_committed k (spare_else log c k n spare w) (i.needed k w);
         tagged = λ o at. i.tagged o (sym left_object ∙ at);
       };
-      grows = record { bound = λ b read. (b, sym left_bound ∙ read, omega arith); later = omega arith; tags = λ o at le. sym left_object ∙ at; rises = omega arith; kept = λ k l at. at };
+      grows = record { bound = λ b read. (b, sym left_bound ∙ read, omega arith); later = omega arith; tags = λ o at le. sym left_object ∙ at; rises = omega arith; spares = λ k w. w; kept = λ k l at. at };
       changed = Stays refl;
     }
 
@@ -102,7 +117,10 @@ module _ {V A : Type 0} (log : Log V A) (db : List ℕ) (s : Store) (c : List (L
 
   -- a deletion elsewhere leaves the log as it is
   pub gone_grows : Grows log db s c (removed p s) c
-  gone_grows = record { bound = λ b read. (b, sym gone_bound ∙ read, omega arith); later = omega arith; tags = λ o at le. sym gone_object ∙ at; rises = omega arith; kept = λ k l h. h }
+  gone_grows = record { bound = λ b read. (b, sym gone_bound ∙ read, omega arith); later = omega arith; tags = λ o at le. sym gone_object ∙ at; rises = omega arith; spares = λ k w. w; kept = λ k l h. h }
+
+  gone_committed : (k : ℕ) → IsCommitted log db s c k → k < 2 ^ 64 → IsCommitted log db (removed p s) c k
+  gone_committed k w small = record { link = w.link; at = w.at; stands = ap bytes_of (at_left p (version_path log.kind db k) s (away.version k small)) ∙ w.stands }
 
   pub gone_sound : IsSound log db s c → IsSound log db (removed p s) c
   gone_sound i = record {
@@ -113,5 +131,6 @@ module _ {V A : Type 0} (log : Log V A) (db : List ℕ) (s : Store) (c : List (L
     read = gone_bound ∙ i.read;
     below = i.below;
     above = λ k lt small. ap bytes_of (at_left p (version_path log.kind db k) s (away.version k small)) ∙ i.above k lt small;
+    needed = λ k w. gone_committed k (i.needed k w) (committed_small log db s c i k (i.needed k w));
     tagged = λ o at. i.tagged o (sym gone_object ∙ at);
   }

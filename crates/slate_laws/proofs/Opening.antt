@@ -1,6 +1,7 @@
 -- What holds as a run begins.
 use Rattle.std.proofs.Common.{◌≡◌, ◌≢◌, ℕ, ◌<◌, ◌^◌, Bool, true, false, List, [], ◌∷◌, Option, Some, None, is_some, Result, Ok, Err, ⊎_elim, refl, sym, ap, ◌∙◌, subst, arith}
-use Rattle.std.specs.Prelude.{bytes_eq, if◌then◌else◌, not}
+use Rattle.std.proofs.lemmas.Bool.Decides.{nat_tests}
+use Rattle.std.specs.Prelude.{bytes_eq, if◌then◌else◌, not, ◌||◌, ◌==◌}
 use Rattle.std.specs.List.{list_any}
 use Rattle.slate_ids.specs.Ids.{is_db_path}
 use Rattle.slate_ids.specs.PathText.{path_text}
@@ -9,10 +10,12 @@ use Rattle.slate_ids.specs.declared.object_path.ObjectPath.{ObjectPath}
 use Rattle.slate_log.specs.Boundary.{boundary_got}
 use Rattle.slate_log.specs.LogPaths.{version_path, boundary_path}
 use Rattle.slate_log.specs.declared.log_kind.LogKind.TheVariants.{Manifest as ManifestLog}
+use Rattle.slate_model.specs.Checkpoints.{is_named}
 use Rattle.slate_model.specs.Codec.{encoded, decoded}
 use Rattle.slate_model.specs.Laws.{round_trip}
 use Rattle.slate_model.specs.Normals.{is_normal_only}
 use Rattle.slate_model.specs.Normal.{is_normal}
+use Rattle.slate_model.specs.declared.checkpoint.Checkpoint.{Checkpoint}
 use Rattle.slate_model.specs.declared.manifest.Manifest.{Manifest}
 use Rattle.slate_script.specs.declared.cluster_cause.ClusterCause.TheVariants as cause
 use Rattle.slate_script.specs.declared.db_spec.DbSpec.{DbSpec}
@@ -20,13 +23,15 @@ use Rattle.slate_store.specs.Store.{Store, object_at}
 use Rattle.slate_store.specs.declared.object.StoredObject.{StoredObject}
 use Rattle.slate_protocol.specs.Chains.{top, bytes_of, link_bytes, Stands}
 use Rattle.slate_protocol.specs.Ids.{Carried}
-use Rattle.slate_protocol.specs.Lawful.{IsAccepted, HasDb}
+use Rattle.slate_protocol.specs.Lawful.{IsAccepted}
 use Rattle.slate_protocol.specs.Logs.{Chain, manifests, opening_link, opening_chains}
+use Rattle.slate_protocol.specs.Reach.{IsNeeded}
+use Rattle.slate_protocol.specs.Reach.IsNeeded.{Greatest, Named}
 use Rattle.slate_protocol.specs.Specs.{First, first_tally, tallies_from, carried_from, bytes_where, first_bytes, firsts_from, names_other, cause_of_specs, listed_or_none, no_objects, store_from, opening_world}
-use Rattle.slate_protocol.specs.World.{World, tally_of}
+use Rattle.slate_protocol.specs.World.{World, tally_of, HasDb}
 use Rattle.slate_protocol.specs.declared.tally.Tally.{Tally}
 use Rattle.slate_laws.proofs.Beginnings.{spec_of, AllNamed, tally_for, tallies_found, first_for, firsts_found, firsts_else, last_at, IsFound, spec_found, bytes_found, store_found, firsts_fine, store_tidy}
-use Rattle.slate_laws.proofs.Facts.{IsSound}
+use Rattle.slate_laws.proofs.Facts.{IsCommitted, IsSound}
 use Rattle.slate_laws.proofs.Links.{same_or_not, link_here, link_there}
 use Rattle.slate_laws.proofs.Paths.{versions_apart, boundary_apart, manifest_elsewhere}
 use Rattle.slate_laws.proofs.Runs.{Inv}
@@ -38,17 +43,53 @@ record Parts (specs : List DbSpec) : Type 0 where
   pub tallied : tallies_from [] specs ≡ Some tallies
   pub objects : List (ObjectPath × First)
   pub written : firsts_from [] specs ≡ Some objects
+  pub own : list_any names_other specs ≡ false
 
 parts_of : (specs : List DbSpec) → cause_of_specs specs ≡ None → Parts specs
 parts_of specs h = by_tallies (tallies_from [] specs) (carried_from [] specs) (firsts_from [] specs) refl refl h
   where
+    by_names : (b : Bool) → (if b then Some cause.Checkpoints else None) ≡ None → b ≡ false
+    by_names true h = absurd cc
+    by_names false h = refl
+
     by_tallies : (t : Option (List (List ℕ × Tally))) (c : Option Carried) (o : Option (List (ObjectPath × First))) → tallies_from [] specs ≡ t → firsts_from [] specs ≡ o
         → (if not (is_some t) then Some cause.Path else (if not (is_some c) then Some cause.Ids else (if not (is_some o) then Some cause.Value else (if list_any names_other specs then Some cause.Checkpoints else None)))) ≡ None
         → Parts specs
-    by_tallies (Some t) (Some c) (Some o) is_t is_o h = record { tallies = t; tallied = is_t; objects = o; written = is_o }
+    by_tallies (Some t) (Some c) (Some o) is_t is_o h = record { tallies = t; tallied = is_t; objects = o; written = is_o; own = by_names (list_any names_other specs) h }
     by_tallies None c o is_t is_o h = absurd cc
     by_tallies (Some t) None o is_t is_o h = absurd cc
     by_tallies (Some t) (Some c) None is_t is_o h = absurd cc
+
+-- both of two are false
+neither : (a b : Bool) → (a || b) ≡ false → (a ≡ false) × (b ≡ false)
+neither true b h = absurd cc
+neither false b h = (refl, h)
+
+-- the checkpoints of an accepted database name its first version
+own_names : (d : List ℕ) (spec : DbSpec) (specs : List DbSpec) → list_any names_other specs ≡ false → spec_of d specs ≡ Some spec → names_other spec ≡ false
+own_names d spec [] h at = absurd cc
+own_names d spec (first ∷ specs) h at = test (bytes_eq d first.path) at (neither (names_other first) (list_any names_other specs) h) (own_names d spec specs)
+  where
+    test : (b : Bool) → (if b then Some first else spec_of d specs) ≡ Some spec → (names_other first ≡ false) × (list_any names_other specs ≡ false)
+        → (list_any names_other specs ≡ false → spec_of d specs ≡ Some spec → names_other spec ≡ false) → names_other spec ≡ false
+    test true at both rest = let same : first ≡ spec = cc in subst (λ (x : DbSpec). names_other x ≡ false) same both.0
+    test false at both rest = rest both.1 at
+
+names_first : (k : ℕ) (cs : List Checkpoint) → list_any (λ c. not (c.manifest_id == 1)) cs ≡ false → is_named k cs ≡ true → k ≡ 1
+names_first k [] h named = absurd cc
+names_first k (c ∷ cs) h named = test (c.manifest_id == k) refl named (neither (not (c.manifest_id == 1)) _ h) (names_first k cs)
+  where
+    same : (a b : ℕ) → (a == b) ≡ true → a ≡ b
+    same a b e = grind (arith, nat_tests)
+
+    is_one : (b : Bool) → (c.manifest_id == 1) ≡ b → not b ≡ false → c.manifest_id ≡ 1
+    is_one true e h = same c.manifest_id 1 e
+    is_one false e h = absurd cc
+
+    test : (b : Bool) → (c.manifest_id == k) ≡ b → (b || is_named k cs) ≡ true → (not (c.manifest_id == 1) ≡ false) × (list_any (λ c. not (c.manifest_id == 1)) cs ≡ false)
+        → (list_any (λ c. not (c.manifest_id == 1)) cs ≡ false → is_named k cs ≡ true → k ≡ 1) → k ≡ 1
+    test true e h both rest = sym (same c.manifest_id k e) ∙ is_one (c.manifest_id == 1) refl both.0
+    test false e h both rest = rest both.1 h
 
 -- the bytes of a first manifest are read back
 first_read : (m : Manifest) (bytes : List ℕ) → first_bytes m ≡ Some bytes → decoded bytes ≡ Ok m
@@ -155,6 +196,13 @@ module _ (specs : List DbSpec) (accepted : IsAccepted specs) where
         (λ (ne : 1 ≢ k). ap bytes_of (no_other k small (λ (e : k ≡ 1). ne (sym e))) ∙ sym (ap link_bytes (link_there k (opening_link it.spec) [] ne)))
         (same_or_not 1 k)
 
+    first_committed : (k : ℕ) → k ≡ 1 → IsCommitted manifests d w.store chain k
+    first_committed k e = subst (λ j. IsCommitted manifests d w.store chain j) (sym e) (record { link = opening_link it.spec; at = link_here 1 (opening_link it.spec) [] refl; stands = first_there })
+
+    needed : (k : ℕ) → IsNeeded manifests chain k → IsCommitted manifests d w.store chain k
+    needed k (Greatest e) = first_committed k e
+    needed k (Named named) = first_committed k (names_first k it.spec.manifest.checkpoints (own_names d it.spec specs parts.own it.at) named)
+
     sound : IsSound manifests d w.store chain
     sound = record {
       chain = record { number = refl; value = ap (λ (o : Option (List ℕ)). decoded (listed_or_none o)) it.found.is ∙ first_read it.spec.manifest it.found.bytes it.found.is };
@@ -164,6 +212,7 @@ module _ (specs : List DbSpec) (accepted : IsAccepted specs) where
       read = ap boundary_got no_boundary;
       below = omega arith;
       above = first_stands;
+      needed = needed;
       tagged = λ o at. absurd (cc (no_boundary, at));
     }
 

@@ -28,26 +28,28 @@ use Rattle.slate_gc.specs.declared.pass_options.PassOptions.{PassOptions}
 use Rattle.slate_gc.specs.declared.pass_phase.PassPhase.{PassPhase}
 use Rattle.slate_gc.specs.declared.pass_phase.PassPhase.TheVariants.{Listing, Getting, Bounding, Advancing, Deleting, Over}
 use Rattle.slate_protocol.specs.Chains.{top, bound_in}
+use Rattle.slate_protocol.specs.Holding.{Each}
 use Rattle.slate_protocol.specs.Logs.{Author, Chain, manifests}
 use Rattle.slate_laws.proofs.Stores.{IsTidy}
 use Rattle.slate_laws.proofs.Lists.{listed_small}
 use Rattle.slate_laws.proofs.Links.{at_most}
+use Rattle.slate_protocol.specs.Reach.{IsSpare}
 use Rattle.slate_laws.proofs.Facts.{IsSound, IsValue, Holds, IsReached, AdvanceKnows, AdvanceBrings, target, Grows}
 use Rattle.slate_laws.proofs.Frame.{kept_holds, kept_reached, kept_advance}
 use Rattle.slate_laws.proofs.Manifests.{manifests_log}
 use Rattle.slate_laws.proofs.Puts.{Leaves, leaves_not}
 use Rattle.slate_laws.proofs.Moves.{delete_leaves}
+use Rattle.slate_laws.proofs.Spares.{spare_below}
 use Rattle.slate_laws.proofs.Advances.{advance_step}
 use Rattle.slate_laws.proofs.Turns.{got_holds, above_test}
-
--- each of the numbers has it
-abbrev pub Each : (ℕ → Type 0) → List ℕ → Type 0
-Each P [] = Unit {0}
-Each P (n ∷ ns) = P n × Each P ns
 
 pub each_map : (P Q : ℕ → Type 0) → ((n : ℕ) → P n → Q n) → (ns : List ℕ) → Each P ns → Each Q ns
 each_map P Q f [] h = tt
 each_map P Q f (n ∷ ns) h = (f n h.0, each_map P Q f ns h.1)
+
+pub each_both : (P Q : ℕ → Type 0) → (ns : List ℕ) → Each P ns → Each Q ns → Each (λ n. P n × Q n) ns
+each_both P Q [] h k = tt
+each_both P Q (n ∷ ns) h k = ((h.0, k.0), each_both P Q ns h.1 k.1)
 
 -- ---- candidates, and the greatest of them
 
@@ -55,18 +57,26 @@ first_of : (a b c : Bool) → (a && b && c) ≡ true → a ≡ true
 first_of true b c h = refl
 first_of false b c h = absurd cc
 
+second_of : (a b c : Bool) → (a && not b && c) ≡ true → b ≡ false
+second_of a false c h = refl
+second_of true true c h = absurd cc
+second_of false true c h = absurd cc
+
 less : (a b : ℕ) → nat_lt a b ≡ true → a < b
 less a b h = grind (arith, nat_tests)
 
 module _ (min_age : ℕ) (now : ℤ) (greatest : ℕ) (cs : List Checkpoint) where
-  -- a candidate is below the greatest listed number
-  pub candidates_below : (ds : List Dated) → Each (λ k. k < greatest) (candidates min_age now greatest cs ds)
+  -- a candidate is below the greatest listed number, and no checkpoint names it
+  pub candidates_below : (ds : List Dated) → Each (λ k. (k < greatest) × (is_named k cs ≡ false)) (candidates min_age now greatest cs ds)
   candidates_below [] = tt
   candidates_below (d ∷ ds) = test (is_candidate min_age now greatest cs d) refl (candidates_below ds)
     where
-      test : (b : Bool) → is_candidate min_age now greatest cs d ≡ b → Each (λ k. k < greatest) (candidates min_age now greatest cs ds)
-          → Each (λ k. k < greatest) (if b then d.0 ∷ candidates min_age now greatest cs ds else candidates min_age now greatest cs ds)
-      test true is rest = (less d.0 greatest (first_of (nat_lt d.0 greatest) (not (is_named d.0 cs)) (is_aged min_age now d.1) is), rest)
+      test : (b : Bool) → is_candidate min_age now greatest cs d ≡ b → Each (λ k. (k < greatest) × (is_named k cs ≡ false)) (candidates min_age now greatest cs ds)
+          → Each (λ k. (k < greatest) × (is_named k cs ≡ false)) (if b then d.0 ∷ candidates min_age now greatest cs ds else candidates min_age now greatest cs ds)
+      test true is rest = (
+        (less d.0 greatest (first_of (nat_lt d.0 greatest) (not (is_named d.0 cs)) (is_aged min_age now d.1) is), second_of (nat_lt d.0 greatest) (is_named d.0 cs) (is_aged min_age now d.1) is),
+        rest,
+      )
       test false is rest = rest
 
 -- there is a greatest one
@@ -116,15 +126,15 @@ picks_have P options ns h = test (options.allows && not options.dry_run)
 pub record IsRead (s : Store) (c : Chain) (db : List ℕ) (n : ℕ) (ns : List ℕ) : Type 0 where
   pub value : Manifest
   pub holds : Holds manifests db s c n value
-  pub below : Each (λ k. k < n) ns
+  pub below : Each (λ k. (k < n) × (is_named k value.checkpoints ≡ false)) ns
 
--- what a pass knows in each phase: what is left to be deleted is at or below the boundary
+-- what a pass knows in each phase: what is left to be deleted is spare, and at or below the boundary
 abbrev pub PassKnows : Store → Chain → List ℕ → PassPhase → Type 0
 PassKnows s c db Listing = Unit {0}
 PassKnows s c db (Getting now n listed) = n < 2 ^ 64
 PassKnows s c db (Bounding n ns) = IsRead s c db n ns
-PassKnows s c db (Advancing phase ns) = AdvanceKnows manifests db s c phase × Each (λ k. k ≤ target phase) ns
-PassKnows s c db (Deleting ns counts) = Each (IsReached manifests db s) ns
+PassKnows s c db (Advancing phase ns) = AdvanceKnows manifests db s c phase × Each (λ k. (k ≤ target phase) × IsSpare manifests c k) ns
+PassKnows s c db (Deleting ns counts) = Each (λ k. IsReached manifests db s k × IsSpare manifests c k) ns
 PassKnows s c db Over = ⊥
 
 -- what a step of a pass brings
@@ -136,8 +146,12 @@ pub kept_pass : (s : Store) (c : Chain) (s' : Store) (c' : Chain) (db : List ℕ
 kept_pass s c s' c' db g Listing h = h
 kept_pass s c s' c' db g (Getting now n listed) h = h
 kept_pass s c s' c' db g (Bounding n ns) h = record { value = h.value; holds = kept_holds manifests db s c s' c' g n h.value h.holds; below = h.below }
-kept_pass s c s' c' db g (Advancing phase ns) h = (kept_advance manifests db s c s' c' g phase h.0, h.1)
-kept_pass s c s' c' db g (Deleting ns counts) h = each_map (IsReached manifests db s) (IsReached manifests db s') (λ n k. kept_reached manifests db s c s' c' g n k) ns h
+kept_pass s c s' c' db g (Advancing phase ns) h = (
+  kept_advance manifests db s c s' c' g phase h.0,
+  each_map (λ k. (k ≤ target phase) × IsSpare manifests c k) (λ k. (k ≤ target phase) × IsSpare manifests c' k) (λ k w. (w.0, g.spares k w.1)) ns h.1,
+)
+kept_pass s c s' c' db g (Deleting ns counts) h =
+    each_map (λ k. IsReached manifests db s k × IsSpare manifests c k) (λ k. IsReached manifests db s' k × IsSpare manifests c' k) (λ k w. (kept_reached manifests db s c s' c' g k w.0, g.spares k w.1)) ns h
 kept_pass s c s' c' db g Over h = h
 
 module _ (db : List ℕ) (named : is_db_path db ≡ true) (author : Author) (options : PassOptions) (s : Store) (c : Chain) (i : IsSound manifests db s c) (tidy : IsTidy s.objects) where
@@ -167,16 +181,21 @@ module _ (db : List ℕ) (named : is_db_path db ≡ true) (author : Author) (opt
   got_brings now n dates (Some object) small at = decoded_brings now n dates object (decoded object.bytes) small at refl
 
   -- the greatest candidate is below the greatest committed number
-  next_brings : (n : ℕ) (ns : List ℕ) (k : Option ℕ) → greatest_number ns ≡ k → n ≤ top c → Each (λ j. j < n) ns → PassBrings s c db (moves_to ns k)
-  next_brings n ns None e le below = tt
-  next_brings n ns (Some k) e le below = let lt = greatest_is n k ns below e in (omega arith, greatest_most k ns e)
+  next_brings : (n : ℕ) (ns : List ℕ) (k : Option ℕ) → greatest_number ns ≡ k → n ≤ top c → Each (λ j. j < n) ns → Each (IsSpare manifests c) ns → PassBrings s c db (moves_to ns k)
+  next_brings n ns None e le below spare = tt
+  next_brings n ns (Some k) e le below spare = let lt = greatest_is n k ns below e in (omega arith, each_both (λ j. j ≤ k) (IsSpare manifests c) ns (greatest_most k ns e) spare)
+
+  -- what the version that was read doesn't name is spare, where it is committed
+  all_spare : (n : ℕ) (m : Manifest) (ns : List ℕ) → IsValue c n m → Each (λ k. (k < n) × (is_named k m.checkpoints ≡ false)) ns → Each (IsSpare manifests c) ns
+  all_spare n m ns v h = each_map (λ k. (k < n) × (is_named k m.checkpoints ≡ false)) (IsSpare manifests c)
+      (λ k w. spare_below manifests manifests_log c n k v.link i.chain v.at w.0 (ap (λ (x : Manifest). is_named k x.checkpoints) v.value ∙ w.1)) ns h
 
   test_brings : (n : ℕ) (ns : List ℕ) (b : ℕ) (t : Bool) → nat_le n b ≡ t → bound_in manifests db s ≡ Some b → IsRead s c db n ns
       → PassBrings s c db (if t then End Over (Err (ManifestMissing n)) else bounded_next ns)
   test_brings n ns b true is read h = tt
   test_brings n ns b false is read h =
       let value = h.holds.same b read (above_test n b is) in
-      next_brings n ns (greatest_number ns) refl (at_most manifests n value.link c i.chain value.at) h.below
+      next_brings n ns (greatest_number ns) refl (at_most manifests n value.link c i.chain value.at) (each_map (λ k. (k < n) × (is_named k h.value.checkpoints ≡ false)) (λ k. k < n) (λ k w. w.0) ns h.below) (all_spare n h.value ns value h.below)
 
   bound_brings : (n : ℕ) (ns : List ℕ) (b : Option ℕ) → bound_in manifests db s ≡ b → IsRead s c db n ns → PassBrings s c db (bounded_goes n ns b)
   bound_brings n ns None read h = tt
@@ -184,19 +203,20 @@ module _ (db : List ℕ) (named : is_db_path db ≡ true) (author : Author) (opt
 
   -- ---- deletes, in the store as it is then
 
-  deletes_bring : (s' : Store) (ns : List ℕ) (counts : PassCounts) → Each (IsReached manifests db s') ns → PassBrings s' c db (deletes_next ns counts)
+  deletes_bring : (s' : Store) (ns : List ℕ) (counts : PassCounts) → Each (λ k. IsReached manifests db s' k × IsSpare manifests c k) ns → PassBrings s' c db (deletes_next ns counts)
   deletes_bring s' [] counts h = tt
   deletes_bring s' (n ∷ ns) counts h = h
 
-  all_reached : (s' : Store) (n : ℕ) (ns : List ℕ) → IsReached manifests db s' n → Each (λ k. k ≤ n) ns → Each (IsReached manifests db s') ns
-  all_reached s' n ns r h = each_map (λ k. k ≤ n) (IsReached manifests db s') (λ k le. record { reached = λ b read. let up = r.reached b read in omega arith }) ns h
+  all_reached : (s' : Store) (n : ℕ) (ns : List ℕ) → IsReached manifests db s' n → Each (λ k. (k ≤ n) × IsSpare manifests c k) ns → Each (λ k. IsReached manifests db s' k × IsSpare manifests c k) ns
+  all_reached s' n ns r h = each_map (λ k. (k ≤ n) × IsSpare manifests c k) (λ k. IsReached manifests db s' k × IsSpare manifests c k)
+      (λ k w. let le = w.0 in (record { reached = λ b read. let up = r.reached b read in omega arith }, w.1)) ns h
 
-  advanced_brings : (s' : Store) (n : ℕ) (ns : List ℕ) (g : AdvanceGoes) → AdvanceBrings manifests db s' c n g → Each (λ k. k ≤ n) ns → PassBrings s' c db (advanced_goes options ns g)
-  advanced_brings s' n ns (Stay phase) b h = (b.1, subst (λ j. Each (λ k. k ≤ j) ns) (sym b.0) h)
-  advanced_brings s' n ns (End phase (Ok u)) b h = deletes_bring s' (picks options ns) _ (picks_have (IsReached manifests db s') options ns (all_reached s' n ns b h))
+  advanced_brings : (s' : Store) (n : ℕ) (ns : List ℕ) (g : AdvanceGoes) → AdvanceBrings manifests db s' c n g → Each (λ k. (k ≤ n) × IsSpare manifests c k) ns → PassBrings s' c db (advanced_goes options ns g)
+  advanced_brings s' n ns (Stay phase) b h = (b.1, subst (λ j. Each (λ k. (k ≤ j) × IsSpare manifests c k) ns) (sym b.0) h)
+  advanced_brings s' n ns (End phase (Ok u)) b h = deletes_bring s' (picks options ns) _ (picks_have (λ k. IsReached manifests db s' k × IsSpare manifests c k) options ns (all_reached s' n ns b h))
   advanced_brings s' n ns (End phase (Err e)) b h = tt
 
-  module _ (n : ℕ) (ns : List ℕ) (counts : PassCounts) (h : IsReached manifests db s n) (rest : Each (IsReached manifests db s) ns) where
+  module _ (n : ℕ) (ns : List ℕ) (counts : PassCounts) (h : IsReached manifests db s n) (spare : IsSpare manifests c n) (rest : Each (λ k. IsReached manifests db s k × IsSpare manifests c k) ns) where
     due : n ≤ i.bound
     due = h.reached i.bound i.read
 
@@ -207,10 +227,10 @@ module _ (db : List ℕ) (named : is_db_path db ≡ true) (author : Author) (opt
     gone = removed (version_path ManifestLog db n) s
 
     gone_leaves : Leaves manifests db author s c gone c
-    gone_leaves = delete_leaves manifests db named author s c i n small due
+    gone_leaves = delete_leaves manifests db named author s c i n small due spare
 
-    rest_reached : Each (IsReached manifests db gone) ns
-    rest_reached = each_map (IsReached manifests db s) (IsReached manifests db gone) (λ k r. kept_reached manifests db s c gone c gone_leaves.grows k r) ns rest
+    rest_reached : Each (λ k. IsReached manifests db gone k × IsSpare manifests c k) ns
+    rest_reached = each_map (λ k. IsReached manifests db s k × IsSpare manifests c k) (λ k. IsReached manifests db gone k × IsSpare manifests c k) (λ k w. (kept_reached manifests db s c gone c gone_leaves.grows k w.0, w.1)) ns rest
 
     pub delete_step : (mark : Mark) (moment : ℤ) → AfterPass (Deleting (n ∷ ns) counts) moment (effect mark (pass_asks db (Deleting (n ∷ ns) counts)) moment s)
     delete_step Good moment = record { leaves = gone_leaves; brings = deletes_bring gone ns _ rest_reached }
@@ -234,5 +254,5 @@ module _ (db : List ℕ) (named : is_db_path db ≡ true) (author : Author) (opt
   pass_step (Deleting [] counts) Good moment h = quiet (Deleting [] counts) moment _ tt
   pass_step (Deleting [] counts) Fail moment h = quiet (Deleting [] counts) moment _ tt
   pass_step (Deleting [] counts) Lost moment h = quiet (Deleting [] counts) moment _ tt
-  pass_step (Deleting (n ∷ ns) counts) mark moment h = delete_step n ns counts h.0 h.1 mark moment
+  pass_step (Deleting (n ∷ ns) counts) mark moment h = delete_step n ns counts h.0.0 h.0.1 h.1 mark moment
   pass_step Over mark moment h = absurd h

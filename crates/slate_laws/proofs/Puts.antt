@@ -9,9 +9,12 @@ use Rattle.slate_log.specs.LogPaths.{version_path, boundary_path}
 use Rattle.slate_protocol.specs.Chains.{Link, Log, link_at, top, if_new, with_link, IsChain, Follows, bytes_of, link_bytes, bound_in, Stands, Changed}
 use Rattle.slate_protocol.specs.Chains.Changed.{Stays, Gets}
 use Rattle.slate_laws.proofs.Stores.{at_put, at_else}
-use Rattle.slate_laws.proofs.Links.{link_here, link_there, same_or_not, next_is_top}
+use Rattle.slate_laws.proofs.Links.{link_here, link_there, same_or_not, next_is_top, at_most}
+use Rattle.slate_protocol.specs.Reach.{names_top, IsNeeded, IsSpare}
+use Rattle.slate_protocol.specs.Reach.IsNeeded.{Greatest, Named}
 use Rattle.slate_laws.proofs.Paths.{IsElsewhere, versions_apart, boundary_apart}
-use Rattle.slate_laws.proofs.Facts.{IsLog, IsSound, Holds, IsNext, Grows}
+use Rattle.slate_laws.proofs.Spares.{stays_unnamed}
+use Rattle.slate_laws.proofs.Facts.{IsLog, IsCommitted, IsSound, Holds, IsNext, Grows}
 
 -- what one effect leaves of a log, by an author
 pub record Leaves {V A : Type 0} (log : Log V A) (db : List ℕ) (author : A) (s : Store) (c : List (Link V A)) (s' : Store) (c' : List (Link V A)) : Type 0 where
@@ -19,9 +22,13 @@ pub record Leaves {V A : Type 0} (log : Log V A) (db : List ℕ) (author : A) (s
   pub grows : Grows log db s c s' c'
   pub changed : Changed (λ a. a ≡ author) c c'
 
+-- a committed number is one of 64 bits
+pub committed_small : {V A : Type 0} (log : Log V A) (db : List ℕ) (s : Store) (c : List (Link V A)) → IsSound log db s c → (k : ℕ) → IsCommitted log db s c k → k < 2 ^ 64
+committed_small log db s c i k h = let le = at_most log k h.link c i.chain h.at in let small = i.small in omega arith
+
 module _ {V A : Type 0} (log : Log V A) (db : List ℕ) where
   pub grows_not : (s : Store) (c : List (Link V A)) → Grows log db s c s c
-  grows_not s c = record { bound = λ b read. (b, read, omega arith); later = omega arith; tags = λ o at le. at; rises = omega arith; kept = λ k l h. h }
+  grows_not s c = record { bound = λ b read. (b, read, omega arith); later = omega arith; tags = λ o at le. at; rises = omega arith; spares = λ k h. h; kept = λ k l h. h }
 
   pub leaves_not : (author : A) (s : Store) (c : List (Link V A)) → IsSound log db s c → Leaves log db author s c s c
   leaves_not author s c i = record { sound = i; grows = grows_not s c; changed = Stays refl }
@@ -35,7 +42,10 @@ module _ {V A : Type 0} (log : Log V A) (db : List ℕ) where
     same_bound = ap boundary_got same_object
 
     pub elsewhere_grows : Grows log db s c (stored p bytes moment s) c
-    elsewhere_grows = record { bound = λ b read. (b, sym same_bound ∙ read, omega arith); later = omega arith; tags = λ o at le. sym same_object ∙ at; rises = omega arith; kept = λ k l h. h }
+    elsewhere_grows = record { bound = λ b read. (b, sym same_bound ∙ read, omega arith); later = omega arith; tags = λ o at le. sym same_object ∙ at; rises = omega arith; spares = λ k h. h; kept = λ k l h. h }
+
+    still_stands : (k : ℕ) → IsCommitted log db s c k → k < 2 ^ 64 → IsCommitted log db (stored p bytes moment s) c k
+    still_stands k h small = record { link = h.link; at = h.at; stands = ap bytes_of (at_else p (version_path log.kind db k) bytes moment s (away.version k small)) ∙ h.stands }
 
     pub elsewhere_sound : IsSound log db s c → IsSound log db (stored p bytes moment s) c
     elsewhere_sound i = record {
@@ -46,6 +56,7 @@ module _ {V A : Type 0} (log : Log V A) (db : List ℕ) where
       read = same_bound ∙ i.read;
       below = i.below;
       above = λ k lt small. ap bytes_of (at_else p (version_path log.kind db k) bytes moment s (away.version k small)) ∙ i.above k lt small;
+      needed = λ k h. still_stands k (i.needed k h) (committed_small log db s c i k (i.needed k h));
       tagged = λ o at. let le = i.tagged o (sym same_object ∙ at) in omega arith;
     }
 
@@ -107,6 +118,44 @@ module _ {V A : Type 0} (log : Log V A) (db : List ℕ) where
           (λ (ne : k ≢ n). ap bytes_of (put_there k small ne) ∙ (i.above k lt small ∙ sym (ap link_bytes (link_there k new c (λ (e : n ≡ k). ne (sym e))))))
           (same_or_not k n)
 
+      -- the value before is the greatest one
+      old_top : (d : List (Link V A)) → link_at h.old.number d ≡ Some h.old → h.old.number ≡ top d → (k : ℕ) → names_top log d k ≡ log.names h.old.value k
+      old_top [] at e k = absurd cc
+      old_top (l ∷ d) at e k = let same : h.old ≡ l = cc (link_here h.old.number l d (sym e), at) in ap (λ (x : Link V A). log.names x.value k) (sym same)
+
+      normal_lawful : log.refusal h.old.number h.old.value (log.normal v) (log.right author) ≡ None
+      normal_lawful = laws.plain h.old.number h.old.value v (log.right author) h.lawful
+
+      new_committed : (k : ℕ) → k ≡ n → IsCommitted log db after (new ∷ c) k
+      new_committed k e = subst (λ j. IsCommitted log db after (new ∷ c) j) (sym e) (record { link = new; at = link_here n new c refl; stands = put_here })
+
+      old_committed : (k : ℕ) → IsCommitted log db s c k → IsCommitted log db after (new ∷ c) k
+      old_committed k w =
+          let ne : k ≢ n = λ (e : k ≡ n). cc (ap (λ j. link_at j c) e, w.at, fresh) in
+          record {
+            link = w.link;
+            at = link_there k new c (λ (e : n ≡ k). ne (sym e)) ∙ w.at;
+            stands = ap bytes_of (put_there k (committed_small log db s c i k w) ne) ∙ w.stands;
+          }
+
+      put_needed : (k : ℕ) → IsNeeded log (new ∷ c) k → IsCommitted log db after (new ∷ c) k
+      put_needed k (Greatest e) = new_committed k e
+      put_needed k (Named named) =
+          ⊎_elim
+          (λ (e : k ≡ h.old.number + 1). let up = h.number in new_committed k (e ∙ sym up))
+          (λ (old : log.names h.old.value k ≡ true). old_committed k (i.needed k (Named (old_top c h.at at_top k ∙ old))))
+          (laws.known h.old.number h.old.value (log.normal v) (log.right author) k normal_lawful named)
+
+      put_spares : (k : ℕ) → IsSpare log c k → IsSpare log (new ∷ c) k
+      put_spares k w =
+          let e = at_top in
+          let up = h.number in
+          let lt = w.below in
+          record {
+            below = omega arith;
+            unnamed = stays_unnamed log laws h.old.number h.old.value (log.normal v) k (log.right author) normal_lawful (λ (same : k ≡ h.old.number + 1). omega arith) (sym (old_top c h.at at_top k) ∙ w.unnamed);
+          }
+
       put_new : Leaves log db author s c after (new ∷ c)
       put_new =
           let e = at_top in
@@ -121,6 +170,7 @@ module _ {V A : Type 0} (log : Log V A) (db : List ℕ) where
               read = put_bound ∙ i.read;
               below = omega arith;
               above = put_stands;
+              needed = put_needed;
               tagged = put_tagged;
             };
             grows = record {
@@ -128,6 +178,7 @@ module _ {V A : Type 0} (log : Log V A) (db : List ℕ) where
               later = omega arith;
               tags = λ o at le. sym put_object ∙ at;
               rises = omega arith;
+              spares = put_spares;
               kept = λ k l at. link_there k new c (λ (e' : n ≡ k). absurd (cc (fresh, at, e'))) ∙ at;
             };
             changed = Gets new author refl refl refl;
@@ -145,6 +196,12 @@ module _ {V A : Type 0} (log : Log V A) (db : List ℕ) where
           nothing : Stands log db s c n → ⊥
           nothing stands = cc (ap bytes_of absent, ap link_bytes late, stands)
 
+      -- a version that stands is none whose object was absent
+      late_committed : (k : ℕ) → IsCommitted log db s c k → IsCommitted log db after c k
+      late_committed k w =
+          let ne : k ≢ n = λ (e : k ≡ n). cc (ap (λ j. bytes_of (object_at (version_path log.kind db j) s)) e, w.stands, ap bytes_of absent) in
+          record { link = w.link; at = w.at; stands = ap bytes_of (put_there k (committed_small log db s c i k w) ne) ∙ w.stands }
+
       put_late : Leaves log db author s c after c
       put_late = record {
         sound = record {
@@ -155,9 +212,10 @@ module _ {V A : Type 0} (log : Log V A) (db : List ℕ) where
           read = put_bound ∙ i.read;
           below = i.below;
           above = late_stands;
+          needed = λ k w. late_committed k (i.needed k w);
           tagged = put_tagged;
         };
-        grows = record { bound = λ b read. (b, sym put_bound ∙ read, omega arith); later = omega arith; tags = λ o at le. sym put_object ∙ at; rises = omega arith; kept = λ k l at. at };
+        grows = record { bound = λ b read. (b, sym put_bound ∙ read, omega arith); later = omega arith; tags = λ o at le. sym put_object ∙ at; rises = omega arith; spares = λ k w. w; kept = λ k l at. at };
         changed = Stays refl;
       }
 

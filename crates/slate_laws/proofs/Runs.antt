@@ -16,10 +16,9 @@ use Rattle.slate_log.specs.declared.log_kind.LogKind.TheVariants.{Manifest as Ma
 use Rattle.slate_protocol.specs.Calls.{Next, Go, Finish, follow, begin}
 use Rattle.slate_protocol.specs.Chains.{Changed}
 use Rattle.slate_protocol.specs.Chains.Changed.{Stays}
-use Rattle.slate_protocol.specs.Lawful.{HasDb}
 use Rattle.slate_protocol.specs.Logs.{Author, Chain, Chains, author_of, manifests, put_by, chains_stepped, chains_state, chains_at, chains_after, world_after, chains_of}
 use Rattle.slate_protocol.specs.Phrases.{asks, goes, is_due}
-use Rattle.slate_protocol.specs.World.{World, Done, party_of, with_party, tally_of, tallied, wrote, noted, newcomer, settled, stepped, step_state, start_state, halted, stop_state, carrying, may_start, open_at, start_at, step_at, stop_at, happens}
+use Rattle.slate_protocol.specs.World.{World, Done, party_of, with_party, tally_of, tallied, wrote, noted, newcomer, settled, stepped, step_state, start_state, halted, stop_state, carrying, may_start, open_at, start_at, step_at, stop_at, happens, HasDb}
 use Rattle.slate_protocol.specs.declared.party.Facts.{Facts}
 use Rattle.slate_protocol.specs.declared.party.Party.{Party}
 use Rattle.slate_protocol.specs.declared.party.Purpose.{Purpose}
@@ -195,6 +194,9 @@ module _ (w : World) (chains : Chains) (i : Inv w chains) (n : ℕ) (p : Party) 
 
   abbrev w' : World
   w' = (stepped w n facts call purpose position moment mark).world
+
+  pub same_tallies : (d : List ℕ) → is_some (tally_of d w'.tallies) ≡ is_some (tally_of d w.tallies)
+  same_tallies d = tallies.same d
 
   same_db : (d : List ℕ) → HasDb w d → HasDb w' d
   same_db d h = tallies.same d ∙ h

@@ -94,7 +94,7 @@ pass_after s c db mark moment i (passing.Getting now n dates) h = got_after db s
 pass_after s c db mark moment i (passing.Bounding n ns) h = got_after db s mark _
 pass_after s c db mark moment i (passing.Advancing phase ns) h = advance_after db s mark moment phase
 pass_after s c db mark moment i (passing.Deleting [] counts) h = got_after db s mark _
-pass_after s c db mark moment i (passing.Deleting (n ∷ ns) counts) h = delete_after db s n (reached_small s c db n i h.0) mark
+pass_after s c db mark moment i (passing.Deleting (n ∷ ns) counts) h = delete_after db s n (reached_small s c db n i h.0.0) mark
 pass_after s c db mark moment i passing.Over h = absurd h
 
 pub store_after : (s : Store) (c : Chain) (db : List ℕ) (author : Author) (mark : Mark) (moment : ℤ) → IsSound manifests db s c → (purpose : Purpose) (phrase : Phrase) → PhraseKnows s c db author purpose phrase

@@ -38,7 +38,7 @@ use Rattle.slate_laws.proofs.Runs.{StateKnows, Inv, event_inv}
 
 -- what a pass deletes next is below the boundary
 next_small : (s : Store) (c : Chain) (d : List ℕ) → IsSound manifests d s c → (phase : PassPhase) → PassKnows s c d phase → IsNextSmall phase
-next_small s c d i (Deleting (n ∷ ns) counts) h = let le = h.0.reached i.bound i.read in let lt = i.below in let small = i.small in omega arith
+next_small s c d i (Deleting (n ∷ ns) counts) h = let le = h.0.0.reached i.bound i.read in let lt = i.below in let small = i.small in omega arith
 next_small s c d i (Deleting [] counts) h = tt
 next_small s c d i Listing h = tt
 next_small s c d i (Getting now n dates) h = tt

@@ -11,9 +11,10 @@ ghost use Rattle.slate_script.specs.declared.db_spec.DbSpec.{DbSpec};
 ghost use Rattle.slate_script.specs.declared.event.Event.{Event};
 ghost use Rattle.slate_protocol.specs.ByRows.{party_in};
 ghost use Rattle.slate_protocol.specs.Chains.{Changed, top};
-ghost use Rattle.slate_protocol.specs.Lawful.{IsAccepted, HasDb, chains_at_end};
+ghost use Rattle.slate_protocol.specs.Lawful.{IsAccepted, chains_at_end};
 ghost use Rattle.slate_protocol.specs.Logs.{chains_after, world_after};
 ghost use Rattle.slate_protocol.specs.Specs.{opening_world};
+ghost use Rattle.slate_protocol.specs.World.{HasDb};
 
 /// An event leaves the chain of a database, or puts one version on top, by the party of the event.
 pub fn changed()

@@ -6,8 +6,10 @@ mod chains;
 mod courses;
 mod exact_passes;
 mod passes_alone;
+mod safe_parties;
 
 pub use chains::{changed, list_top, taken_path};
 pub use courses::{begins, goes_on, lawful, stops};
 pub use exact_passes::exact_pass;
 pub use passes_alone::undisturbed_pass;
+pub use safe_parties::{above_boundary, candidates_spare, commits_hold, due_bounded, reads_answer};

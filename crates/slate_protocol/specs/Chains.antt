@@ -1,5 +1,5 @@
 -- The chain of a log: what was committed, and what each version owes to the one before it.
-use Rattle.std.specs.Prelude.{◌≡◌, ℕ, ◌+◌, ◌==◌, List, [], ◌∷◌, Option, Some, None, Result, Ok, if◌then◌else◌}
+use Rattle.std.specs.Prelude.{◌≡◌, ℕ, ◌+◌, ◌==◌, Bool, List, [], ◌∷◌, Option, Some, None, Result, Ok, if◌then◌else◌}
 use Rattle.slate_ids.specs.declared.error.SlateDBError.{SlateDBError}
 use Rattle.slate_store.specs.Store.{Store, object_at}
 use Rattle.slate_store.specs.declared.object.StoredObject.{StoredObject}
@@ -34,14 +34,15 @@ if_new (Some old) l c = c
 abbrev pub with_link : {V A : Type 0} → Link V A → List (Link V A) → List (Link V A)
 with_link l c = if_new (link_at l.number c) l c
 
--- a log of any kind of value: where it lies, the bytes of its values, what is read back of a value, and its rules; and of an
--- author what it makes of a value, by which right, and whether the fence refuses it
+-- a log of any kind of value: where it lies, the bytes of its values, what is read back of a value, its rules, and which numbers a value
+-- names; and of an author what it makes of a value, by which right, and whether the fence refuses it
 pub record Log (V A : Type 0) : Type 0 where
   pub kind : LogKind
   pub encoded : V → Result (List ℕ) SlateDBError
   pub decoded : List ℕ → Result V SlateDBError
   pub normal : V → V
   pub refusal : ℕ → V → V → Right → Option SlateDBError
+  pub names : V → ℕ → Bool
   pub makes : A → ℕ → V → Result (Option V) SlateDBError
   pub right : A → Right
   pub fence : A → V → Option SlateDBError

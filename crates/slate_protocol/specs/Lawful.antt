@@ -1,7 +1,8 @@
--- What holds of every run: one chain, fenced epochs, the rows, and exact passes.
-use Rattle.std.specs.Prelude.{◌≡◌, ℕ, ◌≤◌, ◌<◌, true, List, map, Some, None, is_some}
+-- What holds of every run: one chain, fenced epochs, the rows, exact passes, and the safe trail.
+use Rattle.std.specs.Prelude.{◌≡◌, ℕ, ◌≤◌, ◌<◌, true, List, ◌++◌, map, Some, None}
 use Rattle.std.specs.List.{list_all}
 use Rattle.slate_ids.specs.Ids.{is_db_path}
+use Rattle.slate_ids.specs.declared.object_path.ObjectPath.{ObjectPath}
 use Rattle.slate_script.specs.declared.db_spec.DbSpec.{DbSpec}
 use Rattle.slate_script.specs.declared.event.Event.{Event}
 use Rattle.slate_protocol.specs.ByRows.{nobody, trail_by}
@@ -10,18 +11,15 @@ use Rattle.slate_protocol.specs.Fenced.{IsFenced}
 use Rattle.slate_protocol.specs.Logs.{Chain, Chains, manifests, chains_of, opening_chains}
 use Rattle.slate_protocol.specs.Passes.{ExactPasses}
 use Rattle.slate_protocol.specs.Runs.{Course, opening, run}
+use Rattle.slate_protocol.specs.Safe.{gone, IsSafe}
 use Rattle.slate_protocol.specs.Specs.{cause_of_specs, opening_world}
 use Rattle.slate_protocol.specs.Trails.{numbered, store_of, told}
-use Rattle.slate_protocol.specs.World.{World, tally_of}
+use Rattle.slate_protocol.specs.World.{World, tally_of, HasDb}
 
 -- accepted databases: no cause refuses them, and each has a name
 pub record IsAccepted (specs : List DbSpec) : Type 0 where
   pub accepted : cause_of_specs specs ≡ None
   pub named : list_all (λ spec. is_db_path spec.path) specs ≡ true
-
--- whether the cluster has a database
-abbrev pub HasDb : World → List ℕ → Type 0
-HasDb w db = is_some (tally_of db w.tallies) ≡ true
 
 -- the chains after events on these databases
 abbrev pub chains_at_end : List DbSpec → List Event → Chains
@@ -32,6 +30,14 @@ pub record IsRun (course : Course) : Type 0 where
   pub accepted : IsAccepted course.specs
   pub events : List Event
   pub run : run events 0 (opening course.specs) ≡ record { course = course; bad = None }
+
+-- where events lead that begin on these databases, up to the first bad one
+abbrev pub course_after : List DbSpec → List Event → Course
+course_after specs events = (run events 0 (opening specs)).course
+
+-- what was removed after events
+abbrev pub gone_after : List DbSpec → List Event → List ObjectPath
+gone_after specs events = gone (course_after specs events).trail (opening_world specs).store
 
 -- what holds of the manifests of a database: the chain, the store and the report's number are one
 pub record IsLawful (course : Course) (db : List ℕ) (c : Chain) : Type 0 where
@@ -59,4 +65,9 @@ pub record Lawful (course : Course) : Type 0 where
   pub store : course.world.store ≡ store_of course.trail (opening_world course.specs).store
   -- what is committed is what the trail alone tells: the first put of each number
   pub told : (db : List ℕ) → told course.trail (opening_world course.specs).store (λ d. map numbered (opening_chains course.specs d)) db ≡ map numbered (chains_at_end course.specs past.events db)
+  -- at each moment nothing that was removed is reachable, and all that is reachable stands
+  pub safe : (front back : List Event) → past.events ≡ front ++ back → IsSafe (course_after course.specs front).world (chains_at_end course.specs front) (gone_after course.specs front)
+  -- no boundary falls, from any moment on
+  pub rises : (front back : List Event) → past.events ≡ front ++ back → (db : List ℕ) → HasDb course.world db
+      → (before now : ℕ) → bound_in manifests db (course_after course.specs front).world.store ≡ Some before → bound_in manifests db course.world.store ≡ Some now → before ≤ now
   pub manifests : (db : List ℕ) → HasDb course.world db → IsLawful course db (chains_at_end course.specs past.events db)

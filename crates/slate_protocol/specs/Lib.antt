@@ -13,5 +13,8 @@ pub mod ByRows
 pub mod Trails
 pub mod Passes
 pub mod Alone
+pub mod Reach
+pub mod Safe
+pub mod Holding
 pub mod Fenced
 pub mod Lawful

@@ -1,6 +1,7 @@
 -- What a run committed, by database: kept beside the state, event by event.
 use Rattle.std.specs.Prelude.{ℕ, Bool, true, false, List, [], ◌∷◌, Option, Some, None, ℤ, pos, bytes_eq, if◌then◌else◌}
 use Rattle.slate_model.specs.declared.manifest.Manifest.{Manifest}
+use Rattle.slate_model.specs.Checkpoints.{is_named}
 use Rattle.slate_model.specs.Codec.{encoded, decoded}
 use Rattle.slate_model.specs.Normal.{normal}
 use Rattle.slate_store.specs.Store.{effect}
@@ -52,6 +53,7 @@ manifests = record {
   decoded = decoded;
   normal = normal;
   refusal = manifest_refusal;
+  names = λ m n. is_named n m.checkpoints;
   makes = λ a n m. new_value a.call a.now n m;
   right = λ a. right_of a.call;
   fence = λ a m. fence_of a.facts a.call m;

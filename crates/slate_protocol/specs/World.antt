@@ -1,5 +1,5 @@
 -- The state of a cluster, and what an event does to it.
-use Rattle.std.specs.Prelude.{ℕ, ◌+◌, ℤ, Bool, true, not, ◌&&◌, ◌||◌, List, Option, Some, None, is_some, is_none, length, nat_lt, max, min, if◌then◌else◌}
+use Rattle.std.specs.Prelude.{◌≡◌, ℕ, ◌+◌, ℤ, Bool, true, not, ◌&&◌, ◌||◌, List, Option, Some, None, is_some, is_none, length, nat_lt, max, min, if◌then◌else◌}
 use Rattle.std.specs.Map.{lookup, set_value}
 use Rattle.std.specs.BTreeMap.{is_at, insert_entry}
 use Rattle.std.specs.Ordering.{nat_cmp}
@@ -46,6 +46,10 @@ db_cmp = slice_cmp nat_cmp
 -- the greatest committed numbers of a database
 abbrev pub tally_of : List ℕ → List (List ℕ × Tally) → Option Tally
 tally_of db tallies = lookup (is_at (db_cmp db)) tallies
+
+-- whether the cluster has a database
+abbrev pub HasDb : World → List ℕ → Type 0
+HasDb w db = is_some (tally_of db w.tallies) ≡ true
 
 -- the party of a number
 abbrev pub party_of : ℕ → List (ℕ × Party) → Option Party

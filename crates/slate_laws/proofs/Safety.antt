@@ -1,0 +1,329 @@
+-- Nothing reachable is removed: what was removed stays spare, at or below the boundary of its log, at each moment of a run.
+use Rattle.std.proofs.Common.{◌≡◌, ℕ, ℤ, ◌+◌, ◌≤◌, Bool, true, false, List, [], ◌∷◌, ◌++◌, Option, Some, None, is_some, refl, sym, ap, ◌∙◌, subst, append_assoc, arith}
+use Rattle.std.proofs.lemmas.List.{append-nil}
+use Rattle.std.specs.Prelude.{if◌then◌else◌}
+use Rattle.slate_ids.specs.declared.object_path.ObjectPath.{ObjectPath}
+use Rattle.slate_ids.specs.declared.object_path.ObjectPath.TheVariants.{Manifest as ManifestPath}
+use Rattle.slate_store.specs.Store.{Store, effect}
+use Rattle.slate_store.specs.declared.mark.Mark.{Mark}
+use Rattle.slate_script.specs.declared.call.Call.{Call}
+use Rattle.slate_script.specs.declared.entry.Entry.{Entry}
+use Rattle.slate_script.specs.declared.event.Event.{Event}
+use Rattle.slate_script.specs.declared.event.Event.TheVariants.{Open, Start, Step, Stop}
+use Rattle.slate_log.specs.LogPaths.{version_path}
+use Rattle.slate_log.specs.declared.advance.AdvancePhase.TheVariants as advancing
+use Rattle.slate_log.specs.declared.commit.CommitPhase.TheVariants as committing
+use Rattle.slate_log.specs.declared.log_kind.LogKind.TheVariants.{Manifest as ManifestLog}
+use Rattle.slate_log.specs.declared.read.ReadPhase.TheVariants as reading
+use Rattle.slate_gc.specs.declared.pass_phase.PassPhase.{PassPhase}
+use Rattle.slate_gc.specs.declared.pass_phase.PassPhase.TheVariants as passing
+use Rattle.slate_protocol.specs.ByRows.{Standings, standings_after, entry_store}
+use Rattle.slate_protocol.specs.Chains.{bound_in}
+use Rattle.slate_protocol.specs.Logs.{Author, Chains, author_of, manifests, chains_stepped, chains_state, chains_at, chains_after, chains_of}
+use Rattle.slate_protocol.specs.Phrases.{asks, phrase_asks, is_due}
+use Rattle.slate_protocol.specs.Reach.{IsNeeded, InReach, Reachable, IsSpare}
+use Rattle.slate_protocol.specs.Reach.InReach.{OfManifest}
+use Rattle.slate_protocol.specs.Runs.{Course, Ran, going_on, run}
+use Rattle.slate_protocol.specs.Safe.{took_away, path_if, removed_by_call, removed_by, gone, NoneReachable, IsCollected, AllCollected, Stands, IsSafe}
+use Rattle.slate_protocol.specs.World.{World, Done, HasDb, party_of, tally_of, noted, stepped, step_state, start_state, stop_state, carrying, may_start, open_at, start_at, step_at, stop_at, happens}
+use Rattle.slate_protocol.specs.declared.party.Facts.{Facts}
+use Rattle.slate_protocol.specs.declared.party.Party.{Party}
+use Rattle.slate_protocol.specs.declared.party.Purpose.{Purpose}
+use Rattle.slate_protocol.specs.declared.party.Purpose.TheVariants.{Reading, Committing, Passing}
+use Rattle.slate_protocol.specs.declared.party.State.{State}
+use Rattle.slate_protocol.specs.declared.party.State.TheVariants.{Resting, Busy, Halted}
+use Rattle.slate_protocol.specs.declared.position.Phrase.{Phrase}
+use Rattle.slate_protocol.specs.declared.position.Phrase.TheVariants.{Read, Commit, Pass}
+use Rattle.slate_protocol.specs.declared.position.Position.{Position}
+use Rattle.slate_protocol.specs.declared.tally.Tally.{Tally}
+use Rattle.slate_laws.proofs.Facts.{IsCommitted, IsReached, Grows}
+use Rattle.slate_laws.proofs.Puts.{grows_not}
+use Rattle.slate_laws.proofs.Rows.{AllMatch, ended, event_brings, all_after}
+use Rattle.slate_laws.proofs.Runs.{Inv, StateKnows, log_after, same_tallies, event_inv}
+use Rattle.slate_laws.proofs.Spares.{not_needed}
+use Rattle.slate_laws.proofs.Steps.{PhraseKnows}
+
+-- ---- what an event leaves of each log
+
+-- the same databases, whose logs have grown
+pub record EventAfter (w : World) (chains : Chains) (v : World) (chains' : Chains) : Type 0 where
+  pub same : (db : List ℕ) → is_some (tally_of db v.tallies) ≡ is_some (tally_of db w.tallies)
+  pub grows : (db : List ℕ) → HasDb w db → Grows manifests db w.store (chains db) v.store (chains' db)
+
+-- an event that leaves store, tallies and chains
+leaves_all : (w v : World) (chains : Chains) → v.store ≡ w.store → v.tallies ≡ w.tallies → EventAfter w chains v chains
+leaves_all w v chains store tallies = record {
+  same = λ db. ap (λ (ts : List (List ℕ × Tally)). is_some (tally_of db ts)) tallies;
+  grows = λ db has. subst (λ (s : Store). Grows manifests db w.store (chains db) s (chains db)) (sym store) (grows_not manifests db w.store (chains db));
+}
+
+step_after : (w : World) (chains : Chains) (i : Inv w chains) (n : ℕ) (p : Party) (at : party_of n w.parties ≡ Some p) (moment : ℤ) (mark : Mark) (state : State) → StateKnows w.store chains n p.facts state
+    → EventAfter w chains (step_state w n p.facts state moment mark).world (chains_state w n p.facts state moment mark chains)
+step_after w chains i n p at moment mark Resting k = leaves_all w w chains refl refl
+step_after w chains i n p at moment mark Halted k = leaves_all w w chains refl refl
+step_after w chains i n p at moment mark (Busy call purpose position) k = test (is_due position) (record {
+  same = λ db. same_tallies w chains i n p at call purpose position k moment mark db;
+  grows = λ db has. (log_after w chains i n p at call purpose position k moment mark db has).grows;
+})
+  where
+    test : (b : Bool) → EventAfter w chains (stepped w n p.facts call purpose position moment mark).world (chains_stepped w n p.facts call purpose position moment mark chains)
+        → EventAfter w chains (if b then stepped w n p.facts call purpose position moment mark else noted n w).world (if b then chains_stepped w n p.facts call purpose position moment mark chains else chains)
+    test true h = h
+    test false h = leaves_all w w chains refl refl
+
+start_after : (w : World) (chains : Chains) (n : ℕ) (facts : Facts) (state : State) (call : Call) → EventAfter w chains (start_state (carrying n call w) n facts state call).world chains
+start_after w chains n facts Resting call = leaves_all w _ chains refl refl
+start_after w chains n facts (Busy under purpose position) call = leaves_all w _ chains refl refl
+start_after w chains n facts Halted call = leaves_all w _ chains refl refl
+
+stop_after : (w : World) (chains : Chains) (n : ℕ) (facts : Facts) (state : State) → EventAfter w chains (stop_state w n facts state).world chains
+stop_after w chains n facts Halted = leaves_all w w chains refl refl
+stop_after w chains n facts Resting = leaves_all w _ chains refl refl
+stop_after w chains n facts (Busy call purpose position) = leaves_all w _ chains refl refl
+
+pub event_after : (w : World) (chains : Chains) (e : Event) (d : Done) → Inv w chains → happens w e ≡ Some d → EventAfter w chains d.world (chains_after w e chains)
+event_after w chains (Open n kind db) d i h = opened (party_of n w.parties) (tally_of db w.tallies) h
+  where
+    opened : (o : Option Party) (t : Option Tally) → open_at w n kind db o t ≡ Some d → EventAfter w chains d.world chains
+    opened None (Some t) h = subst (λ (o : Option Done). elim o as (λ _. Type 0) [ None ↦ Unit {0} | Some r ↦ EventAfter w chains r.world chains ]) h (leaves_all w _ chains refl refl)
+    opened None None h = absurd cc
+    opened (Some p) t h = absurd cc
+event_after w chains (Start n call) d i h = started (party_of n w.parties) h
+  where
+    test : (p : Party) (b : Bool) → (if b then Some (start_state (carrying n call w) n p.facts p.state call) else None) ≡ Some d → EventAfter w chains d.world chains
+    test p true h = let same : start_state (carrying n call w) n p.facts p.state call ≡ d = cc in subst (λ (r : Done). EventAfter w chains r.world chains) same (start_after w chains n p.facts p.state call)
+    test p false h = absurd cc
+
+    started : (o : Option Party) → start_at w n call o ≡ Some d → EventAfter w chains d.world chains
+    started None h = absurd cc
+    started (Some p) h = test p (may_start w call p) h
+event_after w chains (Step n moment mark) d i h = went (party_of n w.parties) refl h
+  where
+    went : (o : Option Party) → party_of n w.parties ≡ o → step_at w n moment mark o ≡ Some d → EventAfter w chains d.world (chains_at w n o moment mark chains)
+    went None at h = absurd cc
+    went (Some p) at h =
+        let same : step_state w n p.facts p.state moment mark ≡ d = cc in
+        subst (λ (r : Done). EventAfter w chains r.world (chains_state w n p.facts p.state moment mark chains)) same (step_after w chains i n p at moment mark p.state (i.parties n p at).knows)
+event_after w chains (Stop n) d i h = went (party_of n w.parties) h
+  where
+    went : (o : Option Party) → stop_at w n o ≡ Some d → EventAfter w chains d.world chains
+    went None h = absurd cc
+    went (Some p) h =
+        let same : stop_state w n p.facts p.state ≡ d = cc in
+        subst (λ (r : Done). EventAfter w chains r.world chains) same (stop_after w chains n p.facts p.state)
+
+-- ---- what was removed
+
+all_gone : (w : World) (chains : Chains) (xs ys : List ObjectPath) → AllCollected w chains xs → AllCollected w chains ys → AllCollected w chains (xs ++ ys)
+all_gone w chains [] ys h k = k
+all_gone w chains (x ∷ xs) ys h k = (h.0, all_gone w chains xs ys h.1 k)
+
+-- what was removed stays so
+module _ (w : World) (chains : Chains) (v : World) (chains' : Chains) (a : EventAfter w chains v chains') where
+  stays_gone : (path : ObjectPath) → IsCollected w chains path → IsCollected v chains' path
+  stays_gone path h =
+      let g = a.grows h.db h.has in
+      record {
+        db = h.db;
+        number = h.number;
+        is = h.is;
+        has = a.same h.db ∙ h.has;
+        spare = g.spares h.number h.spare;
+        bounded = λ bound read. let was = g.bound bound read in let up = was.2 in let le = h.bounded was.0 was.1 in omega arith;
+      }
+
+  pub all_stay : (paths : List ObjectPath) → AllCollected w chains paths → AllCollected v chains' paths
+  all_stay [] h = tt
+  all_stay (path ∷ paths) h = (stays_gone path h.0, all_stay paths h.1)
+
+  -- and so does what a delete of a number removes that is spare and at or below the boundary
+  delete_gone : (db : List ℕ) (n : ℕ) (b : Bool) → HasDb w db → IsReached manifests db w.store n × IsSpare manifests (chains db) n → AllCollected v chains' (path_if b (ManifestPath db n))
+  delete_gone db n true has h = (stays_gone (ManifestPath db n) (record { db = db; number = n; is = refl; has = has; spare = h.1; bounded = h.0.reached }), tt)
+  delete_gone db n false has h = tt
+
+  pass_gone : (db : List ℕ) (author : Author) (options : _) (phase : PassPhase) (s : Store) → HasDb w db → PhraseKnows w.store (chains db) db author Passing (Pass options phase) → AllCollected v chains' (removed_by_call (phrase_asks db (Pass options phase)) w.store s)
+  pass_gone db author options passing.Listing s has k = tt
+  pass_gone db author options (passing.Getting now n dates) s has k = tt
+  pass_gone db author options (passing.Bounding n ns) s has k = tt
+  pass_gone db author options (passing.Advancing (advancing.Bounding n) ns) s has k = tt
+  pass_gone db author options (passing.Advancing (advancing.Creating n) ns) s has k = tt
+  pass_gone db author options (passing.Advancing (advancing.Replacing n tag) ns) s has k = tt
+  pass_gone db author options (passing.Advancing advancing.Over ns) s has k = tt
+  pass_gone db author options (passing.Deleting [] counts) s has k = tt
+  pass_gone db author options (passing.Deleting (n ∷ ns) counts) s has k = delete_gone db n (took_away (version_path ManifestLog db n) w.store s) has k.0
+  pass_gone db author options passing.Over s has k = absurd k
+
+  phrase_gone : (db : List ℕ) (author : Author) (purpose : Purpose) (phrase : Phrase) (s : Store) → HasDb w db → PhraseKnows w.store (chains db) db author purpose phrase → AllCollected v chains' (removed_by_call (phrase_asks db phrase) w.store s)
+  phrase_gone db author Reading (Read reading.Listing) s has k = tt
+  phrase_gone db author Reading (Read (reading.Getting n)) s has k = tt
+  phrase_gone db author Reading (Read (reading.Bounding n m)) s has k = tt
+  phrase_gone db author Reading (Read reading.Over) s has k = tt
+  phrase_gone db author (Committing now) (Commit (committing.Putting n bytes m)) s has k = tt
+  phrase_gone db author (Committing now) (Commit (committing.Bounding n m)) s has k = tt
+  phrase_gone db author (Committing now) (Commit committing.Over) s has k = tt
+  phrase_gone db author Passing (Pass options phase) s has k = pass_gone db author options phase s has k
+  phrase_gone db author Reading (Commit phase) s has k = absurd k
+  phrase_gone db author Reading (Pass options phase) s has k = absurd k
+  phrase_gone db author (Committing now) (Read phase) s has k = absurd k
+  phrase_gone db author (Committing now) (Pass options phase) s has k = absurd k
+  phrase_gone db author Passing (Read phase) s has k = absurd k
+  phrase_gone db author Passing (Commit phase) s has k = absurd k
+
+  -- what a step removed
+  pub step_gone : (n : ℕ) (facts : Facts) (state : State) (moment : ℤ) (mark : Mark) → HasDb w facts.db → StateKnows w.store chains n facts state → AllCollected v chains' (removed_by (step_state w n facts state moment mark).entry w.store)
+  step_gone n facts Resting moment mark has k = tt
+  step_gone n facts Halted moment mark has k = tt
+  step_gone n facts (Busy call purpose position) moment mark has k =
+      let s = (effect mark (asks position) moment w.store).store in
+      let own = subst (λ d. PhraseKnows w.store (chains d) d (author_of n facts call purpose) purpose position.phrase) (sym k.0) k.1 in
+      test (is_due position) (phrase_gone position.db (author_of n facts call purpose) purpose position.phrase s (subst (λ d. HasDb w d) (sym k.0) has) own)
+    where
+      test : (b : Bool) → AllCollected v chains' (removed_by (stepped w n facts call purpose position moment mark).entry w.store)
+          → AllCollected v chains' (removed_by (if b then stepped w n facts call purpose position moment mark else noted n w).entry w.store)
+      test true h = h
+      test false h = tt
+
+  start_gone : (n : ℕ) (facts : Facts) (state : State) (call : Call) (u : World) → AllCollected v chains' (removed_by (start_state u n facts state call).entry w.store)
+  start_gone n facts Resting call u = tt
+  start_gone n facts (Busy under purpose position) call u = tt
+  start_gone n facts Halted call u = tt
+
+  stop_gone : (n : ℕ) (facts : Facts) (state : State) → AllCollected v chains' (removed_by (stop_state w n facts state).entry w.store)
+  stop_gone n facts Halted = tt
+  stop_gone n facts Resting = tt
+  stop_gone n facts (Busy call purpose position) = tt
+
+  pub event_gone : (e : Event) (d : Done) → Inv w chains → happens w e ≡ Some d → AllCollected v chains' (removed_by d.entry w.store)
+  event_gone (Open n kind db) d i h = opened (party_of n w.parties) (tally_of db w.tallies) h
+    where
+      opened : (o : Option Party) (t : Option Tally) → open_at w n kind db o t ≡ Some d → AllCollected v chains' (removed_by d.entry w.store)
+      opened None (Some t) h = subst (λ (o : Option Done). elim o as (λ _. Type 0) [ None ↦ Unit {0} | Some r ↦ AllCollected v chains' (removed_by r.entry w.store) ]) h tt
+      opened None None h = absurd cc
+      opened (Some p) t h = absurd cc
+  event_gone (Start n call) d i h = started (party_of n w.parties) h
+    where
+      test : (p : Party) (b : Bool) → (if b then Some (start_state (carrying n call w) n p.facts p.state call) else None) ≡ Some d → AllCollected v chains' (removed_by d.entry w.store)
+      test p true h = let same : start_state (carrying n call w) n p.facts p.state call ≡ d = cc in subst (λ (r : Done). AllCollected v chains' (removed_by r.entry w.store)) same (start_gone n p.facts p.state call (carrying n call w))
+      test p false h = absurd cc
+
+      started : (o : Option Party) → start_at w n call o ≡ Some d → AllCollected v chains' (removed_by d.entry w.store)
+      started None h = absurd cc
+      started (Some p) h = test p (may_start w call p) h
+  event_gone (Step n moment mark) d i h = went (party_of n w.parties) refl h
+    where
+      went : (o : Option Party) → party_of n w.parties ≡ o → step_at w n moment mark o ≡ Some d → AllCollected v chains' (removed_by d.entry w.store)
+      went None at h = absurd cc
+      went (Some p) at h =
+          let same : step_state w n p.facts p.state moment mark ≡ d = cc in
+          let known = i.parties n p at in
+          subst (λ (r : Done). AllCollected v chains' (removed_by r.entry w.store)) same (step_gone n p.facts p.state moment mark known.has known.knows)
+  event_gone (Stop n) d i h = went (party_of n w.parties) h
+    where
+      went : (o : Option Party) → stop_at w n o ≡ Some d → AllCollected v chains' (removed_by d.entry w.store)
+      went None h = absurd cc
+      went (Some p) h =
+          let same : stop_state w n p.facts p.state ≡ d = cc in
+          subst (λ (r : Done). AllCollected v chains' (removed_by r.entry w.store)) same (stop_gone n p.facts p.state)
+
+-- ---- along a run
+
+-- what the entries of a run removed, beside what was removed before
+pub record RunGone (c v : Course) (chains' : Chains) (paths : List ObjectPath) : Type 0 where
+  pub entries : List Entry
+  pub trail : v.trail ≡ c.trail ++ entries
+  pub all : AllCollected v.world chains' (paths ++ gone entries c.world.store)
+
+-- one entry more in front
+more_gone : (c v : Course) (d : Done) (chains' : Chains) (paths : List ObjectPath) → d.world.store ≡ entry_store d.entry c.world.store → RunGone (going_on c d) v chains' (paths ++ removed_by d.entry c.world.store) → RunGone c v chains' paths
+more_gone c v d chains' paths e r = record {
+  entries = d.entry ∷ r.entries;
+  trail = r.trail ∙ append_assoc c.trail (d.entry ∷ []) r.entries;
+  all = subst (λ (ps : List ObjectPath). AllCollected v.world chains' ps)
+      (append_assoc paths (removed_by d.entry c.world.store) (gone r.entries d.world.store) ∙ ap (λ (s : Store). paths ++ (removed_by d.entry c.world.store ++ gone r.entries s)) e) r.all;
+}
+
+pub run_gone : (es : List Event) (place : ℕ) (c v : Course) (standings : Standings) (chains : Chains) (paths : List ObjectPath) → AllMatch standings c.world → Inv c.world chains → AllCollected c.world chains paths → run es place c ≡ ended v
+    → RunGone c v (chains_of es c.world chains) paths
+run_gone [] place c v standings chains paths m i h is =
+    let same : c ≡ v = ap (λ (r : Ran). r.course) is in
+    record {
+      entries = [];
+      trail = ap (λ (x : Course). x.trail) (sym same) ∙ sym (append-nil c.trail);
+      all = subst (λ (ps : List ObjectPath). AllCollected v.world chains ps) (sym (append-nil paths)) (subst (λ (x : Course). AllCollected x.world chains paths) same h);
+    }
+run_gone (e ∷ es) place c v standings chains paths m i h is =
+    went (happens c.world e) refl is
+    (λ d k at.
+    let after = event_after c.world chains e d i at in
+    run_gone es (place + 1) (going_on c d) v (standings_after e d.entry standings) (chains_after c.world e chains) (paths ++ removed_by d.entry c.world.store)
+    (all_after e standings c.world d m (event_brings e standings c.world d m at)) (event_inv c.world chains e d at i)
+    (all_gone d.world (chains_after c.world e chains) paths (removed_by d.entry c.world.store) (all_stay c.world chains d.world (chains_after c.world e chains) after paths h)
+    (event_gone c.world chains d.world (chains_after c.world e chains) after e d i at)) k)
+  where
+    went : (o : Option Done) → happens c.world e ≡ o → (elim o as (λ _. Ran) [ None ↦ record { course = c; bad = Some place } | Some done ↦ run es (place + 1) (going_on c done) ]) ≡ ended v
+        → ((d : Done) → run es (place + 1) (going_on c d) ≡ ended v → happens c.world e ≡ Some d → RunGone (going_on c d) v (chains_of es d.world (chains_after c.world e chains)) (paths ++ removed_by d.entry c.world.store))
+        → RunGone c v (elim o as (λ _. Chains) [ None ↦ chains | Some d ↦ chains_of es d.world (chains_after c.world e chains) ]) paths
+    went None at is f = absurd (cc (ap (λ (r : Ran). r.bad) is))
+    went (Some d) at is f = more_gone c v d (chains_of es d.world (chains_after c.world e chains)) paths (event_brings e standings c.world d m at).store (f d is at)
+
+-- ---- so it is safe
+
+module _ (w : World) (chains : Chains) (i : Inv w chains) where
+  unreachable_one : (path : ObjectPath) → IsCollected w chains path → Reachable w chains path → ⊥
+  unreachable_one path h r = by_reach r.reach
+    where
+      by_reach : InReach (chains r.db) r.db path → ⊥
+      by_reach (OfManifest n is needed) =
+          let same : ManifestPath h.db h.number ≡ ManifestPath r.db n = sym h.is ∙ is in
+          let same_db : h.db ≡ r.db = cc in
+          let same_number : h.number ≡ n = cc in
+          not_needed manifests (chains h.db) h.number h.spare (subst (λ k. IsNeeded manifests (chains h.db) k) (sym same_number) (subst (λ d. IsNeeded manifests (chains d) n) (sym same_db) needed))
+
+  none_reachable : (paths : List ObjectPath) → AllCollected w chains paths → NoneReachable w chains paths
+  none_reachable [] h = tt
+  none_reachable (path ∷ paths) h = (unreachable_one path h.0, none_reachable paths h.1)
+
+  stands_there : (db : List ℕ) (n : ℕ) → HasDb w db → IsNeeded manifests (chains db) n → Stands w chains db n
+  stands_there db n has needed = let k = (i.logs db has).needed n needed in record { link = k.link; committed = k.at; stands = k.stands }
+
+  pub is_safe : (paths : List ObjectPath) → AllCollected w chains paths → IsSafe w chains paths
+  is_safe paths h = record { unreachable = none_reachable paths h; stands = stands_there; collected = h }
+
+-- ---- along a run: the same databases, and no boundary falls
+
+pub run_same : (es : List Event) (place : ℕ) (c v : Course) (chains : Chains) (db : List ℕ) → Inv c.world chains → run es place c ≡ ended v → is_some (tally_of db v.world.tallies) ≡ is_some (tally_of db c.world.tallies)
+run_same [] place c v chains db i is = ap (λ (r : Ran). is_some (tally_of db r.course.world.tallies)) (sym is)
+run_same (e ∷ es) place c v chains db i is =
+    went (happens c.world e) refl is
+    (λ d k at. run_same es (place + 1) (going_on c d) v (chains_after c.world e chains) db (event_inv c.world chains e d at i) k ∙ (event_after c.world chains e d i at).same db)
+  where
+    went : (o : Option Done) → happens c.world e ≡ o → (elim o as (λ _. Ran) [ None ↦ record { course = c; bad = Some place } | Some done ↦ run es (place + 1) (going_on c done) ]) ≡ ended v
+        → ((d : Done) → run es (place + 1) (going_on c d) ≡ ended v → happens c.world e ≡ Some d → is_some (tally_of db v.world.tallies) ≡ is_some (tally_of db c.world.tallies))
+        → is_some (tally_of db v.world.tallies) ≡ is_some (tally_of db c.world.tallies)
+    went None at is f = absurd (cc (ap (λ (r : Ran). r.bad) is))
+    went (Some d) at is f = f d is at
+
+pub run_rises : (es : List Event) (place : ℕ) (c v : Course) (chains : Chains) (db : List ℕ) → Inv c.world chains → HasDb c.world db → run es place c ≡ ended v
+    → (before now : ℕ) → bound_in manifests db c.world.store ≡ Some before → bound_in manifests db v.world.store ≡ Some now → before ≤ now
+run_rises [] place c v chains db i has is before now was read =
+    let same : c ≡ v = ap (λ (r : Ran). r.course) is in
+    let here : bound_in manifests db c.world.store ≡ Some now = subst (λ (x : Course). bound_in manifests db x.world.store ≡ Some now) (sym same) read in
+    let equal : before ≡ now = cc (was, here) in
+    omega arith
+run_rises (e ∷ es) place c v chains db i has is before now was read =
+    went (happens c.world e) refl is
+    (λ d k at.
+    let after = event_after c.world chains e d i at in
+    let mid_inv = event_inv c.world chains e d at i in
+    let mid_has : HasDb d.world db = after.same db ∙ has in
+    let log = mid_inv.logs db mid_has in
+    let was_there = (after.grows db has).bound log.bound log.read in
+    let equal : was_there.0 ≡ before = cc (was_there.1, was) in
+    let up = was_there.2 in
+    let rest = run_rises es (place + 1) (going_on c d) v (chains_after c.world e chains) db mid_inv mid_has k log.bound now log.read read in
+    omega arith)
+  where
+    went : (o : Option Done) → happens c.world e ≡ o → (elim o as (λ _. Ran) [ None ↦ record { course = c; bad = Some place } | Some done ↦ run es (place + 1) (going_on c done) ]) ≡ ended v
+        → ((d : Done) → run es (place + 1) (going_on c d) ≡ ended v → happens c.world e ≡ Some d → before ≤ now) → before ≤ now
+    went None at is f = absurd (cc (ap (λ (r : Ran). r.bad) is))
+    went (Some d) at is f = f d is at

@@ -1,0 +1,76 @@
+-- The safe trail: what a delete removed is not reachable from then on, and what is reachable stands.
+use Rattle.std.specs.Prelude.{◌≡◌, ℕ, ◌≤◌, Bool, true, false, not, ◌&&◌, List, [], ◌∷◌, ◌++◌, Some}
+use Rattle.slate_ids.specs.declared.object_path.ObjectPath.{ObjectPath}
+use Rattle.slate_store.specs.Store.{Store, object_at, stands_at, effect}
+use Rattle.slate_store.specs.declared.store_call.StoreCall.{StoreCall}
+use Rattle.slate_store.specs.declared.store_call.StoreCall.TheVariants.{Delete}
+use Rattle.slate_script.specs.declared.entry.Entry.{Entry}
+use Rattle.slate_script.specs.declared.entry.Entry.TheVariants.{Called}
+use Rattle.slate_ids.specs.declared.object_path.ObjectPath.TheVariants.{Manifest as ManifestPath}
+use Rattle.slate_protocol.specs.ByRows.{entry_store}
+use Rattle.slate_protocol.specs.Chains.{Link, link_at, bytes_of, bound_in}
+use Rattle.slate_protocol.specs.Logs.{Author, Chains, manifests}
+use Rattle.slate_protocol.specs.Reach.{IsNeeded, IsSpare, Reachable}
+use Rattle.slate_protocol.specs.World.{World, HasDb}
+
+-- ---- what was removed
+
+-- whether a call took away the object of a path: one stood there before, and none stands there after
+abbrev pub took_away : ObjectPath → Store → Store → Bool
+took_away path before after = stands_at path before && not (stands_at path after)
+
+-- the path, where it is so
+abbrev pub path_if : Bool → ObjectPath → List ObjectPath
+path_if true path = path ∷ []
+path_if false path = []
+
+-- what a delete took away between two stores
+abbrev pub removed_by_call : StoreCall → Store → Store → List ObjectPath
+removed_by_call (Delete path) before after = path_if (took_away path before after) path
+removed_by_call _ before after = []
+
+-- what an entry removed of a store
+abbrev pub removed_by : Entry → Store → List ObjectPath
+removed_by (Called n call moment mark answer reply) s = removed_by_call call s (effect mark call moment s).store
+removed_by _ s = []
+
+-- what the entries of a trail removed, which begins at a store
+abbrev pub gone : List Entry → Store → List ObjectPath
+gone [] s = []
+gone (x ∷ xs) s = removed_by x s ++ gone xs (entry_store x s)
+
+-- ---- safe
+
+-- none of these paths is reachable
+abbrev pub NoneReachable : World → Chains → List ObjectPath → Type 0
+NoneReachable w chains [] = Unit {0}
+NoneReachable w chains (path ∷ paths) = (Reachable w chains path → ⊥) × NoneReachable w chains paths
+
+-- a removed path is the manifest of a number that is spare, and at or below the boundary of its log
+pub record IsCollected (w : World) (chains : Chains) (path : ObjectPath) : Type 0 where
+  pub db : List ℕ
+  pub number : ℕ
+  pub is : path ≡ ManifestPath db number
+  pub has : HasDb w db
+  pub spare : IsSpare manifests (chains db) number
+  pub bounded : (bound : ℕ) → bound_in manifests db w.store ≡ Some bound → number ≤ bound
+
+-- each of these paths
+abbrev pub AllCollected : World → Chains → List ObjectPath → Type 0
+AllCollected w chains [] = Unit {0}
+AllCollected w chains (path ∷ paths) = IsCollected w chains path × AllCollected w chains paths
+
+-- a manifest that is needed was committed, and stands with the bytes that were committed
+pub record Stands (w : World) (chains : Chains) (db : List ℕ) (n : ℕ) : Type 0 where
+  pub link : Link _ Author
+  pub committed : link_at n (chains db) ≡ Some link
+  pub stands : bytes_of (object_at (ManifestPath db n) w.store) ≡ Some link.bytes
+
+-- what holds at a moment, of what was removed up to then
+pub record IsSafe (w : World) (chains : Chains) (removed : List ObjectPath) : Type 0 where
+  -- nothing that was removed is reachable
+  pub unreachable : NoneReachable w chains removed
+  -- each manifest that is reachable stands with its committed bytes
+  pub stands : (db : List ℕ) (n : ℕ) → HasDb w db → IsNeeded manifests (chains db) n → Stands w chains db n
+  -- each collected number is spare, and at or below the boundary of its log
+  pub collected : AllCollected w chains removed
