@@ -7,3 +7,4 @@ pub mod Openings
 pub mod Reports
 pub mod Outcomes
 pub mod Reached
+pub mod Expired

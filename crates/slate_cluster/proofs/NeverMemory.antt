@@ -203,11 +203,11 @@ never_memory : (from to : Position) (now : ℤ) (a : StoreAnswer) (e : SlateDBEr
 never_memory from to now a e h = subst (λ (g : Goes Position Ended). IsPlain g) h (plain_phrase from.db from.phrase now a)
 
 -- want of memory left the call as it was
-pub kept_by : (purpose : Purpose) (from to : Position) {old new : Told} {moment : ℤ} (e : SlateDBError) → is_memory e ≡ true
+pub kept_by : (purpose : Purpose) (from to : Position) {old new : Told} (moment : ℤ) (e : SlateDBError) → is_memory e ≡ true
     → OrMemory {X = Ended} (Err e) (Held old new (asks from) moment from to) (Stepped old new (asks from) moment (goes from moment) (End to (Err e)))
     → Kept purpose from old new purpose to
-kept_by {moment = moment} purpose from to e h (inl step) = absurd (true≢false (sym h ∙ never_memory from to moment step.answer e step.gives))
-kept_by purpose from to e h (inr held) = record { same_purpose = refl; same_position = held.1.kept; contents = held.1.made.contents }
+kept_by purpose from to moment e h (inl step) = absurd (true≢false (sym h ∙ never_memory from to moment step.answer e step.gives))
+kept_by purpose from to moment e h (inr held) = record { same_purpose = refl; same_position = held.1.kept; contents = held.1.made.contents }
 
 -- any other refusal is the reply
 pub refused_by : (facts : Facts) (call : Call) (purpose : Purpose) (from to : Position) {old new : Told} (moment : ℤ) (e : SlateDBError) → is_memory e ≡ false
