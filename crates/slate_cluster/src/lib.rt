@@ -1,6 +1,8 @@
 //! A cluster of parties over one store, and the program over it.
 #![tactic(auto)]
 
+#[cfg(test)]
+mod audit;
 mod carried;
 #[cfg(test)]
 mod checking;
@@ -16,9 +18,15 @@ mod databases_tests;
 mod flush_tests;
 mod flushing;
 #[cfg(test)]
+mod generated_tests;
+#[cfg(test)]
+mod generator;
+#[cfg(test)]
 mod holder_tests;
 #[cfg(test)]
 mod interleaving_tests;
+#[cfg(test)]
+mod late_put_tests;
 #[cfg(test)]
 mod open_tests;
 mod opening;
