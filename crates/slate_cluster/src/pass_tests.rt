@@ -10,10 +10,7 @@ use std::test::Fail;
 
 const COMES_3: &str = "{\"open\":3,\"kind\":\"collector\",\"db\":\"db\"}";
 
-// Two writers that open, so that there are three versions, and a collector.
-const THREE_VERSIONS: [&str; 7] = [COMES_1, OPENS_1, FIVE_1, COMES_2, OPENS_2, FIVE_2, COMES_3];
-
-// What they do, and the start of the pass with the reads before its list.
+// What two writers do that open, so that there are three versions, and the start of a collector's pass with the reads before its list.
 const BEFORE: &str = "0 open 1
 1 start 1
 2 call 1 list db/manifest/ -> found 1
@@ -60,25 +57,24 @@ left db/manifest/00000000000000000003.manifest
 ok
 ";
 
-// The three versions, and these events of the collector.
-fn check_pass(rt: &impl Abort, alloc: Global, own: &[&str], written: &[&str]) -> Result<(), Fail> {
-    let mut events = Vec::from_slice(alloc, &THREE_VERSIONS)?;
-    for event in own {
-        events.push(*event)?;
-    }
-    check_events(rt, alloc, events.as_slice(), Status::Ok, written)
-}
-
 // The versions below the greatest go, after the boundary was moved.
 #[test]
 fn a_pass_deletes_old_versions(rt: HostRuntime) -> Result<(), Fail> {
-    check_pass(
+    check_events(
         &rt,
         rt.alloc(),
         &[
+            COMES_1,
+            OPENS_1,
+            FIVE_1,
+            COMES_2,
+            OPENS_2,
+            FIVE_2,
+            COMES_3,
             "{\"start\":3,\"call\":\"pass\",\"pass\":\"manifest\",\"min_age\":1000}",
             "{\"step\":3,\"at\":3601000,\"times\":10}",
         ],
+        Status::Ok,
         &[
             BEFORE,
             READS,
@@ -94,13 +90,21 @@ fn a_pass_deletes_old_versions(rt: HostRuntime) -> Result<(), Fail> {
 // A filter that allows nothing keeps them, and the boundary is moved all the same.
 #[test]
 fn a_filter_keeps_versions(rt: HostRuntime) -> Result<(), Fail> {
-    check_pass(
+    check_events(
         &rt,
         rt.alloc(),
         &[
+            COMES_1,
+            OPENS_1,
+            FIVE_1,
+            COMES_2,
+            OPENS_2,
+            FIVE_2,
+            COMES_3,
             "{\"start\":3,\"call\":\"pass\",\"pass\":\"manifest\",\"min_age\":1000,\"filter\":\"none\"}",
             "{\"step\":3,\"at\":3601000,\"times\":8}",
         ],
+        Status::Ok,
         &[
             BEFORE,
             READS,
@@ -113,13 +117,21 @@ fn a_filter_keeps_versions(rt: HostRuntime) -> Result<(), Fail> {
 // So does a dry run.
 #[test]
 fn a_dry_run_keeps_versions(rt: HostRuntime) -> Result<(), Fail> {
-    check_pass(
+    check_events(
         &rt,
         rt.alloc(),
         &[
+            COMES_1,
+            OPENS_1,
+            FIVE_1,
+            COMES_2,
+            OPENS_2,
+            FIVE_2,
+            COMES_3,
             "{\"start\":3,\"call\":\"pass\",\"pass\":\"manifest\",\"min_age\":0,\"dry_run\":true}",
             "{\"step\":3,\"at\":3601000,\"times\":8}",
         ],
+        Status::Ok,
         &[
             BEFORE,
             READS,
@@ -132,10 +144,17 @@ fn a_dry_run_keeps_versions(rt: HostRuntime) -> Result<(), Fail> {
 // A delete that faults is counted, whether it had its effect or not, and the next follows. A second pass deletes what is left.
 #[test]
 fn faulted_deletes_are_counted(rt: HostRuntime) -> Result<(), Fail> {
-    check_pass(
+    check_events(
         &rt,
         rt.alloc(),
         &[
+            COMES_1,
+            OPENS_1,
+            FIVE_1,
+            COMES_2,
+            OPENS_2,
+            FIVE_2,
+            COMES_3,
             "{\"start\":3,\"call\":\"pass\",\"pass\":\"manifest\",\"min_age\":1000}",
             "{\"step\":3,\"at\":3601000,\"times\":8}",
             "{\"step\":3,\"at\":3601000,\"mark\":\"fail\"}",
@@ -143,6 +162,7 @@ fn faulted_deletes_are_counted(rt: HostRuntime) -> Result<(), Fail> {
             "{\"start\":3,\"call\":\"pass\",\"pass\":\"manifest\",\"min_age\":1000}",
             "{\"step\":3,\"at\":3601000,\"times\":8}",
         ],
+        Status::Ok,
         &[
             BEFORE,
             READS,
@@ -166,16 +186,24 @@ fn faulted_deletes_are_counted(rt: HostRuntime) -> Result<(), Fail> {
 // A put of the boundary whose answer is lost ends the pass, and stands: the next pass finds it, and deletes.
 #[test]
 fn a_lost_boundary_stands(rt: HostRuntime) -> Result<(), Fail> {
-    check_pass(
+    check_events(
         &rt,
         rt.alloc(),
         &[
+            COMES_1,
+            OPENS_1,
+            FIVE_1,
+            COMES_2,
+            OPENS_2,
+            FIVE_2,
+            COMES_3,
             "{\"start\":3,\"call\":\"pass\",\"pass\":\"manifest\",\"min_age\":1000}",
             "{\"step\":3,\"at\":3601000,\"times\":7}",
             "{\"step\":3,\"at\":3601000,\"mark\":\"lost\"}",
             "{\"start\":3,\"call\":\"pass\",\"pass\":\"manifest\",\"min_age\":1000}",
             "{\"step\":3,\"at\":3601000,\"times\":9}",
         ],
+        Status::Ok,
         &[
             BEFORE,
             READS,
@@ -198,15 +226,23 @@ fn a_lost_boundary_stands(rt: HostRuntime) -> Result<(), Fail> {
 // An age that is equal to the least one is not above it: version 1 is as old as 1000, and is kept, also by a least age of 2^64 - 1.
 #[test]
 fn ages_are_compared_strictly(rt: HostRuntime) -> Result<(), Fail> {
-    check_pass(
+    check_events(
         &rt,
         rt.alloc(),
         &[
+            COMES_1,
+            OPENS_1,
+            FIVE_1,
+            COMES_2,
+            OPENS_2,
+            FIVE_2,
+            COMES_3,
             "{\"start\":3,\"call\":\"pass\",\"pass\":\"manifest\",\"min_age\":1000}",
             "{\"step\":3,\"at\":1000,\"times\":6}",
             "{\"start\":3,\"call\":\"pass\",\"pass\":\"manifest\",\"min_age\":18446744073709551615}",
             "{\"step\":3,\"at\":9223372036854775807,\"times\":6}",
         ],
+        Status::Ok,
         &[
             BEFORE,
             "19 call 3 list db/manifest/ -> found 3\n",
