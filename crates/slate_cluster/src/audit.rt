@@ -1,9 +1,9 @@
 //! An audit of a run by its trail and its store: no reachable version was ever removed.
 ghost use Rattle.std.specs.Prelude.{◌<◌};
 
+use slate_first::{FirstManifest, decode_manifest, encode_manifest};
 use slate_ids::{ByteList, DbPath, ObjectPath, SlateDBError};
 use slate_log::boundary_in;
-use slate_model::{Manifest, decode_manifest, encode_manifest};
 use slate_script::{Entry, Reply};
 use slate_store::{Mark, MemoryStore, StoreAnswer, StoreCall};
 use std::alloc::Global;
@@ -70,7 +70,7 @@ fn is_bounded(number: u64, reply: &Reply) -> Option<bool> {
 impl Audit {
     // As a run on a new database begins.
     fn new(alloc: Global, database: DbPath) -> Result<Audit, Fail> {
-        let bytes = encode_manifest(alloc, &Manifest::initial(alloc))?;
+        let bytes = encode_manifest(alloc, &FirstManifest::initial(alloc))?;
         let mut audit = Audit {
             database,
             versions: Vec::new(alloc),

@@ -2,10 +2,10 @@
 ghost use Rattle.std.specs.Prelude.{◌≡◌, map, filter, not, bytes_eq, IfOk};
 ghost use Rattle.std.specs.List.{list_any};
 ghost use Rattle.slate_ids.specs.Answers.{Gives};
-ghost use Rattle.slate_model.specs.Checkpoints as made;
+ghost use Rattle.slate_first.specs.Checkpoints as made;
 
+use slate_first::{Checkpoint, CheckpointOptions, FirstManifest, find_checkpoint};
 use slate_ids::{CheckpointId, Listed, Millis, OutOfMemory, SlateDBError, StateCause};
-use slate_model::{Checkpoint, CheckpointOptions, Manifest, find_checkpoint};
 use std::alloc::Global;
 
 // The number of the version after this one.
@@ -19,7 +19,7 @@ fn number_after(n: u64) -> Result<u64, SlateDBError>
 }
 
 // The version of the source of a checkpoint.
-fn source_version(source: CheckpointId, manifest: &Manifest) -> Result<u64, SlateDBError>
+fn source_version(source: CheckpointId, manifest: &FirstManifest) -> Result<u64, SlateDBError>
     ensures { result ≡ made.source_version source (made.checkpoint_at source manifest.now.checkpoints) }
 {
     match find_checkpoint(manifest.checkpoints.as_slice(), &source) {
@@ -32,7 +32,7 @@ fn source_version(source: CheckpointId, manifest: &Manifest) -> Result<u64, Slat
 fn version_to_name(
     n: u64,
     source: Option<CheckpointId>,
-    manifest: &Manifest,
+    manifest: &FirstManifest,
 ) -> Result<u64, SlateDBError>
     ensures { result ≡ made.version_to_name n source manifest.now }
 {
@@ -129,11 +129,11 @@ fn all_expiring(
 fn with_checkpoints(
     alloc: Global,
     checkpoints: Listed<Checkpoint>,
-    manifest: &Manifest,
-) -> Result<Manifest, OutOfMemory>
+    manifest: &FirstManifest,
+) -> Result<FirstManifest, OutOfMemory>
     ensures { IfOk result (λ m. m ≡ made.with_checkpoints checkpoints manifest.now) }
 {
-    Ok(Manifest {
+    Ok(FirstManifest {
         initialized: manifest.initialized,
         writer_epoch: manifest.writer_epoch,
         compactor_epoch: manifest.compactor_epoch,
@@ -146,7 +146,7 @@ fn with_checkpoints(
 }
 
 // Whether a checkpoint has the id.
-fn has(id: &CheckpointId, manifest: &Manifest) -> bool
+fn has(id: &CheckpointId, manifest: &FirstManifest) -> bool
     ensures { result ≡ made.has_checkpoint id.now manifest.now }
 {
     find_checkpoint(manifest.checkpoints.as_slice(), id).is_some()
@@ -161,8 +161,8 @@ pub(crate) fn write_checkpoint(
     options: CheckpointOptions,
     now: Millis,
     n: u64,
-    manifest: &Manifest,
-) -> Result<Option<Manifest>, SlateDBError>
+    manifest: &FirstManifest,
+) -> Result<Option<FirstManifest>, SlateDBError>
     ensures { Gives result (made.written id options now n manifest.now) }
 {
     if has(&id, manifest) {
@@ -183,8 +183,8 @@ pub(crate) fn replace_checkpoint(
     options: CheckpointOptions,
     now: Millis,
     n: u64,
-    manifest: &Manifest,
-) -> Result<Option<Manifest>, SlateDBError>
+    manifest: &FirstManifest,
+) -> Result<Option<FirstManifest>, SlateDBError>
     ensures { Gives result (made.replaced old.now id options now n manifest.now) }
 {
     if has(&id, manifest) {
@@ -203,8 +203,8 @@ pub(crate) fn refresh_checkpoint(
     id: CheckpointId,
     lifetime: Option<u64>,
     now: Millis,
-    manifest: &Manifest,
-) -> Result<Option<Manifest>, SlateDBError>
+    manifest: &FirstManifest,
+) -> Result<Option<FirstManifest>, SlateDBError>
     ensures { Gives result (made.refreshed id lifetime now manifest.now) }
 {
     if !has(&id, manifest) {
@@ -219,8 +219,8 @@ pub(crate) fn refresh_checkpoint(
 pub(crate) fn delete_checkpoint(
     alloc: Global,
     id: &CheckpointId,
-    manifest: &Manifest,
-) -> Result<Option<Manifest>, SlateDBError>
+    manifest: &FirstManifest,
+) -> Result<Option<FirstManifest>, SlateDBError>
     ensures { Gives result (made.deleted id.now manifest.now) }
 {
     if !has(id, manifest) {
@@ -273,8 +273,8 @@ fn without_expired(
 pub(crate) fn expire_checkpoints(
     alloc: Global,
     now: Millis,
-    manifest: &Manifest,
-) -> Result<Option<Manifest>, SlateDBError>
+    manifest: &FirstManifest,
+) -> Result<Option<FirstManifest>, SlateDBError>
     ensures { Gives result (made.unexpired now manifest.now) }
 {
     if !has_expired(now, manifest.checkpoints.as_slice()) {

@@ -1,10 +1,10 @@
 //! A cluster by its own calls.
 
 use crate::{Cluster, ClusterError, NewError};
-use slate_ids::{CheckpointId, DbPath, ObjectPath, SlateDBError, StateCause};
-use slate_model::{Checkpoint, Manifest, decode_manifest};
+use slate_first::{Checkpoint, FirstManifest, decode_manifest};
+use slate_ids::{CheckpointId, DbPath, GcMessage, ObjectPath, SlateDBError, StateCause};
 use slate_script::{
-    Call, ClusterCause, DbSpec, Entry, Event, PartyKind, Reply, Script, read_script,
+    Call, ClusterCause, DbSpec, Entry, Event, FilterWord, PartyKind, Reply, Script, read_script,
 };
 use slate_store::Mark;
 use std::alloc::Global;
@@ -91,8 +91,52 @@ fn goes_on_after_a_bad_event(rt: HostRuntime) -> Result<(), Fail> {
     Ok(())
 }
 
+// A collector of `db` that starts a pass.
+fn passing(alloc: Global, pass: GcMessage) -> Result<Vec<Event>, Fail> {
+    let db = DbPath::from_text("db")?.ok_or("no path of a database")?;
+    let mut events = Vec::new(alloc);
+    events.push(Event::Open {
+        party: 1,
+        kind: PartyKind::Collector,
+        db,
+    })?;
+    events.push(Event::Start {
+        party: 1,
+        call: Call::Pass {
+            pass,
+            min_age: 0,
+            dry_run: false,
+            filter: FilterWord::All,
+        },
+    })?;
+    Ok(events)
+}
+
+#[test]
+fn manifests_alone_have_a_pass(rt: HostRuntime) -> Result<(), Fail> {
+    let alloc = rt.alloc();
+    for pass in [
+        GcMessage::Wal,
+        GcMessage::WalFence,
+        GcMessage::Compacted,
+        GcMessage::Compactions,
+        GcMessage::Detach,
+    ] {
+        let script = script(alloc, "")?;
+        let mut cluster = Cluster::new(alloc, script.databases.into_vec())?;
+        assert!(rt;
+            matches!(
+                cluster.run(alloc, passing(alloc, pass)?.as_slice()),
+                Err(ClusterError::BadEvent { place: 1 })
+            )
+        );
+        assert_eq!(rt; cluster.trail().len(), 1);
+    }
+    Ok(())
+}
+
 // The database `db` with this manifest.
-fn database_of(alloc: Global, manifest: Manifest) -> Result<Vec<DbSpec>, Fail> {
+fn database_of(alloc: Global, manifest: FirstManifest) -> Result<Vec<DbSpec>, Fail> {
     let path = DbPath::from_text("db")?.ok_or("no path of a database")?;
     let mut specs = Vec::new(alloc);
     specs.push(DbSpec {
@@ -117,7 +161,7 @@ fn checkpoint_of(version: u64) -> Checkpoint {
 #[test]
 fn opening_checkpoints_name_the_first_version(rt: HostRuntime) -> Result<(), Fail> {
     let alloc = rt.alloc();
-    let mut manifest = Manifest::initial(alloc);
+    let mut manifest = FirstManifest::initial(alloc);
     manifest.checkpoints.push(checkpoint_of(2))?;
     assert!(rt;
         matches!(
@@ -125,7 +169,7 @@ fn opening_checkpoints_name_the_first_version(rt: HostRuntime) -> Result<(), Fai
             Err(NewError::BadCluster(ClusterCause::Checkpoints))
         )
     );
-    let mut manifest = Manifest::initial(alloc);
+    let mut manifest = FirstManifest::initial(alloc);
     manifest.checkpoints.push(checkpoint_of(1))?;
     assert!(rt; Cluster::new(alloc, database_of(alloc, manifest)?).is_ok());
     Ok(())
@@ -182,7 +226,7 @@ fn no_checkpoint_without_source_before_the_database_is_initialised(
     rt: HostRuntime,
 ) -> Result<(), Fail> {
     let alloc = rt.alloc();
-    let mut manifest = Manifest::initial(alloc);
+    let mut manifest = FirstManifest::initial(alloc);
     manifest.initialized = false;
     let mut cluster = Cluster::new(alloc, database_of(alloc, manifest)?)?;
     let events = writes_checkpoint(alloc)?;
@@ -202,7 +246,7 @@ fn no_checkpoint_without_source_before_the_database_is_initialised(
 #[test]
 fn a_checkpoint_stands_in_its_own_version(rt: HostRuntime) -> Result<(), Fail> {
     let alloc = rt.alloc();
-    let mut cluster = Cluster::new(alloc, database_of(alloc, Manifest::initial(alloc))?)?;
+    let mut cluster = Cluster::new(alloc, database_of(alloc, FirstManifest::initial(alloc))?)?;
     let events = writes_checkpoint(alloc)?;
     cluster.run(alloc, events.as_slice())?;
     let db = DbPath::from_text("db")?.ok_or("no path of a database")?;

@@ -2,8 +2,8 @@
 ghost use Rattle.std.specs.Prelude.{◌≡◌, IfOk};
 ghost use Rattle.slate_protocol.specs.Manifests.{flushed};
 
+use slate_first::FirstManifest;
 use slate_ids::{Millis, OutOfMemory};
-use slate_model::Manifest;
 use std::alloc::Global;
 
 /// The manifest with this sequence number and this clock tick of the newest flushed table. The tracker takes the pair
@@ -12,8 +12,8 @@ pub(crate) fn flush(
     alloc: Global,
     seq: u64,
     tick: Millis,
-    old: &Manifest,
-) -> Result<Manifest, OutOfMemory>
+    old: &FirstManifest,
+) -> Result<FirstManifest, OutOfMemory>
     ensures { IfOk result (λ m. m ≡ flushed seq tick old.now) }
 {
     let mut new = old.copy(alloc)?;

@@ -3,8 +3,8 @@
 use crate::Cluster;
 use crate::audit::audit_run;
 use crate::generator::generated;
+use slate_first::FirstManifest;
 use slate_ids::DbPath;
-use slate_model::Manifest;
 use slate_script::DbSpec;
 use std::alloc::Global;
 use std::process::Abort;
@@ -19,7 +19,7 @@ fn one_new(alloc: Global, path: DbPath) -> Result<Cluster, Fail> {
     let mut specs = Vec::new(alloc);
     specs.push(DbSpec {
         path,
-        manifest: Manifest::initial(alloc),
+        manifest: FirstManifest::initial(alloc),
         modified: 0,
     })?;
     Ok(Cluster::new(alloc, specs)?)

@@ -9,8 +9,8 @@ use crate::carried::{Carried, NOBODYS};
 use crate::cluster::NewError;
 use crate::state::ClusterState;
 use crate::tallies::Tallies;
+use slate_first::{Checkpoint, FirstManifest, encode_manifest, is_normal};
 use slate_ids::{ByteList, Millis, ObjectPath, OutOfMemory};
-use slate_model::{Checkpoint, Manifest, encode_manifest, is_normal};
 use slate_protocol::Tally;
 use slate_script::{ClusterCause, DbSpec};
 use slate_store::{MemoryStore, ObjectStore};
@@ -76,7 +76,7 @@ fn open_carried(alloc: Global, specs: &[DbSpec]) -> Result<Option<Carried>, OutO
 }
 
 // The bytes of a first manifest. None where it has none, or isn't what is read back of them.
-fn first_bytes(alloc: Global, manifest: &Manifest) -> Result<Option<ByteList>, OutOfMemory>
+fn first_bytes(alloc: Global, manifest: &FirstManifest) -> Result<Option<ByteList>, OutOfMemory>
     ensures { IfOk result (λ o. o ≡ opens.first_bytes manifest.now) }
 {
     match encode_manifest(alloc, manifest) {

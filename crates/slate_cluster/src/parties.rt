@@ -8,7 +8,7 @@ ghost use Rattle.slate_cluster.specs.Numbered.{IsBusyAt, NumberStarted, NumberSt
 
 use crate::party_calls::{begin_call, step_busy};
 use crate::party_steps::Stepped;
-use slate_ids::{DbPath, Millis, OutOfMemory};
+use slate_ids::{DbPath, GcMessage, Millis, OutOfMemory};
 use slate_protocol::{Facts, Party, State};
 use slate_script::{Call, Entry, PartyKind};
 use slate_store::{Mark, MemoryStore};
@@ -37,11 +37,17 @@ fn holder_has(call: &Call) -> bool
     }
 }
 
-// Whether a call is a collector's.
+// Whether a call is a collector's: so far, the pass of manifests alone.
 fn collector_has(call: &Call) -> bool
     ensures { result ≡ has.collector_has call.now }
 {
-    matches!(call, Call::Pass { .. })
+    matches!(
+        call,
+        Call::Pass {
+            pass: GcMessage::Manifest,
+            ..
+        }
+    )
 }
 
 /// Whether a kind of party has a call.

@@ -7,16 +7,16 @@ ghost use Rattle.slate_gc.specs.Pass.{pass_due};
 ghost use Rattle.slate_protocol.specs.Phrases.{asks, goes, is_due as due_at};
 ghost use Rattle.slate_cluster.specs.Advanced.{ReadSteps, ReadAtEnd, CommitSteps, PassSteps, AtEnd};
 
+use slate_first::{FirstManifest, FirstManifestCodec};
 use slate_gc::{PassOptions, PassPhase};
 use slate_ids::{DbPath, Millis};
 use slate_log::{CommitPhase, LogKind, ReadPhase, Sequenced};
-use slate_model::{FirstManifestCodec, Manifest};
 use slate_protocol::{Ended, Phrase, Position};
 use slate_store::{ObjectStore, Step};
 use std::alloc::Global;
 
 /// The log of manifests of a database.
-pub(crate) fn manifests(db: DbPath) -> Sequenced<Manifest, FirstManifestCodec>
+pub(crate) fn manifests(db: DbPath) -> Sequenced<FirstManifest, FirstManifestCodec>
     ensures db { result.db ≡ db }
     ensures log { result.log ≡ LogKind.Manifest }
 {
@@ -26,7 +26,7 @@ pub(crate) fn manifests(db: DbPath) -> Sequenced<Manifest, FirstManifestCodec>
 fn read_on<S: ObjectStore>(
     alloc: Global,
     db: DbPath,
-    phase: &mut ReadPhase<Manifest>,
+    phase: &mut ReadPhase<FirstManifest>,
     store: &mut S,
     moment: Millis,
 ) -> Step<Ended>
@@ -45,7 +45,7 @@ fn read_on<S: ObjectStore>(
 fn commit_on<S: ObjectStore>(
     alloc: Global,
     db: DbPath,
-    phase: &mut CommitPhase<Manifest>,
+    phase: &mut CommitPhase<FirstManifest>,
     store: &mut S,
     moment: Millis,
 ) -> Step<Ended>

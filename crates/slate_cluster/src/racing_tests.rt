@@ -1,8 +1,8 @@
 //! A pass that is raced by a second one at each of its steps.
 
 use crate::Cluster;
+use slate_first::FirstManifest;
 use slate_ids::{DbPath, GcMessage, ObjectPath};
-use slate_model::Manifest;
 use slate_script::{Call, DbSpec, Entry, Event, FilterWord, PartyKind, Reply};
 use slate_store::Mark;
 use std::alloc::Global;
@@ -70,7 +70,7 @@ fn run(alloc: Global, events: &[Event]) -> Result<Cluster, Fail> {
     let mut specs = Vec::new(alloc);
     specs.push(DbSpec {
         path: database()?,
-        manifest: Manifest::initial(alloc),
+        manifest: FirstManifest::initial(alloc),
         modified: 0,
     })?;
     let mut cluster = Cluster::new(alloc, specs)?;

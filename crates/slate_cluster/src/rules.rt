@@ -1,9 +1,9 @@
 //! The rules of the log of manifests.
 ghost use Rattle.slate_protocol.specs.Manifests.{manifest_refusal};
 
+use slate_first::{FirstManifest, refusal_of_update};
 use slate_ids::SlateDBError;
 use slate_log::{Right, Rules};
-use slate_model::{Manifest, refusal_of_update};
 use std::alloc::Global;
 
 /// Which manifests may follow which: epochs and floor don't fall, and a checkpoint names the new version or one that the old
@@ -11,15 +11,15 @@ use std::alloc::Global;
 #[derive(Clone, Copy, Debug)]
 pub struct ManifestRules;
 
-impl Rules<Manifest> for ManifestRules {
+impl Rules<FirstManifest> for ManifestRules {
     ghost refusal = { λ _ id old new right. manifest_refusal id old new right };
 
     fn check(
         &self,
         _alloc: Global,
         old_id: u64,
-        old: &Manifest,
-        new: &Manifest,
+        old: &FirstManifest,
+        new: &FirstManifest,
         _right: &Right,
     ) -> Result<(), SlateDBError> {
         match refusal_of_update(old_id, old, new) {

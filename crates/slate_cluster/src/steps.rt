@@ -1,6 +1,6 @@
 //! One step of a call.
 ghost use Rattle.std.specs.Prelude.{◌≡◌, true, IfOk, OnErr};
-ghost use Rattle.slate_model.specs.Checkpoints.{checkpoint_at};
+ghost use Rattle.slate_first.specs.Checkpoints.{checkpoint_at};
 ghost use Rattle.slate_protocol.specs.Calls.{done_next, checkpoint_reply as replied, options_of as pass_options};
 ghost use Rattle.slate_protocol.specs.Phrases.{is_due};
 ghost use Rattle.slate_cluster.specs.Recorded.{told_by};
@@ -9,17 +9,17 @@ ghost use Rattle.slate_cluster.specs.Followed.{next_by, Commits, Ends, Followed,
 use crate::commits::commit_call;
 use crate::phrases::advance;
 use crate::recorder::Recorder;
+use slate_first::{FirstManifest, find_checkpoint};
 use slate_gc::{PassOptions, PassPhase};
 use slate_ids::{CheckpointId, DbPath, Millis, OutOfMemory, SlateDBError};
 use slate_log::ReadPhase;
-use slate_model::{Manifest, find_checkpoint};
 use slate_protocol::{Ended, Facts, Phrase, Position, Purpose};
 use slate_script::{Call, FilterWord, Reply};
 use slate_store::Step;
 use std::alloc::Global;
 
 // The checkpoint of an id, as a reply.
-fn checkpoint_reply(id: CheckpointId, manifest: &Manifest) -> Reply
+fn checkpoint_reply(id: CheckpointId, manifest: &FirstManifest) -> Reply
     ensures { result ≡ replied id (checkpoint_at id manifest.now.checkpoints) }
 {
     match find_checkpoint(manifest.checkpoints.as_slice(), &id) {
@@ -49,7 +49,7 @@ fn go_on(
     call: &Call,
     purpose: &mut Purpose,
     position: &mut Position,
-    manifest: &Manifest,
+    manifest: &FirstManifest,
 ) -> Option<Reply>
     ensures { done_next facts.now call.now manifest.now ≡ next_by purpose.new position.new result }
 {
@@ -86,7 +86,7 @@ fn read_version(
     purpose: &mut Purpose,
     position: &mut Position,
     n: u64,
-    value: Manifest,
+    value: FirstManifest,
 ) -> Result<Option<Reply>, OutOfMemory>
     ensures { Commits facts.now call.now db now purpose.old n value purpose.new position.new result }
 {

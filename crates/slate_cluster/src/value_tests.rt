@@ -2,15 +2,15 @@
 
 use crate::ManifestRules;
 use crate::checkpoints::{replace_checkpoint, write_checkpoint};
+use slate_first::{Checkpoint, CheckpointOptions, FirstManifest};
 use slate_ids::{CheckpointId, SlateDBError, UpdateRule};
 use slate_log::{Right, Rules};
-use slate_model::{Checkpoint, CheckpointOptions, Manifest};
 use std::alloc::Global;
 use std::test::Fail;
 
 // A new manifest with a checkpoint of this id that names this version.
-fn holding(alloc: Global, id: CheckpointId, version: u64) -> Result<Manifest, Fail> {
-    let mut manifest = Manifest::initial(alloc);
+fn holding(alloc: Global, id: CheckpointId, version: u64) -> Result<FirstManifest, Fail> {
+    let mut manifest = FirstManifest::initial(alloc);
     manifest.checkpoints.push(Checkpoint {
         id,
         manifest_id: version,
@@ -38,7 +38,7 @@ fn a_checkpoint_that_is_there_is_kept(rt: HostRuntime) -> Result<(), Fail> {
 #[test]
 fn no_checkpoint_names_a_number_after_the_last(rt: HostRuntime) {
     let alloc = rt.alloc();
-    let manifest = Manifest::initial(alloc);
+    let manifest = FirstManifest::initial(alloc);
     let id = CheckpointId::from_u64(7);
     let options = CheckpointOptions::none();
     assert!(rt;

@@ -8,8 +8,8 @@ use crate::checkpoints::{
     delete_checkpoint, expire_checkpoints, refresh_checkpoint, replace_checkpoint, write_checkpoint,
 };
 use crate::flushing::flush;
+use slate_first::{CheckpointOptions, FirstManifest, FirstManifestCodec, WriterEpochs, copy_name};
 use slate_ids::{CheckpointId, Millis, OutOfMemory, SlateDBError, Text};
-use slate_model::{CheckpointOptions, FirstManifestCodec, Manifest, WriterEpochs, copy_name};
 use slate_script::Call;
 use slate_txn::next_epoch;
 use std::alloc::Global;
@@ -18,8 +18,8 @@ use std::alloc::Global;
 fn raise_writer(
     alloc: Global,
     n: u64,
-    manifest: &Manifest,
-) -> Result<Option<Manifest>, SlateDBError>
+    manifest: &FirstManifest,
+) -> Result<Option<FirstManifest>, SlateDBError>
     ensures { Gives result (raised_writer n manifest.now) }
 {
     next_epoch(alloc, &FirstManifestCodec, &WriterEpochs, n, manifest)
@@ -47,8 +47,8 @@ pub(crate) fn new_value(
     call: &Call,
     now: Millis,
     n: u64,
-    manifest: &Manifest,
-) -> Result<Option<Manifest>, SlateDBError>
+    manifest: &FirstManifest,
+) -> Result<Option<FirstManifest>, SlateDBError>
     ensures { Gives result (made_by call.now now n manifest.now) }
 {
     match call {

@@ -16,9 +16,9 @@ use crate::numbers::Numbers;
 use crate::pass_counts::PassCounts;
 use crate::pass_options::PassOptions;
 use crate::pass_phase::PassPhase;
+use slate_first::FirstManifest;
 use slate_ids::{FormatName, Listed, Millis, ObjectCodec, SlateDBError};
 use slate_log::{AdvancePhase, LogKind, boundary_in, greatest};
-use slate_model::Manifest;
 use slate_store::{ObjectMetadata, Step, StoreAnswer, StoredObject};
 use std::alloc::Global;
 
@@ -64,7 +64,7 @@ pub(crate) fn after_list(alloc: Global, now: Millis, answer: &StoreAnswer) -> On
 }
 
 // The candidates by the bytes of the greatest manifest.
-fn candidates_by<C: ObjectCodec<Manifest>>(
+fn candidates_by<C: ObjectCodec<FirstManifest>>(
     alloc: Global,
     codec: &C,
     options: &PassOptions,
@@ -81,7 +81,7 @@ fn candidates_by<C: ObjectCodec<Manifest>>(
 }
 
 /// After the get of the greatest manifest. Want of memory leaves the phase as it was.
-pub(crate) fn after_get<C: ObjectCodec<Manifest>>(
+pub(crate) fn after_get<C: ObjectCodec<FirstManifest>>(
     alloc: Global,
     codec: &C,
     options: &PassOptions,

@@ -2,15 +2,15 @@
 ghost use Rattle.std.specs.Prelude.{◌≡◌, true, OnOk};
 
 use crate::{Numbers, PassCounts, PassOptions, PassPhase, is_aged, picks};
+use slate_first::{Checkpoint, FirstManifest, FirstManifestCodec, encode_manifest};
 use slate_ids::{CheckpointId, DbPath, ObjectPath, SlateDBError};
 use slate_log::{LogKind, Sequenced};
-use slate_model::{Checkpoint, FirstManifestCodec, Manifest, encode_manifest};
 use slate_store::{Mark, MemoryStore, ObjectStore, Step, StoreAnswer};
 use std::alloc::Global;
 use std::process::Abort;
 use std::test::Fail;
 
-type Manifests = Sequenced<Manifest, FirstManifestCodec>;
+type Manifests = Sequenced<FirstManifest, FirstManifestCodec>;
 
 /// The moment of the passes.
 const NOW: i64 = 3_601_000;
@@ -29,7 +29,7 @@ fn manifests() -> Result<Manifests, Fail> {
 
 // The bytes of a manifest whose checkpoints name these versions.
 fn naming(alloc: Global, versions: &[u64]) -> Result<Vec<u8>, Fail> {
-    let mut manifest = Manifest::initial(alloc);
+    let mut manifest = FirstManifest::initial(alloc);
     for version in versions {
         manifest.checkpoints.push(Checkpoint {
             id: CheckpointId::from_u64(*version),

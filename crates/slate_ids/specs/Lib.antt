@@ -1,6 +1,8 @@
 pub mod Ids
 pub mod Padded
 pub mod Ranges
+pub mod Keys
+pub mod KeyRange
 pub mod Codes
 pub mod Answers
 pub mod Numerals

@@ -1,12 +1,15 @@
 //! Ids, paths, refusals, and the trait of codecs.
 #![tactic(auto)]
 
+mod bounds;
 mod byte_list;
+mod bytes_range;
 mod checkpoint_id;
 mod codec;
 mod db_path;
 mod error;
 mod gc_message;
+mod key_span;
 mod laws;
 mod letters;
 mod listed;
@@ -23,11 +26,13 @@ mod text;
 mod ulid;
 
 pub use byte_list::ByteList;
+pub use bytes_range::BytesRange;
 pub use checkpoint_id::CheckpointId;
 pub use codec::{Epochs, ObjectCodec};
 pub use db_path::DbPath;
 pub use error::{FieldName, FormatName, SlateDBError, StateCause, UpdateRule};
 pub use gc_message::GcMessage;
+pub use key_span::KeySpan;
 pub use laws::paths_apart;
 pub use listed::Listed;
 pub use millis::Millis;
@@ -38,5 +43,7 @@ pub use path_rest::PathRest;
 pub use text::Text;
 pub use ulid::Ulid;
 
+#[cfg(test)]
+mod range_tests;
 #[cfg(test)]
 mod tests;

@@ -43,6 +43,13 @@ impl<T> Listed<T> {
         self.items.as_slice()
     }
 
+    /// The values, as a vector's.
+    pub fn as_vec(&self) -> &Vec<T>
+        ensures { result.now.items ≡ self.now }
+    {
+        &self.items
+    }
+
     /// The values as a vector. Takes no memory.
     pub fn into_vec(self) -> Vec<T>
         ensures { result.items ≡ self }
@@ -60,6 +67,25 @@ impl<T> Listed<T> {
         self.items.push(item)?;
         Ok(())
     }
+}
+
+/// Two lists are equal where their values are, one by one.
+impl<T: PartialEq> PartialEq for Listed<T> {
+    ghost use Rattle.std.specs.Cmp.Lexicographic.{pointwise, lists_per};
+
+    ghost eq = { pointwise T.eq };
+
+    ghost laws = { lists_per T.laws };
+
+    fn eq(&self, other: &Listed<T>) -> bool {
+        self.items == other.items
+    }
+}
+
+impl<T: Eq> Eq for Listed<T> {
+    ghost use Rattle.std.specs.Cmp.Lexicographic.{lists_equiv};
+
+    ghost laws = { lists_equiv T.Eq.laws };
 }
 
 impl<T: Copy> Listed<T> {

@@ -45,6 +45,8 @@ fn ids_have_texts(rt: HostRuntime) -> Result<(), OutOfMemory> {
     let last = Ulid::from_parts(0xffff_ffff_ffff, 0xffff_ffff_ffff_ffff_ffff);
     assert!(rt; last.to_text(rt.alloc())?.as_str() == "7ZZZZZZZZZZZZZZZZZZZZZZZZZ");
     assert!(rt; Ulid::from_text("7ZZZZZZZZZZZZZZZZZZZZZZZZZ") == Some(last));
+    assert!(rt; last.as_u128() == u128::MAX && Ulid::from_u128(u128::MAX) == last);
+    assert!(rt; id.as_u128() == (100 << 80) + 1 && Ulid::from_u128((100 << 80) + 1) == id);
     Ok(())
 }
 
@@ -293,11 +295,16 @@ fn lists_have_copies(rt: HostRuntime) -> Result<(), OutOfMemory> {
     let alloc = rt.alloc();
     let bytes = ByteList::copy_of(alloc, b"abc")?;
     assert!(rt; bytes.copy(alloc)?.as_slice() == b"abc".as_slice());
+    assert!(rt; bytes.copy(alloc)? == bytes && ByteList::copy_of(alloc, b"abd")? != bytes);
     let mut numbers = Listed::new(alloc);
     numbers.push(3)?;
     numbers.push(5)?;
     assert!(rt; numbers.copy(alloc)?.as_slice() == [3u64, 5].as_slice());
-    assert!(rt; Text::copy_of(alloc, "abc")?.as_str() == "abc");
+    assert!(rt; numbers.copy(alloc)? == numbers && Listed::new(alloc) != numbers);
+    assert!(rt; numbers.as_vec().len() == 2);
+    let text = Text::copy_of(alloc, "abc")?;
+    assert!(rt; text.copy(alloc)?.as_str() == "abc");
+    assert!(rt; text.copy(alloc)? == text && Text::copy_of(alloc, "ab")? != text);
     Ok(())
 }
 

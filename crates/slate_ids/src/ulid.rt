@@ -1,5 +1,5 @@
 //! Ids that sort by time.
-ghost use Rattle.std.specs.Prelude.{◌≡◌, ◌<◌, ◌^◌, ◌*◌, ◌+◌, Some, IfOk, IfSome, string_bytes};
+ghost use Rattle.std.specs.Prelude.{◌≡◌, ◌<◌, ◌^◌, ◌*◌, ◌+◌, ◌/◌, ◌%◌, Some, IfOk, IfSome, string_bytes};
 ghost use Rattle.slate_ids.specs.UlidText.{id_letters, ulid_of, ulid_text};
 ghost use Rattle.slate_ids.specs.Numerals.{numeral};
 
@@ -14,7 +14,7 @@ use std::marker::Model;
 const ID_LETTERS: &[u8] = b"0123456789ABCDEFGHJKMNPQRSTVWXYZ";
 
 /// An id: milliseconds since the Unix epoch, below 2^48, and a tail below 2^80. Ids order by milliseconds, then by tail.
-#[derive(Clone, Copy, Debug, PartialEq, Eq, PartialOrd, Ord)]
+#[derive(Clone, Copy, Debug, PartialEq, Eq, PartialOrd, Ord, Hash)]
 pub struct Ulid {
     ms: u64,
     tail: u128,
@@ -56,6 +56,23 @@ impl Ulid {
         ensures fits { result < 2 ^ 80 }
     {
         self.tail
+    }
+
+    /// The id whose number is `n`: its milliseconds are the upper 48 bits.
+    pub fn from_u128(n: u128) -> Ulid
+        ensures { result ≡ (n / 2 ^ 80, n % 2 ^ 80) }
+    {
+        Ulid {
+            ms: (n >> 80) as u64,
+            tail: n & 0xffff_ffff_ffff_ffff_ffff,
+        }
+    }
+
+    /// The id's number: `from_u128` of it is the id.
+    pub fn as_u128(&self) -> u128
+        ensures { result ≡ self.now.0 * 2 ^ 80 + self.now.1 }
+    {
+        ((self.ms as u128) << 80) + self.tail
     }
 
     /// The id's 26 letters. They are read back as the id.

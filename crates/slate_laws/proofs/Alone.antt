@@ -4,8 +4,8 @@ use Rattle.std.specs.Prelude.{if◌then◌else◌, ◌++◌, ◌&&◌, not}
 use Rattle.slate_ids.specs.Ids.{is_db_path}
 use Rattle.slate_ids.specs.declared.error.SlateDBError.{SlateDBError}
 use Rattle.slate_ids.specs.declared.error.SlateDBError.TheVariants.{ManifestMissing}
-use Rattle.slate_model.specs.Codec.{decoded}
-use Rattle.slate_model.specs.declared.manifest.Manifest.{Manifest}
+use Rattle.slate_first.specs.Codec.{decoded}
+use Rattle.slate_first.specs.declared.first_manifest.FirstManifest.{FirstManifest}
 use Rattle.slate_store.specs.Machines.{Stay, End}
 use Rattle.slate_store.specs.Store.{Store, Outcome, object_at, removed, listed, effect}
 use Rattle.slate_store.specs.declared.list_dir.ListDir.TheVariants.{Manifests}
@@ -69,7 +69,7 @@ module _ (db : List ℕ) (options : PassOptions) (now : ℤ) (s0 : Store) where
   picked = picks_in options now db s0
 
   -- the greatest manifest listed, with its value
-  pub record IsGreatest (n : ℕ) (m : Manifest) : Type 0 where
+  pub record IsGreatest (n : ℕ) (m : FirstManifest) : Type 0 where
     pub greatest : greatest ManifestLog found ≡ Some n
     pub object : StoredObject
     pub at : object_at (version_path ManifestLog db n) s0 ≡ Some object
@@ -77,7 +77,7 @@ module _ (db : List ℕ) (options : PassOptions) (now : ℤ) (s0 : Store) where
 
   -- the candidates by it
   pub record IsBounding (n : ℕ) (ns : List ℕ) : Type 0 where
-    pub value : Manifest
+    pub value : FirstManifest
     pub is : IsGreatest n value
     pub candidates : ns ≡ candidates options.min_age now n value.checkpoints (dated ManifestLog found)
 
@@ -117,7 +117,7 @@ module _ (db : List ℕ) (options : PassOptions) (now : ℤ) (s0 : Store) where
 
   -- ---- the get of the greatest
 
-  decoded_brings : (n : ℕ) (object : StoredObject) (r : Result Manifest SlateDBError)
+  decoded_brings : (n : ℕ) (object : StoredObject) (r : Result FirstManifest SlateDBError)
       → greatest ManifestLog found ≡ Some n → object_at (version_path ManifestLog db n) s0 ≡ Some object → decoded object.bytes ≡ r
       → AloneBrings s0 (decoded_goes n (candidates_by options now n (dated ManifestLog found) r))
   decoded_brings n object (Ok m) top at is = (refl, record { value = m; is = record { greatest = top; object = object; at = at; value = is }; candidates = refl })
@@ -137,7 +137,7 @@ module _ (db : List ℕ) (options : PassOptions) (now : ℤ) (s0 : Store) where
       ap (λ (o : Option ℕ). numbers_or_none (picks_of options (Found found, now) (Got (greatest_object db s0 o), now) (Got (object_at (boundary_path ManifestLog db) s0), now))) g.greatest
       ∙ (ap (λ (o : Option StoredObject). numbers_or_none (picks_of options (Found found, now) (Got o, now) (Got (object_at (boundary_path ManifestLog db) s0), now))) g.at
       ∙ (ap (λ (o : Option ℕ). numbers_or_none (picks_at options now found o (decoded g.object.bytes) (boundary_got (object_at (boundary_path ManifestLog db) s0)))) g.greatest
-      ∙ (ap (λ (r : Result Manifest SlateDBError). numbers_or_none (picks_at options now found (Some n) r (boundary_got (object_at (boundary_path ManifestLog db) s0)))) g.value
+      ∙ (ap (λ (r : Result FirstManifest SlateDBError). numbers_or_none (picks_at options now found (Some n) r (boundary_got (object_at (boundary_path ManifestLog db) s0)))) g.value
       ∙ (ap (λ (o : Option ℕ). numbers_or_none (picks_at options now found (Some n) (Ok h.value) o)) read
       ∙ (ap (λ (t : Bool). numbers_or_none (if t then None else Some (picks options (candidates options.min_age now n h.value.checkpoints (dated ManifestLog found))))) above
       ∙ ap (picks options) (sym h.candidates))))))

@@ -6,13 +6,13 @@ use Rattle.std.specs.List.{list_all}
 use Rattle.slate_ids.specs.declared.error.SlateDBError.{SlateDBError}
 use Rattle.slate_ids.specs.declared.error.SlateDBError.TheVariants.{Exhausted}
 use Rattle.slate_ids.specs.declared.error.UpdateRule.TheVariants.{U1, U2}
-use Rattle.slate_model.specs.Codec.{encoded}
-use Rattle.slate_model.specs.Checkpoints.{is_named}
-use Rattle.slate_model.specs.Laws.{round_trip}
-use Rattle.slate_model.specs.Lawful.{falls, names_known}
-use Rattle.slate_model.specs.Normal.{normal, normal_checkpoint}
-use Rattle.slate_model.specs.declared.checkpoint.Checkpoint.{Checkpoint}
-use Rattle.slate_model.specs.declared.manifest.Manifest.{Manifest}
+use Rattle.slate_first.specs.Codec.{encoded}
+use Rattle.slate_first.specs.Checkpoints.{is_named}
+use Rattle.slate_first.specs.Laws.{round_trip}
+use Rattle.slate_first.specs.Lawful.{falls, names_known}
+use Rattle.slate_first.specs.Normal.{normal, normal_checkpoint}
+use Rattle.slate_first.specs.declared.checkpoint.Checkpoint.{Checkpoint}
+use Rattle.slate_first.specs.declared.first_manifest.FirstManifest.{FirstManifest}
 use Rattle.slate_script.specs.declared.call.Call.{Call}
 use Rattle.slate_log.specs.Commit.{prepared, checked_commit, encoded_commit}
 use Rattle.slate_log.specs.declared.commit.CommitPhase.{CommitPhase}
@@ -32,16 +32,16 @@ all_true true b h = (refl, h)
 all_true false b h = absurd cc
 
 -- the rules look at no moment, so what is read back keeps them
-names_normal : (n : ℕ) (old : Manifest) (cs : List Checkpoint)
+names_normal : (n : ℕ) (old : FirstManifest) (cs : List Checkpoint)
     → list_all (λ c. c.manifest_id == n + 1 || is_named c.manifest_id old.checkpoints) (map normal_checkpoint cs) ≡ list_all (λ c. c.manifest_id == n + 1 || is_named c.manifest_id old.checkpoints) cs
 names_normal n old [] = refl
 names_normal n old (c ∷ cs) = ap (λ (b : Bool). (c.manifest_id == n + 1 || is_named c.manifest_id old.checkpoints) && b) (names_normal n old cs)
 
-refusal_normal : (n : ℕ) (old m : Manifest) (right : Right) → manifest_refusal n old (normal m) right ≡ manifest_refusal n old m right
+refusal_normal : (n : ℕ) (old m : FirstManifest) (right : Right) → manifest_refusal n old (normal m) right ≡ manifest_refusal n old m right
 refusal_normal n old m right = ap (λ (b : Bool). refused_by (if falls old m then Some U1 else (if b then None else Some U2))) (names_normal n old m.checkpoints)
 
 -- a number that checkpoints name is one that all of them may name
-named_known : (n k : ℕ) (old : Manifest) (cs : List Checkpoint) → list_all (λ c. c.manifest_id == n + 1 || is_named c.manifest_id old.checkpoints) cs ≡ true → is_named k cs ≡ true → (k ≡ n + 1) ⊎ (is_named k old.checkpoints ≡ true)
+named_known : (n k : ℕ) (old : FirstManifest) (cs : List Checkpoint) → list_all (λ c. c.manifest_id == n + 1 || is_named c.manifest_id old.checkpoints) cs ≡ true → is_named k cs ≡ true → (k ≡ n + 1) ⊎ (is_named k old.checkpoints ≡ true)
 named_known n k old [] all h = absurd cc
 named_known n k old (c ∷ cs) all h = by_first (c.manifest_id == k) refl h (all_true (c.manifest_id == n + 1 || is_named c.manifest_id old.checkpoints) _ all)
     (λ rest more. named_known n k old cs rest more)
@@ -61,7 +61,7 @@ named_known n k old (c ∷ cs) all h = by_first (c.manifest_id == k) refl h (all
     by_first false is h both rest = rest both.1 h
 
 -- the rules let a version name no number that the one before doesn't name, but its own
-manifest_known : (n : ℕ) (old m : Manifest) (right : Right) (k : ℕ) → manifest_refusal n old m right ≡ None → is_named k m.checkpoints ≡ true → (k ≡ n + 1) ⊎ (is_named k old.checkpoints ≡ true)
+manifest_known : (n : ℕ) (old m : FirstManifest) (right : Right) (k : ℕ) → manifest_refusal n old m right ≡ None → is_named k m.checkpoints ≡ true → (k ≡ n + 1) ⊎ (is_named k old.checkpoints ≡ true)
 manifest_known n old m right k h named = by_falls (falls old m) h
   where
     by_names : (b : Bool) → names_known n old m ≡ b → refused_by (if b then None else Some U2) ≡ None → (k ≡ n + 1) ⊎ (is_named k old.checkpoints ≡ true)
@@ -100,21 +100,21 @@ module _ {V : Type 0} (refusal : ℕ → V → V → Right → Option SlateDBErr
   is_prepared h = by_room (n == 2 ^ 64 - 1) refl h
 
 -- what a call commits: what it makes of the version read, where its fence lets it
-pub record IsMade (facts : Facts) (call : Call) (now : ℤ) (n : ℕ) (m : Manifest) (commit : CommitPhase Manifest) : Type 0 where
-  pub new : Manifest
+pub record IsMade (facts : Facts) (call : Call) (now : ℤ) (n : ℕ) (m : FirstManifest) (commit : CommitPhase FirstManifest) : Type 0 where
+  pub new : FirstManifest
   pub makes : new_value call now n m ≡ Ok (Some new)
   pub prepared : IsPrepared manifest_refusal encoded n m new (right_of call) commit
   pub passed : fence_of facts call m ≡ None
 
-module _ (facts : Facts) (call : Call) (now : ℤ) (n : ℕ) (m : Manifest) (commit : CommitPhase Manifest) where
-  made_of : (new : Manifest) → new_value call now n m ≡ Ok (Some new) → fence_of facts call m ≡ None → (r : Result (CommitPhase Manifest) SlateDBError) → prepared manifest_refusal encoded n m new (right_of call) ≡ r
+module _ (facts : Facts) (call : Call) (now : ℤ) (n : ℕ) (m : FirstManifest) (commit : CommitPhase FirstManifest) where
+  made_of : (new : FirstManifest) → new_value call now n m ≡ Ok (Some new) → fence_of facts call m ≡ None → (r : Result (CommitPhase FirstManifest) SlateDBError) → prepared manifest_refusal encoded n m new (right_of call) ≡ r
       → some_commit r ≡ Ok (Some commit) → IsMade facts call now n m commit
   made_of new makes passed (Ok c) is h =
       let same : c ≡ commit = cc in
-      record { new = new; makes = makes; prepared = is_prepared manifest_refusal encoded n m new (right_of call) commit (is ∙ ap (λ (x : CommitPhase Manifest). Ok x) same); passed = passed }
+      record { new = new; makes = makes; prepared = is_prepared manifest_refusal encoded n m new (right_of call) commit (is ∙ ap (λ (x : CommitPhase FirstManifest). Ok x) same); passed = passed }
   made_of new makes passed (Err e) is h = absurd cc
 
-  by_value : (r : Result (Option Manifest) SlateDBError) → new_value call now n m ≡ r → fence_of facts call m ≡ None → wanted (λ (new : Manifest). prepared manifest_refusal encoded n m new (right_of call)) r ≡ Ok (Some commit)
+  by_value : (r : Result (Option FirstManifest) SlateDBError) → new_value call now n m ≡ r → fence_of facts call m ≡ None → wanted (λ (new : FirstManifest). prepared manifest_refusal encoded n m new (right_of call)) r ≡ Ok (Some commit)
       → IsMade facts call now n m commit
   by_value (Ok (Some new)) is passed h = made_of new is passed (prepared manifest_refusal encoded n m new (right_of call)) refl h
   by_value (Ok None) is passed h = absurd cc
@@ -128,7 +128,7 @@ module _ (facts : Facts) (call : Call) (now : ℤ) (n : ℕ) (m : Manifest) (com
   call_made h = by_fence (fence_of facts call m) refl h
 
 -- the rules let no writer epoch fall
-pub epoch_rises : (old new : Manifest) (n : ℕ) (right : Right) → manifest_refusal n old new right ≡ None → old.writer_epoch ≤ new.writer_epoch
+pub epoch_rises : (old new : FirstManifest) (n : ℕ) (right : Right) → manifest_refusal n old new right ≡ None → old.writer_epoch ≤ new.writer_epoch
 epoch_rises old new n right h = by_rule (falls old new) refl h
   where
     no_fall : (x y : ℕ) (a b : Bool) → (nat_lt x y || a || b) ≡ false → y ≤ x

@@ -10,13 +10,13 @@ use Rattle.slate_ids.specs.declared.object_path.ObjectPath.{ObjectPath}
 use Rattle.slate_log.specs.Boundary.{boundary_got}
 use Rattle.slate_log.specs.LogPaths.{version_path, boundary_path}
 use Rattle.slate_log.specs.declared.log_kind.LogKind.TheVariants.{Manifest as ManifestLog}
-use Rattle.slate_model.specs.Checkpoints.{is_named}
-use Rattle.slate_model.specs.Codec.{encoded, decoded}
-use Rattle.slate_model.specs.Laws.{round_trip}
-use Rattle.slate_model.specs.Normals.{is_normal_only}
-use Rattle.slate_model.specs.Normal.{is_normal}
-use Rattle.slate_model.specs.declared.checkpoint.Checkpoint.{Checkpoint}
-use Rattle.slate_model.specs.declared.manifest.Manifest.{Manifest}
+use Rattle.slate_first.specs.Checkpoints.{is_named}
+use Rattle.slate_first.specs.Codec.{encoded, decoded}
+use Rattle.slate_first.specs.Laws.{round_trip}
+use Rattle.slate_first.specs.Normals.{is_normal_only}
+use Rattle.slate_first.specs.Normal.{is_normal}
+use Rattle.slate_first.specs.declared.checkpoint.Checkpoint.{Checkpoint}
+use Rattle.slate_first.specs.declared.first_manifest.FirstManifest.{FirstManifest}
 use Rattle.slate_script.specs.declared.cluster_cause.ClusterCause.TheVariants as cause
 use Rattle.slate_script.specs.declared.db_spec.DbSpec.{DbSpec}
 use Rattle.slate_store.specs.Store.{Store, object_at}
@@ -92,13 +92,13 @@ names_first k (c ∷ cs) h named = test (c.manifest_id == k) refl named (neither
     test false e h both rest = rest both.1 h
 
 -- the bytes of a first manifest are read back
-first_read : (m : Manifest) (bytes : List ℕ) → first_bytes m ≡ Some bytes → decoded bytes ≡ Ok m
+first_read : (m : FirstManifest) (bytes : List ℕ) → first_bytes m ≡ Some bytes → decoded bytes ≡ Ok m
 first_read m bytes h = by_bytes (encoded m) refl (is_normal m) refl h
   where
     by_bytes : (r : Result (List ℕ) SlateDBError) → encoded m ≡ r → (b : Bool) → is_normal m ≡ b → bytes_where b r ≡ Some bytes → decoded bytes ≡ Ok m
     by_bytes (Ok l) is true normal_m h =
         let same : l ≡ bytes = cc in
-        round_trip m bytes (is ∙ ap (λ (x : List ℕ). Ok x) same) ∙ ap (λ (x : Manifest). Ok x) (is_normal_only m normal_m)
+        round_trip m bytes (is ∙ ap (λ (x : List ℕ). Ok x) same) ∙ ap (λ (x : FirstManifest). Ok x) (is_normal_only m normal_m)
     by_bytes (Ok l) is false normal_m h = absurd cc
     by_bytes (Err e) is b normal_m h = absurd cc
 

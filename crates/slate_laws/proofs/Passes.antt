@@ -5,10 +5,10 @@ use Rattle.std.specs.Prelude.{if◌then◌else◌, ◌&&◌, ◌||◌, not}
 use Rattle.slate_ids.specs.Ids.{is_db_path}
 use Rattle.slate_ids.specs.declared.error.SlateDBError.{SlateDBError}
 use Rattle.slate_ids.specs.declared.error.SlateDBError.TheVariants.{ManifestMissing}
-use Rattle.slate_model.specs.Checkpoints.{is_named}
-use Rattle.slate_model.specs.Codec.{decoded}
-use Rattle.slate_model.specs.declared.checkpoint.Checkpoint.{Checkpoint}
-use Rattle.slate_model.specs.declared.manifest.Manifest.{Manifest}
+use Rattle.slate_first.specs.Checkpoints.{is_named}
+use Rattle.slate_first.specs.Codec.{decoded}
+use Rattle.slate_first.specs.declared.checkpoint.Checkpoint.{Checkpoint}
+use Rattle.slate_first.specs.declared.first_manifest.FirstManifest.{FirstManifest}
 use Rattle.slate_store.specs.Machines.{Goes, Stay, End}
 use Rattle.slate_store.specs.Store.{Store, Outcome, object_at, removed, listed, effect}
 use Rattle.slate_store.specs.declared.mark.Mark.{Mark}
@@ -124,7 +124,7 @@ picks_have P options ns h = test (options.allows && not options.dry_run)
 
 -- the greatest listed version was read, and the candidates are below it
 pub record IsRead (s : Store) (c : Chain) (db : List ℕ) (n : ℕ) (ns : List ℕ) : Type 0 where
-  pub value : Manifest
+  pub value : FirstManifest
   pub holds : Holds manifests db s c n value
   pub below : Each (λ k. (k < n) × (is_named k value.checkpoints ≡ false)) ns
 
@@ -167,7 +167,7 @@ module _ (db : List ℕ) (named : is_db_path db ≡ true) (author : Author) (opt
   listed_brings now found None h = tt
   listed_brings now found (Some n) h = h
 
-  decoded_brings : (now : ℤ) (n : ℕ) (dates : List Dated) (object : StoredObject) (r : Result Manifest SlateDBError) → n < 2 ^ 64 → object_at (version_path ManifestLog db n) s ≡ Some object → decoded object.bytes ≡ r
+  decoded_brings : (now : ℤ) (n : ℕ) (dates : List Dated) (object : StoredObject) (r : Result FirstManifest SlateDBError) → n < 2 ^ 64 → object_at (version_path ManifestLog db n) s ≡ Some object → decoded object.bytes ≡ r
       → PassBrings s c db (decoded_goes n (candidates_by options now n dates r))
   decoded_brings now n dates object (Ok m) small at is = record {
     value = m;
@@ -186,9 +186,9 @@ module _ (db : List ℕ) (named : is_db_path db ≡ true) (author : Author) (opt
   next_brings n ns (Some k) e le below spare = let lt = greatest_is n k ns below e in (omega arith, each_both (λ j. j ≤ k) (IsSpare manifests c) ns (greatest_most k ns e) spare)
 
   -- what the version that was read doesn't name is spare, where it is committed
-  all_spare : (n : ℕ) (m : Manifest) (ns : List ℕ) → IsValue c n m → Each (λ k. (k < n) × (is_named k m.checkpoints ≡ false)) ns → Each (IsSpare manifests c) ns
+  all_spare : (n : ℕ) (m : FirstManifest) (ns : List ℕ) → IsValue c n m → Each (λ k. (k < n) × (is_named k m.checkpoints ≡ false)) ns → Each (IsSpare manifests c) ns
   all_spare n m ns v h = each_map (λ k. (k < n) × (is_named k m.checkpoints ≡ false)) (IsSpare manifests c)
-      (λ k w. spare_below manifests manifests_log c n k v.link i.chain v.at w.0 (ap (λ (x : Manifest). is_named k x.checkpoints) v.value ∙ w.1)) ns h
+      (λ k w. spare_below manifests manifests_log c n k v.link i.chain v.at w.0 (ap (λ (x : FirstManifest). is_named k x.checkpoints) v.value ∙ w.1)) ns h
 
   test_brings : (n : ℕ) (ns : List ℕ) (b : ℕ) (t : Bool) → nat_le n b ≡ t → bound_in manifests db s ≡ Some b → IsRead s c db n ns
       → PassBrings s c db (if t then End Over (Err (ManifestMissing n)) else bounded_next ns)

@@ -1,3 +1,1 @@
-pub mod Fronts
-pub mod Items
-pub mod Trackers
+pub mod Projections

@@ -1,33 +1,18 @@
-//! The manifest of a database, its bytes, its normal form, its epochs and the rules on its updates.
+//! The values of a database: tables, their views, and sorted runs.
 #![tactic(auto)]
 
-mod checkpoint;
-#[cfg(test)]
-mod checkpoint_tests;
-mod codec;
-mod encodable;
-mod epochs;
-mod laws;
-mod manifest;
-mod normal;
-mod put;
-mod read;
-mod read_checkpoint;
-mod reader;
-mod rules;
-mod seconds;
-mod tracker;
-mod write;
-mod write_checkpoint;
+mod plain;
+mod sorted_run;
+mod ss_table_handle;
+mod ss_table_id;
+mod ss_table_info;
+mod ss_table_view;
+mod table_tags;
 
-pub use checkpoint::{Checkpoint, CheckpointOptions, copy_name, find_checkpoint, is_named};
-pub use codec::FirstManifestCodec;
-pub use encodable::unencodable;
-pub use epochs::WriterEpochs;
-pub use laws::normal_laws;
-pub use manifest::Manifest;
-pub use normal::{is_normal, normal_form};
-pub use read::decode_manifest;
-pub use rules::refusal_of_update;
-pub use tracker::SequenceTracker;
-pub use write::encode_manifest;
+pub use plain::Plain;
+pub use sorted_run::SortedRun;
+pub use ss_table_handle::SsTableHandle;
+pub use ss_table_id::SsTableId;
+pub use ss_table_info::SsTableInfo;
+pub use ss_table_view::SsTableView;
+pub use table_tags::{CompressionTag, FilterFormat, SstType};

@@ -1,8 +1,8 @@
 -- What a pass picks of what it read, and the deletes that it makes: one for each pick, in their order.
 use Rattle.std.specs.Prelude.{◌≡◌, ℕ, ℤ, nat_le, Bool, true, false, List, [], ◌∷◌, ◌++◌, map, filter, length, Option, Some, None, Result, Ok, Err, if◌then◌else◌}
 use Rattle.slate_ids.specs.declared.error.SlateDBError.{SlateDBError}
-use Rattle.slate_model.specs.Codec.{decoded}
-use Rattle.slate_model.specs.declared.manifest.Manifest.{Manifest}
+use Rattle.slate_first.specs.Codec.{decoded}
+use Rattle.slate_first.specs.declared.first_manifest.FirstManifest.{FirstManifest}
 use Rattle.slate_store.specs.declared.made.Made.{Made}
 use Rattle.slate_store.specs.declared.object.ObjectMetadata.{ObjectMetadata}
 use Rattle.slate_store.specs.declared.store_answer.StoreAnswer.{StoreAnswer}
@@ -34,7 +34,7 @@ use Rattle.slate_store.specs.Store.{Store}
 -- ---- what is picked of what was read
 
 -- of a list at a moment, the value of the greatest number listed, and a boundary that is below that number
-abbrev pub picks_at : PassOptions → ℤ → List ObjectMetadata → Option ℕ → Result Manifest SlateDBError → Option ℕ → Option (List ℕ)
+abbrev pub picks_at : PassOptions → ℤ → List ObjectMetadata → Option ℕ → Result FirstManifest SlateDBError → Option ℕ → Option (List ℕ)
 picks_at options now found (Some n) (Ok m) (Some bound) = if nat_le n bound then None else Some (picks options (candidates options.min_age now n m.checkpoints (dated ManifestLog found)))
 picks_at options now found _ _ _ = None
 

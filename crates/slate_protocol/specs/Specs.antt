@@ -6,10 +6,10 @@ use Rattle.slate_ids.specs.PathText.{path_cmp}
 use Rattle.slate_ids.specs.declared.error.SlateDBError.{SlateDBError}
 use Rattle.slate_ids.specs.declared.object_path.ObjectPath.{ObjectPath}
 use Rattle.slate_ids.specs.declared.object_path.ObjectPath.TheVariants as paths
-use Rattle.slate_model.specs.Codec.{encoded}
-use Rattle.slate_model.specs.Normal.{is_normal}
-use Rattle.slate_model.specs.declared.checkpoint.Checkpoint.{Checkpoint}
-use Rattle.slate_model.specs.declared.manifest.Manifest.{Manifest}
+use Rattle.slate_first.specs.Codec.{encoded}
+use Rattle.slate_first.specs.Normal.{is_normal}
+use Rattle.slate_first.specs.declared.checkpoint.Checkpoint.{Checkpoint}
+use Rattle.slate_first.specs.declared.first_manifest.FirstManifest.{FirstManifest}
 use Rattle.slate_store.specs.Store.{Store, stored}
 use Rattle.slate_script.specs.declared.cluster_cause.ClusterCause.{ClusterCause}
 use Rattle.slate_script.specs.declared.cluster_cause.ClusterCause.TheVariants as cause
@@ -54,7 +54,7 @@ bytes_where normal (Ok bytes) = if normal then Some bytes else None
 bytes_where normal (Err e) = None
 
 -- the bytes of a first manifest: none where it has none, or isn't what is read back of them
-abbrev pub first_bytes : Manifest → Option (List ℕ)
+abbrev pub first_bytes : FirstManifest → Option (List ℕ)
 first_bytes m = bytes_where (is_normal m) (encoded m)
 
 -- the bytes of a first object, and the moment at which it was written

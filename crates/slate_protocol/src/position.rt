@@ -1,17 +1,17 @@
 //! Where a party stands in its call.
 
+use slate_first::FirstManifest;
 use slate_gc::{PassCounts, PassOptions, PassPhase};
 use slate_ids::DbPath;
 use slate_log::{CommitPhase, ReadPhase};
-use slate_model::Manifest;
 
 /// The phrase under way, at its phase.
 #[derive(Debug, Drop)]
 pub enum Phrase {
     /// The latest manifest is read.
-    Read(ReadPhase<Manifest>),
+    Read(ReadPhase<FirstManifest>),
     /// The next manifest is committed.
-    Commit(CommitPhase<Manifest>),
+    Commit(CommitPhase<FirstManifest>),
     /// A pass of the garbage collector over the manifests, with these options.
     Pass(PassOptions, PassPhase),
 }
@@ -29,9 +29,9 @@ pub enum Ended {
     /// A read that found no version.
     NoVersion,
     /// A read: the number and the value of the latest version.
-    Version(u64, Manifest),
+    Version(u64, FirstManifest),
     /// A commit: the number and the value that were put.
-    Committed(u64, Manifest),
+    Committed(u64, FirstManifest),
     /// A pass: how many versions it picked, deleted, and failed to delete.
     Passed(PassCounts),
 }

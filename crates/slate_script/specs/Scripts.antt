@@ -13,8 +13,8 @@ use Rattle.slate_script.specs.declared.script.ScriptPlace.{ScriptPlace}
 use Rattle.slate_script.specs.declared.script.ScriptPlace.TheVariants as place
 use Rattle.slate_script.specs.declared.script.ScriptError.{ScriptError}
 use Rattle.slate_script.specs.declared.script.ScriptError.TheVariants as errors
-use Rattle.slate_model.specs.declared.checkpoint.Checkpoint.{Checkpoint}
-use Rattle.slate_model.specs.Initial.{initial}
+use Rattle.slate_first.specs.declared.checkpoint.Checkpoint.{Checkpoint}
+use Rattle.slate_first.specs.Initial.{initial}
 use Rattle.slate_script.specs.Events.{written_in, expand, count_of}
 
 -- A reader answers what the bytes stand for, or the first place, unless memory runs out.

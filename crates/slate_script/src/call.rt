@@ -2,8 +2,8 @@
 ghost use Rattle.std.specs.Prelude.{◌≡◌, IfOk};
 
 use crate::filter_word::FilterWord;
+use slate_first::copy_name;
 use slate_ids::{CheckpointId, GcMessage, Millis, OutOfMemory, Text};
-use slate_model::copy_name;
 use std::alloc::Global;
 
 /// A call of a party. Lifetimes are in milliseconds; a checkpoint without one never expires.

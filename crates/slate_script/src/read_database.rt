@@ -1,7 +1,7 @@
 //! The database that an item of a script stands for.
 ghost use Rattle.std.specs.Prelude.{◌≡◌};
 ghost use Rattle.serde_json.specs.View.{view};
-ghost use Rattle.slate_model.specs.Initial.{initial};
+ghost use Rattle.slate_first.specs.Initial.{initial};
 ghost use Rattle.slate_script.specs.Fields.{Gives};
 ghost use Rattle.slate_script.specs.Scripts.{database_in};
 
@@ -10,8 +10,8 @@ use crate::fields::{defaulted, only, optional, required};
 use crate::refusal::Refusal;
 use crate::values::FromJson;
 use serde_json::Value;
+use slate_first::{Checkpoint, FirstManifest};
 use slate_ids::Listed;
-use slate_model::{Checkpoint, Manifest};
 use std::alloc::Global;
 
 impl FromJson for Checkpoint {
@@ -36,10 +36,10 @@ impl FromJson for Checkpoint {
 }
 
 // The manifest of a new database, with these checkpoints.
-fn first_manifest(alloc: Global, checkpoints: Listed<Checkpoint>) -> Manifest
+fn first_manifest(alloc: Global, checkpoints: Listed<Checkpoint>) -> FirstManifest
     ensures { result ≡ record initial { checkpoints = checkpoints } }
 {
-    let mut manifest = Manifest::initial(alloc);
+    let mut manifest = FirstManifest::initial(alloc);
     manifest.checkpoints = checkpoints;
     manifest
 }

@@ -1,8 +1,8 @@
 //! Scripts, and bytes that are none.
 
 use crate::{Call, DbSpec, Event, ScriptError, ScriptPlace, read_script};
+use slate_first::Checkpoint;
 use slate_ids::{CheckpointId, Text};
-use slate_model::Checkpoint;
 use std::alloc::Global;
 use std::process::Abort;
 use std::test::Fail;

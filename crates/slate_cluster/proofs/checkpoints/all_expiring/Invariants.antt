@@ -1,5 +1,5 @@
 use Rattle.std.proofs.Common.{◌≡◌, ◌++◌, map, drop}
-use Rattle.slate_model.specs.Checkpoints.{expiring}
+use Rattle.slate_first.specs.Checkpoints.{expiring}
 use Rattle.slate_cluster.proofs.checkpoints.all_expiring.Given as goal
 
 abbrev pub invariant-loop-checkpoint : goal.invariant-loop-checkpoint

@@ -1,6 +1,6 @@
 use Rattle.std.proofs.Common.{◌≡◌, drop}
 use Rattle.std.specs.List.{list_any}
-use Rattle.slate_model.specs.Checkpoints.{is_expired}
+use Rattle.slate_first.specs.Checkpoints.{is_expired}
 use Rattle.slate_cluster.proofs.checkpoints.has_expired.Given as goal
 
 abbrev pub invariant-loop-checkpoint : goal.invariant-loop-checkpoint

@@ -1,5 +1,5 @@
 use Rattle.std.proofs.Common.{◌≡◌, ◌++◌, drop}
-use Rattle.slate_model.specs.Checkpoints.{without_checkpoint}
+use Rattle.slate_first.specs.Checkpoints.{without_checkpoint}
 use Rattle.slate_cluster.proofs.checkpoints.without.Given as goal
 
 abbrev pub invariant-loop-checkpoint : goal.invariant-loop-checkpoint

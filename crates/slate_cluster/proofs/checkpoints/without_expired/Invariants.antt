@@ -1,6 +1,6 @@
 use Rattle.std.proofs.Common.{◌≡◌, ◌++◌, drop, filter}
 use Rattle.std.specs.Prelude.{not}
-use Rattle.slate_model.specs.Checkpoints.{is_expired}
+use Rattle.slate_first.specs.Checkpoints.{is_expired}
 use Rattle.slate_cluster.proofs.checkpoints.without_expired.Given as goal
 
 abbrev pub invariant-loop-checkpoint : goal.invariant-loop-checkpoint
