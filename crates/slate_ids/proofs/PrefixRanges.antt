@@ -140,3 +140,6 @@ included_ordered key Unbounded = refl
 -- the range of a prefix is proper
 pub prefix_ordered : (prefix : List ℕ) (e : Bound (List ℕ)) → e ≡ end_before (successor prefix) → is_ordered (Included prefix) e ≡ true
 prefix_ordered prefix e h = included_ordered prefix e ∙ ap (λ x. is_up_to x prefix) h ∙ prefix_proper prefix
+
+pub prefix_is_proper : (prefix : List ℕ) → is_ordered (Included prefix) (end_before (successor prefix)) ≡ true
+prefix_is_proper prefix = prefix_ordered prefix (end_before (successor prefix)) refl

@@ -33,7 +33,7 @@ pub use db_path::DbPath;
 pub use error::{FieldName, FormatName, SlateDBError, StateCause, UpdateRule};
 pub use gc_message::GcMessage;
 pub use key_span::KeySpan;
-pub use laws::paths_apart;
+pub use laws::{paths_apart, ranges_are_sets};
 pub use listed::Listed;
 pub use millis::Millis;
 pub use number_range::NumberRange;
