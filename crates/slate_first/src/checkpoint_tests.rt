@@ -1,7 +1,7 @@
 //! Checkpoints in a manifest: their bytes, their normal form, copies and searches.
 
 use crate::{
-    Checkpoint, CheckpointOptions, FirstManifestCodec, Manifest, find_checkpoint, is_named,
+    Checkpoint, CheckpointOptions, FirstManifest, FirstManifestCodec, find_checkpoint, is_named,
     is_normal, normal_form, unencodable,
 };
 use slate_ids::{
@@ -23,8 +23,8 @@ const WITH_TWO: [u8; 167] = [
 /// The last moment that has a second of 32 bits.
 const LAST: Millis = 4_294_967_295_999;
 
-fn with_two(alloc: Global) -> Result<Manifest, SlateDBError> {
-    let mut manifest = Manifest::initial(alloc);
+fn with_two(alloc: Global) -> Result<FirstManifest, SlateDBError> {
+    let mut manifest = FirstManifest::initial(alloc);
     manifest.checkpoints.push(Checkpoint {
         id: CheckpointId::from_u64(258),
         manifest_id: 3,
@@ -45,8 +45,8 @@ fn with_two(alloc: Global) -> Result<Manifest, SlateDBError> {
 fn with_moments(
     alloc: Global,
     moments: &[(Option<Millis>, Millis)],
-) -> Result<Manifest, SlateDBError> {
-    let mut manifest = Manifest::initial(alloc);
+) -> Result<FirstManifest, SlateDBError> {
+    let mut manifest = FirstManifest::initial(alloc);
     for (expire_time, create_time) in moments {
         manifest.checkpoints.push(Checkpoint {
             id: CheckpointId::from_u64(1),
@@ -81,7 +81,7 @@ fn is_corrupt(alloc: Global, bytes: &[u8]) -> bool {
 }
 
 /// The version and the moments of the checkpoint at a place.
-fn numbers_at(manifest: &Manifest, i: usize) -> Option<(u64, Option<Millis>, Millis)> {
+fn numbers_at(manifest: &FirstManifest, i: usize) -> Option<(u64, Option<Millis>, Millis)> {
     match manifest.checkpoints.as_slice().get(i) {
         Some(c) => Some((c.manifest_id, c.expire_time, c.create_time)),
         None => None,
@@ -89,7 +89,7 @@ fn numbers_at(manifest: &Manifest, i: usize) -> Option<(u64, Option<Millis>, Mil
 }
 
 /// Whether the checkpoint of an id has a name, none for `""`.
-fn is_called(manifest: &Manifest, id: u64, text: &str) -> bool {
+fn is_called(manifest: &FirstManifest, id: u64, text: &str) -> bool {
     match find_checkpoint(manifest.checkpoints.as_slice(), &CheckpointId::from_u64(id)) {
         Some(found) => match &found.name {
             Some(name) => name.as_str() == text,

@@ -1,5 +1,5 @@
 -- Tables: their ids, what is known of them, and the keys that they hold.
-use Rattle.std.specs.Prelude.{ℕ, ◌+◌, ◌^◌, ◌-◌, min, List, Option, Some, None}
+use Rattle.std.specs.Prelude.{ℕ, ◌+◌, min, Bool, true, false, List, Option, Some, None}
 use Rattle.std.specs.declared.ops.Bound.TheVariants.{Included, Unbounded}
 use Rattle.slate_ids.specs.KeyRange.{KeyRange, no_keys}
 use Rattle.slate_model.specs.declared.ss_table_id.SsTableId.{SsTableId}
@@ -12,15 +12,15 @@ use Rattle.slate_model.specs.declared.table_tags.CompressionTag.TheVariants as c
 use Rattle.slate_model.specs.declared.ss_table_info.SsTableInfo.{SsTableInfo}
 use Rattle.slate_model.specs.declared.ss_table_handle.SsTableHandle.{SsTableHandle}
 
--- a table of the write-ahead log
-abbrev pub IsWal : SsTableId → Type 0
-IsWal (Wal number) = Unit {0}
-IsWal (Compacted id) = ⊥
+-- a file of the write-ahead log
+abbrev pub is_wal : SsTableId → Bool
+is_wal (Wal number) = true
+is_wal (Compacted id) = false
 
 -- a compacted table
-abbrev pub IsCompacted : SsTableId → Type 0
-IsCompacted (Wal number) = ⊥
-IsCompacted (Compacted id) = Unit {0}
+abbrev pub is_compacted : SsTableId → Bool
+is_compacted (Wal number) = false
+is_compacted (Compacted id) = true
 
 -- what wrote a table
 abbrev pub type_of : SsTableId → SstType

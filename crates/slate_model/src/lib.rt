@@ -1,6 +1,9 @@
 //! The values of a database: tables, their views, and sorted runs.
 #![tactic(auto)]
 
+mod covering;
+mod l0_overlap;
+mod order;
 mod plain;
 mod sorted_run;
 mod ss_table_handle;
@@ -9,6 +12,7 @@ mod ss_table_info;
 mod ss_table_view;
 mod table_tags;
 
+pub use l0_overlap::max_l0_overlap;
 pub use plain::Plain;
 pub use sorted_run::SortedRun;
 pub use ss_table_handle::SsTableHandle;
@@ -16,3 +20,10 @@ pub use ss_table_id::SsTableId;
 pub use ss_table_info::SsTableInfo;
 pub use ss_table_view::SsTableView;
 pub use table_tags::{CompressionTag, FilterFormat, SstType};
+
+#[cfg(test)]
+mod run_tests;
+#[cfg(test)]
+mod test_values;
+#[cfg(test)]
+mod view_tests;

@@ -1,6 +1,6 @@
 //! The id of a table.
-ghost use Rattle.std.specs.Prelude.{◌≡◌};
-ghost use Rattle.slate_model.specs.Tables.{IsWal, IsCompacted};
+ghost use Rattle.std.specs.Prelude.{◌≡◌, true};
+ghost use Rattle.slate_model.specs.Tables.{is_wal, is_compacted};
 
 use slate_ids::Ulid;
 
@@ -14,9 +14,23 @@ pub enum SsTableId {
 }
 
 impl SsTableId {
+    /// Whether it is a file of the write-ahead log.
+    pub fn is_wal(&self) -> bool
+        ensures { result ≡ is_wal self.now }
+    {
+        matches!(self, SsTableId::Wal(_))
+    }
+
+    /// Whether it is a compacted table.
+    pub fn is_compacted(&self) -> bool
+        ensures { result ≡ is_compacted self.now }
+    {
+        matches!(self, SsTableId::Compacted(_))
+    }
+
     /// The number of a file of the write-ahead log.
     pub fn unwrap_wal_id(&self) -> u64
-        requires { IsWal self.now }
+        requires { is_wal self.now ≡ true }
         ensures { self.now ≡ SsTableId.Wal result }
     {
         match self {
@@ -27,7 +41,7 @@ impl SsTableId {
 
     /// The id of a compacted table.
     pub fn unwrap_compacted_id(&self) -> Ulid
-        requires { IsCompacted self.now }
+        requires { is_compacted self.now ≡ true }
         ensures { self.now ≡ SsTableId.Compacted result }
     {
         match self {

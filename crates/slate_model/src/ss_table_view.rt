@@ -107,6 +107,18 @@ impl SsTableView {
         }
     }
 
+    /// Whether the view shows a key: it shows the one that it starts at.
+    pub fn shows_key(&self) -> bool
+        ensures { result ≡ views.shows_key self.now }
+    {
+        let none = BytesRange::new_empty();
+        let span = self.effective_span(&none);
+        match span.start_bound() {
+            Bound::Included(key) => KeySpan::new(Bound::Unbounded, span.end_bound()).contains(key),
+            Bound::Excluded(_) | Bound::Unbounded => false,
+        }
+    }
+
     /// The view with this visible range, which starts at a key or is open there; None where it misses the physical range.
     pub fn try_with_visible_range(
         &self,
