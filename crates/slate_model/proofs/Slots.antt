@@ -120,3 +120,8 @@ unfolding is_ordered
 earlier_start a k (Included x) h o = le_trans a k x h o
 earlier_start a k (Excluded x) h o = le_lt_trans a k x h o
 earlier_start a k Unbounded h o = refl
+
+-- a range that starts at a key has it exactly where the key is up to its end
+pub own_first : (r : KeyRange) (k : List ℕ) → Included k ≡ r.start → has_key r k ≡ has_first_key r.start r.end
+unfolding is_past
+own_first r k e = sym (ap (λ s. is_past s k && is_up_to r.end k) e) ∙ ap (λ t. t && is_up_to r.end k) (le_refl k) ∙ ap (λ s. has_first_key s r.end) e

@@ -50,6 +50,16 @@ fn own_id(id: SsTableId) -> Ulid
     }
 }
 
+// Whether a range has the key that it starts at.
+fn has_first_key(range: &KeySpan<'_>) -> bool
+    ensures { result ≡ views.has_first_key range.now.start range.now.end }
+{
+    match range.start_bound() {
+        Bound::Included(key) => range.contains(key),
+        Bound::Excluded(_) | Bound::Unbounded => false,
+    }
+}
+
 impl SsTableView {
     /// A view of all of a table.
     pub fn new(id: Ulid, sst: SsTableHandle) -> SsTableView
@@ -112,11 +122,7 @@ impl SsTableView {
         ensures { result ≡ views.shows_key self.now }
     {
         let none = BytesRange::new_empty();
-        let span = self.effective_span(&none);
-        match span.start_bound() {
-            Bound::Included(key) => KeySpan::new(Bound::Unbounded, span.end_bound()).contains(key),
-            Bound::Excluded(_) | Bound::Unbounded => false,
-        }
+        has_first_key(&self.effective_span(&none))
     }
 
     /// The view with this visible range, which starts at a key or is open there; None where it misses the physical range.
