@@ -6,3 +6,4 @@ pub mod Spans
 pub mod Counting
 pub mod Overlaps
 pub mod Ascents
+pub mod Trackers

@@ -3,3 +3,4 @@ pub mod Views
 pub mod Runs
 pub mod Slots
 pub mod Overlap
+pub mod Sequences

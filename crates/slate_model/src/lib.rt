@@ -4,7 +4,9 @@
 mod covering;
 mod l0_overlap;
 mod order;
+mod find_option;
 mod plain;
+mod sequence_tracker;
 mod sorted_run;
 mod ss_table_handle;
 mod ss_table_id;
@@ -13,7 +15,9 @@ mod ss_table_view;
 mod table_tags;
 
 pub use l0_overlap::max_l0_overlap;
+pub use find_option::FindOption;
 pub use plain::Plain;
+pub use sequence_tracker::SequenceTracker;
 pub use sorted_run::SortedRun;
 pub use ss_table_handle::SsTableHandle;
 pub use ss_table_id::SsTableId;
@@ -27,3 +31,4 @@ mod run_tests;
 mod test_values;
 #[cfg(test)]
 mod view_tests;
+mod tracker_tests;
