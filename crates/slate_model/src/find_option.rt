@@ -1,10 +1,10 @@
 //! Which way a look-up rounds.
 
-/// Which neighbour a look-up takes where there is no exact match.
+/// Which way a look-up in pairs rounds.
 #[derive(Clone, Copy, Debug, Drop, PartialEq, Eq)]
 pub enum FindOption {
-    /// The first one above.
+    /// Up, to the first pair that isn't below.
     RoundUp,
-    /// The last one below.
+    /// Down, to the last pair that isn't above.
     RoundDown,
 }

@@ -1,7 +1,6 @@
 //! Moments of sequence numbers.
-ghost use Rattle.std.specs.Prelude.{◌≡◌, ◌≤◌, ◌++◌, ◌∷◌, [], IfOk, OnOk, OnErr, IsTrue, ◌↔◌, Some, None, true, if◌then◌else◌, length};
+ghost use Rattle.std.specs.Prelude.{◌≡◌, ◌<◌, ◌++◌, ◌∷◌, [], OnOk, OnErr, IsTrue, ◌↔◌, Some, None, true, if◌then◌else◌, length};
 ghost use Rattle.std.specs.List.{last_or, list_all};
-ghost use Rattle.std.specs.Option.{option_copied};
 ghost use Rattle.slate_model.specs.Sequences.{IsTracker, is_kept, is_pair, in_order, may_follow, with_room, inserted, ts_of, seq_of, last_to_seq, first_from_seq, last_to_ts, first_from_ts};
 
 use crate::find_option::FindOption;
@@ -57,10 +56,11 @@ fn are_in_order(pairs: &[(u64, Millis)]) -> bool
     true
 }
 
-// One pair more at the end; of 4,096 the oldest goes first.
+// One pair more at the end. Of 4,096 the oldest goes first, which takes no memory.
 fn append(pairs: &mut Vec<(u64, Millis)>, pair: (u64, Millis)) -> Result<(), OutOfMemory>
     ensures ok { OnOk result (pairs.new.items ≡ with_room pairs.old.items ++ pair ∷ []) }
     ensures err { OnErr result (pairs.new.items ≡ pairs.old.items) }
+    ensures room { OnErr result (length pairs.old.items < 4096) }
 {
     let len = pairs.len();
     if len < MOST_PAIRS {
@@ -135,11 +135,13 @@ impl SequenceTracker {
     }
 
     /// Adds a pair at the end, where its sequence number is above the last one's and its moment isn't below the last one's. Else nothing
-    /// changes, and the answer is Ok all the same. At 4,096 pairs the oldest goes first, at the cost of a move of each other pair: so
-    /// the pairs stay one slice. Want of memory, which doesn't come there, changes nothing.
+    /// changes, and the answer is Ok all the same. At 4,096 pairs the oldest goes first, and each of the others moves by one place: so
+    /// the pairs stay one slice. Memory is asked for only where a pair is added to fewer; want of memory changes nothing.
     pub fn insert(&mut self, seq: u64, ts: Millis) -> Result<(), OutOfMemory>
         ensures ok { OnOk result (self.new ≡ inserted self.old (seq, ts)) }
         ensures err { OnErr result (self.new ≡ self.old) }
+        ensures added { OnErr result (may_follow (last_or None self.old) (seq, ts) ≡ true) }
+        ensures room { OnErr result (length self.old < 4096) }
     {
         if follows_last(self.pairs.last().copied(), (seq, ts)) {
             append(&mut self.pairs, (seq, ts))

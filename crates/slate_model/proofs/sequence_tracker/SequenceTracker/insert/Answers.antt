@@ -1,4 +1,4 @@
-use Rattle.std.proofs.Common.{ℕ, ℤ, ◌≡◌, ◌-◌, ◌++◌, ◌∷◌, [], Option, None, true, false, rules, FitsSigned, w64, length, slice_get, arith, sym, ◌∙◌}
+use Rattle.std.proofs.Common.{ℕ, ℤ, ◌≡◌, ◌-◌, ◌++◌, ◌∷◌, [], Option, None, true, false, Result, Ok, Err, OnErr, rules, FitsSigned, w64, length, slice_get, arith, sym, ◌∙◌}
 use Rattle.std.specs.List.{last_or}
 use Rattle.std.proofs.lemmas.Int.{to_z-of_z}
 use Rattle.slate_model.specs.Sequences.{may_follow}
@@ -25,6 +25,17 @@ returns-then-follows_last-clause-ok c =
     let after : may_follow (last_or None old) pair ≡ true = after_last old c.copied.result pair true last (search rules) in
     let append = rw (to_z-of_z w64 c.args.ts fits) at c.append.ensures in
     rw (← c.self.view_is) (inserted_is c.append.result old c.append.new.pairs.items pair append.ok after)
+
+pub returns-then-follows_last-clause-added : goal.returns-then-follows_last-clause-added
+returns-then-follows_last-clause-added c =
+    let old = c.self.inside.pairs.items in
+    let pair : ℕ × ℤ = (c.args.seq, c.args.ts) in
+    let last : c.copied.result ≡ slice_get old (length old - 1) = search rules in
+    rw (← c.self.view_is) (on_any_err c.append.result (after_last old c.copied.result pair true last (search rules)))
+  where
+    on_any_err : {T E P : Type 0} (r : Result T E) → P → OnErr r P
+    on_any_err (Ok x) p = tt
+    on_any_err (Err e) p = p
 
 pub returns-else-follows_last-clause-ok : goal.returns-else-follows_last-clause-ok
 returns-else-follows_last-clause-ok c =
