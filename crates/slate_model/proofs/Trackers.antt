@@ -1,12 +1,12 @@
 -- Pairs of a tracker in order.
 use Rattle.std.proofs.Common.{◌≡◌, ◌≤◌, ◌<◌, ◌+◌, ◌-◌, ℕ, ℤ, zero, suc, List, [], ◌∷◌, ◌++◌, Option, Some, None, Result, Ok, Err, Bool, true, false, ◌&&◌, ◌==◌, cond, nat_lt, nat_le, int_lt, int_le, length, get_or, take, drop, filter, slice_get, slice_set, OnOk, OnErr, if◌then◌else◌, refl, ap, sym, subst, ◌∙◌, arith}
-use Rattle.std.specs.List.{last_or, find, list_all, AllWithin}
+use Rattle.std.specs.List.{last_or, find, list_all}
 use Rattle.std.specs.Bool.{Decides}
 use Rattle.std.specs.Cmp.{unsigned_Decides, signed_Decides}
 use Rattle.std.specs.Ordering.{int_eq}
 use Rattle.std.specs.List.Sorted.{IsPartitionedBy, IsPartitionPoint}
 use Rattle.std.proofs.Math.Seq.{set-append_seam}
-use Rattle.std.proofs.lemmas.Bool.{and_parts, and_from, and_left, and_right}
+use Rattle.std.proofs.lemmas.Bool.{and_parts, and_from}
 use Rattle.std.proofs.lemmas.Bool.Decides.{nat_tests}
 use Rattle.std.proofs.lemmas.Int.{ints}
 use Rattle.std.proofs.lemmas.List.{length-append, length-drop, take_all}
@@ -162,7 +162,7 @@ with_one false (oldest ∷ pairs) pair room t fits after =
     record {
       ordered = follows_later (Some oldest) (pairs ++ pair ∷ []) (and_parts (may_follow None oldest) (follows (Some oldest) (pairs ++ pair ∷ [])) (follows_push None (oldest ∷ pairs) pair t.ordered after)).1;
       few = omega (arith, length-append pairs (pair ∷ []));
-      fit = all_fit pairs pair (and_parts (is_pair oldest) (list_all is_pair pairs) t.fit).1 fits
+      fit = all_fit pairs pair (and_parts (is_pair oldest) (list_all is_pair pairs) t.fit).1 fits;
     }
 
 -- after an append that may lack memory

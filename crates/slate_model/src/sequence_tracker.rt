@@ -72,7 +72,7 @@ fn append(pairs: &mut Vec<(u64, Millis)>, pair: (u64, Millis)) -> Result<(), Out
     Ok(())
 }
 
-
+// The last pair whose number isn't above this one.
 fn find_last_to_seq(pairs: &[(u64, Millis)], seq: u64) -> Option<(u64, Millis)>
     requires { in_order pairs.now ≡ true }
     ensures { result ≡ last_to_seq pairs.now seq }
@@ -81,6 +81,7 @@ fn find_last_to_seq(pairs: &[(u64, Millis)], seq: u64) -> Option<(u64, Millis)>
     pairs[..count].last().copied()
 }
 
+// The first pair whose number isn't below this one.
 fn find_first_from_seq(pairs: &[(u64, Millis)], seq: u64) -> Option<(u64, Millis)>
     requires { in_order pairs.now ≡ true }
     ensures { result ≡ first_from_seq pairs.now seq }
@@ -89,6 +90,7 @@ fn find_first_from_seq(pairs: &[(u64, Millis)], seq: u64) -> Option<(u64, Millis
     pairs[count..].first().copied()
 }
 
+// The last pair whose moment isn't above this one.
 fn find_last_to_ts(pairs: &[(u64, Millis)], ts: Millis) -> Option<(u64, Millis)>
     requires { in_order pairs.now ≡ true }
     ensures { result ≡ last_to_ts pairs.now ts }
@@ -97,6 +99,7 @@ fn find_last_to_ts(pairs: &[(u64, Millis)], ts: Millis) -> Option<(u64, Millis)>
     pairs[..count].last().copied()
 }
 
+// The first pair whose moment isn't below this one.
 fn find_first_from_ts(pairs: &[(u64, Millis)], ts: Millis) -> Option<(u64, Millis)>
     requires { in_order pairs.now ≡ true }
     ensures { result ≡ first_from_ts pairs.now ts }

@@ -1,4 +1,4 @@
-use Rattle.std.proofs.Common.{ℕ, ℤ, pos, get_or, sym, ◌∙◌, ap}
+use Rattle.std.proofs.Common.{ℕ, ℤ, pos, get_or, sym, ◌∙◌}
 use Rattle.std.proofs.lemmas.Bool.{and_from}
 use Rattle.std.proofs.lemmas.List.{drop_more}
 use Rattle.std.proofs.lemmas.List.Folds.{list_all_more}
@@ -13,7 +13,7 @@ loop-pair-preserved c =
     let pair : ℕ × ℤ = get_or pairs i (0, pos 0) in
     record {
       ordered = sym (follows_next c.loop-pair.last pairs i pair (drop_more pairs i (0, pos 0) c.loop-pair-test.true) (sym c.if-not-follows_last.ensures.order)) ∙ c.loop-pair.invariant.ordered;
-      fit = list_all_more is_pair pairs i (0, pos 0) c.loop-pair-test.true ∙ and_from _ _ c.loop-pair.invariant.fit c.follows_last.ensures.fits
+      fit = list_all_more is_pair pairs i (0, pos 0) c.loop-pair-test.true ∙ and_from _ _ c.loop-pair.invariant.fit c.follows_last.ensures.fits;
     }
 
 pub returns-then-not-follows_last-clause-order : goal.returns-then-not-follows_last-clause-order

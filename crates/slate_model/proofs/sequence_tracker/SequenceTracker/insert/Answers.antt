@@ -1,4 +1,4 @@
-use Rattle.std.proofs.Common.{ℕ, ℤ, ◌≡◌, ◌-◌, ◌++◌, ◌∷◌, [], Option, None, true, false, Result, Ok, Err, OnErr, rules, FitsSigned, w64, length, slice_get, arith, sym, ◌∙◌}
+use Rattle.std.proofs.Common.{ℕ, ℤ, ◌≡◌, ◌-◌, None, true, false, Result, Ok, Err, OnErr, rules, FitsSigned, w64, length, slice_get}
 use Rattle.std.specs.List.{last_or}
 use Rattle.std.proofs.lemmas.Int.{to_z-of_z}
 use Rattle.slate_model.specs.Sequences.{may_follow}
