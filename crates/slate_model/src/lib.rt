@@ -1,10 +1,10 @@
-//! The values of a database: tables, their views, and sorted runs.
+//! The values of a database: tables, their views, sorted runs, and moments of sequence numbers.
 #![tactic(auto)]
 
 mod covering;
+mod find_option;
 mod l0_overlap;
 mod order;
-mod find_option;
 mod plain;
 mod sequence_tracker;
 mod sorted_run;
@@ -14,8 +14,8 @@ mod ss_table_info;
 mod ss_table_view;
 mod table_tags;
 
-pub use l0_overlap::max_l0_overlap;
 pub use find_option::FindOption;
+pub use l0_overlap::max_l0_overlap;
 pub use plain::Plain;
 pub use sequence_tracker::SequenceTracker;
 pub use sorted_run::SortedRun;
@@ -30,5 +30,6 @@ mod run_tests;
 #[cfg(test)]
 mod test_values;
 #[cfg(test)]
-mod view_tests;
 mod tracker_tests;
+#[cfg(test)]
+mod view_tests;
