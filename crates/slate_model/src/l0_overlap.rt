@@ -117,7 +117,8 @@ fn most_open(starts: &[Bytes], ends: &[Bytes], limits: &[Bytes]) -> usize
     most
 }
 
-/// The greatest number of views whose effective ranges have one key, and 0 for no views. Each view shows a key. The starts and the
+/// The greatest number of views whose effective ranges have one key, and 0 for no views. Each view shows a key, as `all_show_keys`
+/// tells. The starts and the
 /// ends are sorted, and one pass over the starts counts how many views are open there.
 pub fn max_l0_overlap(alloc: Global, l0: &VecDeque<SsTableView>) -> Result<usize, OutOfMemory>
     requires { all_show l0.now.items ≡ true }

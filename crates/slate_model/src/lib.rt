@@ -16,6 +16,7 @@ mod table_tags;
 
 pub use find_option::FindOption;
 pub use l0_overlap::max_l0_overlap;
+pub use order::all_show_keys;
 pub use plain::Plain;
 pub use sequence_tracker::SequenceTracker;
 pub use sorted_run::SortedRun;

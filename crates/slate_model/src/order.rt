@@ -7,7 +7,8 @@ ghost use Rattle.slate_model.specs.Views.{View};
 
 use crate::ss_table_view::SsTableView;
 use bytes::Bytes;
-use slate_ids::{BytesRange, KeySpan};
+use slate_ids::BytesRange;
+use std::collections::VecDeque;
 use std::ops::Bound;
 
 /// Whether each view shows a key.
@@ -15,6 +16,18 @@ pub(crate) fn all_show(views: &[SsTableView]) -> bool
     ensures { result ≡ runs.all_show views.now }
 {
     views.iter().all(|view| view.shows_key())
+}
+
+/// Whether each view of L0 shows a key.
+pub fn all_show_keys(l0: &VecDeque<SsTableView>) -> bool
+    ensures { result ≡ runs.all_show l0.now.items }
+{
+    for i in 0..l0.len() {
+        if !l0[i].shows_key() {
+            return false;
+        }
+    }
+    true
 }
 
 /// Whether each view is of a compacted table.

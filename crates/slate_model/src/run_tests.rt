@@ -1,7 +1,7 @@
 //! Sorted runs, and how many views of L0 show one key.
 
 use crate::test_values::{closed, from, id, range_of, table, view};
-use crate::{Plain, SortedRun, SsTableView, max_l0_overlap};
+use crate::{Plain, SortedRun, SsTableView, all_show_keys, max_l0_overlap};
 use slate_ids::BytesRange;
 use std::alloc::Global;
 use std::collections::VecDeque;
@@ -81,7 +81,14 @@ fn slots_cover_ranges(rt: HostRuntime) -> Result<(), Fail> {
 fn slots_cover_keys(rt: HostRuntime) -> Result<(), Fail> {
     let alloc = rt.alloc();
     let run = three(alloc)?;
-    for (key, digits) in [("c", "12"), ("b", "1"), ("e", "2"), ("f", "3"), ("z", "3"), ("", "")] {
+    for (key, digits) in [
+        ("c", "12"),
+        ("b", "1"),
+        ("e", "2"),
+        ("f", "3"),
+        ("z", "3"),
+        ("", ""),
+    ] {
         assert!(rt; covers_key(alloc, &run, key, digits)?, "at {key}");
     }
     Ok(())
@@ -110,8 +117,16 @@ fn a_run_is_in_order_or_not(rt: HostRuntime) -> Result<(), Fail> {
 fn a_run_spans_its_views(rt: HostRuntime) -> Result<(), Fail> {
     let run = three(rt.alloc())?;
     assert_eq!(rt; run.estimate_size(), 360);
-    for (start, end, meets) in [("b", "b", true), ("ee", "ee", true), ("i", "j", false), ("A", "B", false)] {
-        assert!(rt; run.overlaps_range(&closed(start, end)?)? == meets, "at {start}");
+    for (start, end, meets) in [
+        ("b", "b", true),
+        ("ee", "ee", true),
+        ("i", "j", false),
+        ("A", "B", false),
+    ] {
+        assert!(rt;
+            run.overlaps_range(&closed(start, end)?)? == meets,
+            "at {start}"
+        );
     }
     Ok(())
 }
@@ -138,7 +153,15 @@ fn overlap(alloc: Global, ends: &[(&'static str, &'static str)]) -> Result<usize
     for (first, last) in ends {
         views.push_back(view(1, first, last))?;
     }
-    Ok(max_l0_overlap(alloc, &views)?)
+    most_of(alloc, &views)
+}
+
+fn most_of(alloc: Global, views: &VecDeque<SsTableView>) -> Result<usize, Fail> {
+    if all_show_keys(views) {
+        Ok(max_l0_overlap(alloc, views)?)
+    } else {
+        Err(Fail::from("a view without keys"))
+    }
 }
 
 #[test]
@@ -160,6 +183,6 @@ fn a_view_without_a_last_entry_goes_on(rt: HostRuntime) -> Result<(), Fail> {
     let mut open = table(2, "a", "a");
     open.info.last_entry = None;
     views.push_back(SsTableView::new(id(2), open))?;
-    assert_eq!(rt; max_l0_overlap(alloc, &views)?, 2);
+    assert_eq!(rt; most_of(alloc, &views)?, 2);
     Ok(())
 }

@@ -3,6 +3,7 @@
 use crate::{SsTableHandle, SsTableId, SsTableInfo, SsTableView};
 use bytes::Bytes;
 use slate_ids::{BytesRange, KeySpan, Ulid};
+use std::alloc::Global;
 use std::ops::Bound;
 use std::test::Fail;
 
@@ -37,6 +38,23 @@ pub(crate) fn range(start: Bound<Bytes>, end: Bound<Bytes>) -> Result<BytesRange
     } else {
         Err(Fail::from("no proper range"))
     }
+}
+
+fn owned(alloc: Global, bound: Bound<&str>) -> Result<Bound<Bytes>, Fail> {
+    Ok(match bound {
+        Bound::Included(key) => Bound::Included(Bytes::copy_from_slice(alloc, key.as_bytes())?),
+        Bound::Excluded(key) => Bound::Excluded(Bytes::copy_from_slice(alloc, key.as_bytes())?),
+        Bound::Unbounded => Bound::Unbounded,
+    })
+}
+
+/// The same of texts.
+pub(crate) fn range_of(
+    alloc: Global,
+    start: Bound<&str>,
+    end: Bound<&str>,
+) -> Result<BytesRange, Fail> {
+    range(owned(alloc, start)?, owned(alloc, end)?)
 }
 
 /// From a key to a key, both included.
