@@ -4,3 +4,7 @@ pub mod Runs
 pub mod Slots
 pub mod Overlap
 pub mod Sequences
+pub mod Segments
+pub mod Options
+pub mod Cores
+pub mod Manifests

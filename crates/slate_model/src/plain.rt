@@ -1,7 +1,8 @@
 //! Values that are copied and compared whole.
-ghost use Rattle.std.specs.Prelude.{◌≡◌, IfOk, IsTrue, ◌↔◌};
+ghost use Rattle.std.specs.Prelude.{◌≡◌, ◌++◌, IfOk, OnOk, IsTrue, ◌↔◌};
 
-use slate_ids::{BytesRange, Listed, OutOfMemory};
+use crate::ss_table_id::SsTableId;
+use slate_ids::{BytesRange, CheckpointId, DbPath, Listed, OutOfMemory, Text};
 use std::alloc::Global;
 
 /// A value of fields: it has an equal copy, and two are equal where all fields are.
@@ -25,14 +26,83 @@ impl Plain for BytesRange {
     }
 }
 
+impl Plain for Text {
+    fn clone(&self, alloc: Global) -> Result<Text, OutOfMemory> {
+        self.copy(alloc)
+    }
+
+    fn is(&self, other: &Text) -> bool {
+        self.as_str() == other.as_str()
+    }
+}
+
+impl Plain for CheckpointId {
+    fn clone(&self, _alloc: Global) -> Result<CheckpointId, OutOfMemory> {
+        Ok(*self)
+    }
+
+    fn is(&self, other: &CheckpointId) -> bool {
+        self.as_bytes().as_slice() == other.as_bytes().as_slice()
+    }
+}
+
+impl Plain for DbPath {
+    fn clone(&self, _alloc: Global) -> Result<DbPath, OutOfMemory> {
+        Ok(*self)
+    }
+
+    fn is(&self, other: &DbPath) -> bool {
+        self.letters() == other.letters()
+    }
+}
+
+impl Plain for SsTableId {
+    fn clone(&self, _alloc: Global) -> Result<SsTableId, OutOfMemory> {
+        Ok(*self)
+    }
+
+    fn is(&self, other: &SsTableId) -> bool {
+        self == other
+    }
+}
+
+impl<T: Plain + Drop> Plain for Option<T> {
+    fn clone(&self, alloc: Global) -> Result<Option<T>, OutOfMemory> {
+        match self {
+            Some(value) => Ok(Some(value.clone(alloc)?)),
+            None => Ok(None),
+        }
+    }
+
+    fn is(&self, other: &Option<T>) -> bool {
+        match (self, other) {
+            (Some(a), Some(b)) => a.is(b),
+            (None, None) => true,
+            _ => false,
+        }
+    }
+}
+
+// Adds equal values at the end.
+pub(crate) fn push_copies<T: Plain + Drop>(
+    alloc: Global,
+    copied: &mut Vec<T>,
+    items: &[T],
+) -> Result<(), OutOfMemory>
+    ensures { OnOk result (copied.new.items ≡ copied.old.items ++ items.now) }
+{
+    for item in items {
+        copied.push(item.clone(alloc)?)?;
+    }
+    Ok(())
+}
+
 // An equal list.
 fn copies<T: Plain + Drop>(alloc: Global, items: &[T]) -> Result<Vec<T>, OutOfMemory>
     ensures { IfOk result (λ copied. copied.items ≡ items.now) }
 {
     let mut copied = Vec::new(alloc);
-    for item in items {
-        copied.push(item.clone(alloc)?)?;
-    }
+    push_copies(alloc, &mut copied, items)?;
     Ok(copied)
 }
 
