@@ -7,3 +7,5 @@ pub mod Counting
 pub mod Overlaps
 pub mod Ascents
 pub mod Trackers
+pub mod Joined
+pub mod Latest

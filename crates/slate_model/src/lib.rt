@@ -14,6 +14,7 @@ mod external_db;
 mod lsm_tree_state;
 mod manifest;
 mod manifest_core;
+mod owned_tables;
 mod plain;
 mod queue;
 mod segment;
@@ -24,7 +25,9 @@ mod ss_table_id;
 mod ss_table_info;
 mod ss_table_view;
 mod table_tags;
+mod trees;
 mod versioned_manifest;
+mod watermark;
 
 pub use find_option::FindOption;
 pub use l0_overlap::max_l0_overlap;
@@ -54,4 +57,5 @@ mod test_values;
 mod tracker_tests;
 #[cfg(test)]
 mod view_tests;
+pub use trees::Trees;
 pub use versioned_manifest::VersionedManifest;
