@@ -9,3 +9,4 @@ pub mod Ascents
 pub mod Trackers
 pub mod Joined
 pub mod Latest
+pub mod Ascending

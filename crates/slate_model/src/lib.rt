@@ -18,6 +18,7 @@ mod owned_tables;
 mod plain;
 mod queue;
 mod segment;
+mod segment_search;
 mod sequence_tracker;
 mod sorted_run;
 mod ss_table_handle;

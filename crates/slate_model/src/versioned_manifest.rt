@@ -1,5 +1,6 @@
 //! A version of a database's log.
 ghost use Rattle.std.specs.Prelude.{◌≡◌, option_copied};
+ghost use Rattle.slate_model.specs.Segments.{IsAscending, segment_at};
 
 use crate::checkpoint::Checkpoint;
 use crate::external_db::ExternalDb;
@@ -7,6 +8,7 @@ use crate::manifest::Manifest;
 use crate::manifest_core::ManifestCore;
 use crate::plain::Plain;
 use crate::segment::Segment;
+use crate::segment_search::segment_of;
 use crate::sequence_tracker::SequenceTracker;
 use crate::sorted_run::SortedRun;
 use crate::ss_table_view::SsTableView;
@@ -175,11 +177,19 @@ impl VersionedManifest {
         text_of(&self.core().segment_extractor_name)
     }
 
-    /// The segments, ascending by prefix.
+    /// The segments, ascending by prefix. No prefix is empty.
     pub fn segments(&self) -> &[Segment]
-        ensures { result.now ≡ self.now.manifest.core.segments }
+        ensures segments { result.now ≡ self.now.manifest.core.segments }
+        ensures ascending { IsAscending self.now.manifest.core.segments }
     {
         self.core().segments()
+    }
+
+    /// The segment of exactly this prefix.
+    pub fn segment(&self, prefix: &[u8]) -> Option<&Segment>
+        ensures { option_copied result ≡ segment_at prefix.now self.now.manifest.core.segments }
+    {
+        segment_of(self.segments(), prefix)
     }
 
     /// The moment, in milliseconds since the Unix epoch, that no new table may be older than.
