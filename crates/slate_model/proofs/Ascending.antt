@@ -87,6 +87,7 @@ found p last (s ∷ ss) a = by (key_lt s.prefix p) refl (found p s.prefix ss res
   where
     rest : ascend_from s.prefix ss ≡ true
     rest = (both (key_lt last s.prefix) (ascend_from s.prefix ss) a).1
+
     by : (b : Bool) → key_lt s.prefix p ≡ b → segment_at p ss ≡ exactly p (slice_get ss (place_of p ss)) → segment_at p (s ∷ ss) ≡ exactly p (slice_get (s ∷ ss) (if b then 1 + place_of p ss else 0))
     by true e later = ap (λ b. if b then Some s else segment_at p ss) (is_lower s.prefix p e) ∙ later ∙ ap (λ i. exactly p (slice_get (s ∷ ss) i)) (one_more (place_of p ss))
     by false e later = ap (λ o. if bytes_eq s.prefix p then Some s else o) (none_above p s.prefix ss rest e)

@@ -60,3 +60,10 @@ mod tracker_tests;
 mod view_tests;
 pub use trees::Trees;
 pub use versioned_manifest::VersionedManifest;
+
+#[cfg(test)]
+mod equality_tests;
+#[cfg(test)]
+mod manifest_tests;
+#[cfg(test)]
+mod watermark_tests;

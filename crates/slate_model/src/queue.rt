@@ -61,6 +61,13 @@ impl<T> Queue<T> {
         self.items.as_slices()
     }
 
+    /// The values as a deque. Takes no memory.
+    pub fn into_deque(self) -> VecDeque<T>
+        ensures { result.items ≡ self }
+    {
+        self.items
+    }
+
     /// Adds a value at the end. Want of memory changes nothing.
     pub fn push_back(&mut self, item: T) -> Result<(), OutOfMemory>
     where

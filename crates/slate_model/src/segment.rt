@@ -1,5 +1,6 @@
 //! A segment of a database.
 ghost use Rattle.std.specs.Prelude.{◌≡◌};
+ghost use Rattle.slate_model.specs.Segments as ascending;
 
 use crate::lsm_tree_state::LsmTreeState;
 use crate::plain::Plain;
@@ -76,6 +77,23 @@ impl Segment {
         ensures { result ≡ self.now.tree.last_compacted_l0_sst_id }
     {
         self.tree.last_compacted_l0_sst_id
+    }
+}
+
+impl Segment {
+    /// Whether no prefix is empty and the prefixes ascend strictly, as those of a manifest do. Takes no memory.
+    pub fn are_ascending(segments: &[Segment]) -> bool
+        ensures { result ≡ ascending.are_ascending segments.now }
+    {
+        let mut last: &[u8] = &[];
+        for segment in segments {
+            let prefix = segment.prefix().as_slice();
+            if !last.cmp(prefix).is_lt() {
+                return false;
+            }
+            last = prefix;
+        }
+        true
     }
 }
 
