@@ -1,8 +1,3 @@
-pub mod Tables
-pub mod Views
-pub mod Runs
-pub mod Slots
-pub mod Overlap
 pub mod Sequences
 pub mod Segments
 pub mod Options

@@ -1,10 +1,10 @@
 -- The watermark: the greatest moment of a flushed table, and the floor that it raises.
 use Rattle.std.specs.Prelude.{ℕ, max, nat_lt, List, [], ◌∷◌, map, Option, Some, None, option_to_list, if◌then◌else◌}
 use Rattle.std.specs.List.{flat_map, filter_map}
-use Rattle.slate_model.specs.declared.ss_table_id.SsTableId.{SsTableId}
-use Rattle.slate_model.specs.declared.ss_table_id.SsTableId.TheVariants.{Wal, Compacted}
+use Rattle.slate_tables.specs.declared.ss_table_id.SsTableId.{SsTableId}
+use Rattle.slate_tables.specs.declared.ss_table_id.SsTableId.TheVariants.{Wal, Compacted}
 use Rattle.slate_model.specs.declared.lsm_tree_state.LsmTreeState.{LsmTreeState}
-use Rattle.slate_model.specs.Views.{View}
+use Rattle.slate_tables.specs.Views.{View}
 use Rattle.slate_model.specs.Cores.{Core}
 use Rattle.slate_model.specs.Trees.{trees_of}
 

@@ -2,8 +2,8 @@
 ghost use Rattle.std.specs.Prelude.{◌≡◌};
 ghost use Rattle.slate_model.specs.Options.{no_options};
 
-use crate::plain::Plain;
 use slate_ids::{CheckpointId, Millis, OutOfMemory, Text};
+use slate_tables::Plain;
 use std::alloc::Global;
 
 /// A checkpoint: while it stands in the greatest manifest, the version that it names is needed.

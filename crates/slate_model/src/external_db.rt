@@ -1,8 +1,7 @@
 //! What a database shares with another.
 
-use crate::plain::Plain;
-use crate::ss_table_id::SsTableId;
 use slate_ids::{CheckpointId, DbPath, Listed, OutOfMemory};
+use slate_tables::{Plain, SsTableId};
 use std::alloc::Global;
 
 /// An entry of a manifest: another database, of whose tables this one uses some.

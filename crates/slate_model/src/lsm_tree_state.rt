@@ -2,11 +2,8 @@
 ghost use Rattle.std.specs.Prelude.{◌≡◌};
 ghost use Rattle.slate_model.specs.Cores.{empty_tree};
 
-use crate::plain::Plain;
-use crate::queue::Queue;
-use crate::sorted_run::SortedRun;
-use crate::ss_table_view::SsTableView;
 use slate_ids::{Listed, OutOfMemory, Ulid};
+use slate_tables::{Plain, Queue, SortedRun, SsTableView};
 use std::alloc::Global;
 
 /// A tree: the tables that flushes wrote, and the sorted runs that compactions made of them.

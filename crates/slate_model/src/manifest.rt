@@ -4,8 +4,8 @@ ghost use Rattle.slate_model.specs.Manifests.{initial_manifest};
 
 use crate::external_db::ExternalDb;
 use crate::manifest_core::ManifestCore;
-use crate::plain::Plain;
 use slate_ids::{Listed, OutOfMemory};
+use slate_tables::Plain;
 use std::alloc::Global;
 
 /// What a version of a database's log holds.

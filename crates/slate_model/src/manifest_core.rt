@@ -5,10 +5,10 @@ ghost use Rattle.slate_model.specs.Cores.{new_core};
 
 use crate::checkpoint::Checkpoint;
 use crate::lsm_tree_state::LsmTreeState;
-use crate::plain::Plain;
 use crate::segment::Segment;
 use crate::sequence_tracker::SequenceTracker;
 use slate_ids::{Listed, OutOfMemory, Text};
+use slate_tables::Plain;
 use std::alloc::Global;
 use std::marker::Model;
 

@@ -3,11 +3,9 @@ ghost use Rattle.std.specs.Prelude.{◌≡◌};
 ghost use Rattle.slate_model.specs.Segments as ascending;
 
 use crate::lsm_tree_state::LsmTreeState;
-use crate::plain::Plain;
-use crate::sorted_run::SortedRun;
-use crate::ss_table_view::SsTableView;
 use bytes::Bytes;
 use slate_ids::{OutOfMemory, Ulid};
+use slate_tables::{Plain, SortedRun, SsTableView};
 use std::alloc::Global;
 use std::collections::VecDeque;
 use std::marker::Model;

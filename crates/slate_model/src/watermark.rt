@@ -5,9 +5,8 @@ ghost use Rattle.slate_model.specs.Watermark.{timed_id, timed_ids, flushed_of_tr
 
 use crate::lsm_tree_state::LsmTreeState;
 use crate::manifest_core::ManifestCore;
-use crate::ss_table_id::SsTableId;
-use crate::ss_table_view::SsTableView;
 use slate_ids::Ulid;
+use slate_tables::{SsTableId, SsTableView};
 use std::collections::VecDeque;
 
 // The id of a table that has one.

@@ -1,0 +1,7 @@
+use Rattle.std.proofs.Common.{rules, sym, subst, List, ℕ}
+use Rattle.std.specs.List.Sorted.{IsPermutation}
+use Rattle.slate_tables.proofs.Overlaps.{is_greatest}
+use Rattle.slate_tables.proofs.l0_overlap.max_l0_overlap.Goals as goal
+
+pub returns : goal.returns
+returns c = is_greatest c.args.l0.now.items _ _ _ c.most_open.result c.requires (record { start_order = search rules; end_order = search rules; limit_order = search rules }) (search rules) c.most_open.ensures

@@ -1,0 +1,45 @@
+//! A table as it lies in the store.
+ghost use Rattle.std.specs.Prelude.{◌≡◌};
+ghost use Rattle.slate_tables.specs.Tables.{table_size};
+
+use crate::plain::Plain;
+use crate::ss_table_id::SsTableId;
+use crate::ss_table_info::SsTableInfo;
+use slate_ids::OutOfMemory;
+use std::alloc::Global;
+
+/// A table as it lies in the store.
+#[derive(Debug, Drop)]
+pub struct SsTableHandle {
+    /// Which table.
+    pub id: SsTableId,
+    /// The version of the format that it is written in.
+    pub format_version: u16,
+    /// What is known of it.
+    pub info: SsTableInfo,
+}
+
+impl SsTableHandle {
+    /// About how many bytes the table has: up to the end of its index, which is written last. The sum saturates.
+    pub fn estimate_size(&self) -> u64
+        ensures { result ≡ table_size self.now }
+    {
+        self.info.index_offset.saturating_add(self.info.index_len)
+    }
+}
+
+impl Plain for SsTableHandle {
+    fn clone(&self, alloc: Global) -> Result<SsTableHandle, OutOfMemory> {
+        Ok(SsTableHandle {
+            id: self.id,
+            format_version: self.format_version,
+            info: self.info.clone(alloc)?,
+        })
+    }
+
+    fn is(&self, other: &SsTableHandle) -> bool {
+        self.id == other.id
+            && self.format_version == other.format_version
+            && self.info.is(&other.info)
+    }
+}
