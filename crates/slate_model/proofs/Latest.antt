@@ -1,5 +1,5 @@
 -- The latest of ids, part by part.
-use Rattle.std.specs.Prelude.{ℕ, max, nat_lt, Bool, true, false, List, [], ◌∷◌, ◌++◌, map, Option, Some, None, if◌then◌else◌}
+use Rattle.std.specs.Prelude.{ℕ, max, List, [], ◌∷◌, ◌++◌, map, Option, Some, None}
 use Rattle.std.proofs.Common.{◌≡◌, refl, ◌∙◌, ap, sym, arith}
 use Rattle.std.proofs.lemmas.Bool.Decides.{nat_tests}
 use Rattle.slate_model.specs.Watermark.{later, latest, moment_of, greatest}

@@ -8,6 +8,7 @@ mod lsm_tree_state;
 mod manifest;
 mod manifest_core;
 mod owned_tables;
+mod pruned_entries;
 mod segment;
 mod segment_search;
 mod sequence_tracker;

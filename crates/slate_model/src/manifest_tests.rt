@@ -130,9 +130,8 @@ fn first_version(alloc: Global) -> VersionedManifest {
 #[test]
 fn begins_with_no_numbers(rt: HostRuntime) {
     let first = first_version(rt.alloc());
-    assert!(rt; first.initialized() && first.next_wal_sst_id() == 1);
+    assert!(rt; first.id() == 1 && first.initialized() && first.next_wal_sst_id() == 1);
     let numbers = [
-        first.id() - 1,
         first.writer_epoch(),
         first.compactor_epoch(),
         first.replay_after_wal_id(),
@@ -140,7 +139,7 @@ fn begins_with_no_numbers(rt: HostRuntime) {
         first.recent_snapshot_min_seq(),
         first.floor(),
     ];
-    assert!(rt; numbers == [0; 7]);
+    assert!(rt; numbers == [0; 6]);
     assert!(rt; first.last_l0_clock_tick() == i64::MIN);
 }
 
@@ -204,10 +203,10 @@ fn finds_the_segment_of_a_prefix(rt: HostRuntime) -> Result<(), OutOfMemory> {
     let first = version.segment(b"a").ok_or(OutOfMemory)?;
     assert!(rt; first.prefix().as_slice() == b"a".as_slice() && first.l0().len() == 1);
     let second = version.segment(b"c").ok_or(OutOfMemory)?;
-    assert!(rt; second.l0().is_empty() && second.compacted()[0].sst_views().len() == 2);
+    assert!(rt; second.l0().is_empty() && second.compacted().len() == 1);
     assert!(rt; second.last_compacted_l0_sst_view_id() == None);
     assert!(rt;
-        second.last_compacted_l0_sst_id() == None && second.tree().compacted.as_slice().len() == 1
+        second.last_compacted_l0_sst_id() == None && second.tree().l0.as_deque().is_empty()
     );
     for other in ["", "aa", "b", "d"] {
         assert!(rt; version.segment(other.as_bytes()).is_none(), "at {other}");

@@ -3,20 +3,19 @@ ghost use Rattle.std.specs.Prelude.{◌≡◌, ◌++◌, IfOk, OnOk, map, filter
 ghost use Rattle.std.specs.List.{list_any, flat_map};
 ghost use Rattle.slate_model.specs.Trees.{views_of_tree, tables_of_views};
 ghost use Rattle.slate_model.specs.Externals as externals;
-ghost use Rattle.slate_model.specs.Externals.{owned, external, pruned, shared_by};
+ghost use Rattle.slate_model.specs.Externals.{owned, external, shared_by};
 
 use crate::external_db::ExternalDb;
 use crate::lsm_tree_state::LsmTreeState;
 use crate::manifest::Manifest;
-use crate::manifest_core::ManifestCore;
-use slate_ids::{DbPath, Listed, OutOfMemory};
-use slate_tables::{SortedRun, SsTableId, SsTableView};
+use slate_tables::SortedRun;
+use slate_tables::SsTableId;
+use slate_tables::SsTableView;
+use slate_ids::{DbPath, OutOfMemory};
 use std::alloc::Global;
-use std::collections::VecDeque;
-use std::mem;
 
-// Whether two ids are of one table.
-fn same_table(a: &SsTableId, b: &SsTableId) -> bool
+/// Whether two ids are of one table.
+pub(crate) fn same_table(a: &SsTableId, b: &SsTableId) -> bool
     ensures { result ≡ externals.same_table a.now b.now }
 {
     match (a, b) {
@@ -40,7 +39,7 @@ fn lists(id: &SsTableId, entry: &ExternalDb) -> bool
 }
 
 // Whether one of these entries lists this table.
-fn are_listing(id: &SsTableId, entries: &[ExternalDb]) -> bool
+fn is_listed(id: &SsTableId, entries: &[ExternalDb]) -> bool
     ensures { result ≡ list_any (externals.lists id.now) entries.now }
 {
     entries.iter().any(|entry| lists(id, entry))
@@ -50,7 +49,7 @@ fn are_listing(id: &SsTableId, entries: &[ExternalDb]) -> bool
 fn is_owned(entries: &[ExternalDb], id: &SsTableId) -> bool
     ensures { result ≡ externals.is_owned entries.now id.now }
 {
-    !are_listing(id, entries)
+    !is_listed(id, entries)
 }
 
 // Adds the owned tables of these views.
@@ -107,79 +106,6 @@ fn push_shared(shared: &mut Vec<(SsTableId, DbPath)>, entry: &ExternalDb) -> Res
     Ok(())
 }
 
-// Whether one of these views is of this table.
-fn has_view(views: &[SsTableView], id: &SsTableId) -> bool
-    ensures { result ≡ list_any (externals.is_of id.now) views.now }
-{
-    views.iter().any(|view| same_table(id, &view.sst.id))
-}
-
-// Whether a view of these runs is of this table.
-fn runs_have_view(runs: &[SortedRun], id: &SsTableId) -> bool
-    ensures { result ≡ list_any (λ run. list_any (externals.is_of id.now) run.views) runs.now }
-{
-    runs.iter().any(|run| has_view(run.sst_views(), id))
-}
-
-// Whether one of these views is of this table.
-fn queue_has_view(views: &VecDeque<SsTableView>, id: &SsTableId) -> bool
-    ensures { result ≡ list_any (externals.is_of id.now) views.now.items }
-{
-    views.iter().any(|view| same_table(id, &view.sst.id))
-}
-
-// Whether a view of a tree is of this table.
-fn tree_has_view(tree: &LsmTreeState, id: &SsTableId) -> bool
-    ensures { result ≡ list_any (externals.is_of id.now) (views_of_tree tree.now) }
-{
-    queue_has_view(tree.l0.as_deque(), id) || runs_have_view(tree.compacted.as_slice(), id)
-}
-
-// Whether a view of any tree is of this table.
-fn is_used(core: &ManifestCore, id: &SsTableId) -> bool
-    ensures { result ≡ externals.is_used core.now id.now }
-{
-    for tree in core.trees() {
-        if tree_has_view(tree, id) {
-            return true;
-        }
-    }
-    false
-}
-
-// The values of a list, which has none then.
-fn taken<T>(list: &mut Listed<T>) -> Vec<T>
-    ensures { result.items ≡ list.old }
-{
-    let alloc = *list.as_vec().allocator();
-    mem::replace(list, Listed::new(alloc)).into_vec()
-}
-
-// Leaves out the tables that no view uses.
-fn keep_used(core: &ManifestCore, ids: &mut Vec<SsTableId>)
-    ensures { ids.new.items ≡ filter (externals.is_used core.now) ids.old.items }
-{
-    ids.retain(|id| is_used(core, id));
-}
-
-// Leaves out of an entry the tables that no view uses.
-fn prune(core: &ManifestCore, entry: &mut ExternalDb)
-    ensures { entry.new ≡ externals.pruned_entry core.now entry.old }
-{
-    let mut ids = taken(&mut entry.sst_ids);
-    keep_used(core, &mut ids);
-    entry.sst_ids = Listed::from_vec(ids);
-}
-
-// Leaves out of each entry the tables that no view uses.
-fn prune_all(core: &ManifestCore, entries: &mut [ExternalDb])
-    ensures { entries.new ≡ map (externals.pruned_entry core.now) entries.old }
-{
-    for entry in entries.iter_mut() {
-        prune(core, entry);
-    }
-}
-
 impl Manifest {
     /// The tables of views that no entry of another database lists, as often as views are of them: tree by tree, those that flushes
     /// wrote first, the newest before the others, then those of the sorted runs.
@@ -202,14 +128,5 @@ impl Manifest {
             push_shared(&mut shared, entry)?;
         }
         Ok(shared)
-    }
-
-    /// Leaves out of each entry the tables that no view of this manifest uses. An entry stays, also without tables. Takes no memory.
-    pub fn prune_external_sst_ids(&mut self)
-        ensures { self.new ≡ pruned self.old }
-    {
-        let mut entries = taken(&mut self.external_dbs);
-        prune_all(&self.core, entries.as_mut_slice());
-        self.external_dbs = Listed::from_vec(entries);
     }
 }

@@ -1,4 +1,4 @@
-use Rattle.std.proofs.Common.{◌≡◌, [], rules}
+use Rattle.std.proofs.Common.{[], rules}
 use Rattle.std.proofs.lemmas.List.Sorted.{IsPartitionPoint-from_clause}
 use Rattle.slate_model.proofs.Ascending.{before, parted, place_is}
 use Rattle.slate_model.proofs.segment_search.place_of.Goals as goal

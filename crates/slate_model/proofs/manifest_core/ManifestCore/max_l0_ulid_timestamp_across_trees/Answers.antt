@@ -1,4 +1,4 @@
-use Rattle.std.proofs.Common.{◌≡◌, arith, ◌∙◌, sym}
+use Rattle.std.proofs.Common.{arith}
 use Rattle.std.proofs.lemmas.Grind.{common_steps}
 use Rattle.slate_model.proofs.Latest.{later-assoc, later-none, latest-append, moment-latest}
 use Rattle.slate_model.specs.Watermark.{flushed_of}

@@ -1,6 +1,6 @@
 use Rattle.std.proofs.Common.{◌≡◌, ◌++◌, take, drop, map}
 use Rattle.slate_model.specs.Externals.{pruned_entry}
-use Rattle.slate_model.proofs.owned_tables.prune_all.Given as goal
+use Rattle.slate_model.proofs.pruned_entries.prune_all.Given as goal
 
 -- the entries so far are pruned, and the others as they were
 abbrev pub invariant-loop-entry : goal.invariant-loop-entry
