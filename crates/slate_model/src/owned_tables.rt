@@ -8,10 +8,8 @@ ghost use Rattle.slate_model.specs.Externals.{owned, external, shared_by};
 use crate::external_db::ExternalDb;
 use crate::lsm_tree_state::LsmTreeState;
 use crate::manifest::Manifest;
-use slate_tables::SortedRun;
-use slate_tables::SsTableId;
-use slate_tables::SsTableView;
 use slate_ids::{DbPath, OutOfMemory};
+use slate_tables::{SortedRun, SsTableId, SsTableView};
 use std::alloc::Global;
 
 /// Whether two ids are of one table.

@@ -10,10 +10,8 @@ use crate::lsm_tree_state::LsmTreeState;
 use crate::manifest::Manifest;
 use crate::manifest_core::ManifestCore;
 use crate::owned_tables::same_table;
-use slate_tables::SortedRun;
-use slate_tables::SsTableId;
-use slate_tables::SsTableView;
 use slate_ids::Listed;
+use slate_tables::{SortedRun, SsTableId, SsTableView};
 use std::collections::VecDeque;
 use std::mem;
 
