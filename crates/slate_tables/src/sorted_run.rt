@@ -61,9 +61,9 @@ impl SortedRun {
     }
 
     /// Whether the keys from the start of the first view's effective range to the end of the last view's meet the range; a run without
-    /// views has none.
+    /// views has none. Takes no memory.
     pub fn overlaps_range(&self, range: &BytesRange) -> Result<bool, OutOfMemory>
-        ensures { IfOk result (λ b. b ≡ spans_meet self.now.views range.now) }
+        ensures { result ≡ Ok (spans_meet self.now.views range.now) }
     {
         let none = BytesRange::new_empty();
         let views = self.sst_views();

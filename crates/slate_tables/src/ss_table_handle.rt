@@ -7,6 +7,7 @@ use crate::ss_table_id::SsTableId;
 use crate::ss_table_info::SsTableInfo;
 use slate_ids::OutOfMemory;
 use std::alloc::Global;
+use std::convert::AsRef;
 
 /// A table as it lies in the store.
 #[derive(Debug, Drop)]
@@ -25,6 +26,14 @@ impl SsTableHandle {
         ensures { result ≡ table_size self.now }
     {
         self.info.index_offset.saturating_add(self.info.index_len)
+    }
+}
+
+impl AsRef<SsTableHandle> for SsTableHandle {
+    fn as_ref(&self) -> &SsTableHandle
+        ensures { result.now ≡ self.now }
+    {
+        self
     }
 }
 

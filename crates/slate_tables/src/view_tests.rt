@@ -8,6 +8,7 @@ use crate::{
 use bytes::Bytes;
 use slate_ids::{BytesRange, Ulid};
 use std::alloc::Global;
+use std::convert::AsRef;
 use std::ops::Bound;
 use std::test::Fail;
 
@@ -44,6 +45,8 @@ fn a_copy_of_a_table_is_equal(rt: HostRuntime) -> Result<(), Fail> {
     assert!(rt; handle.is(&copy));
     assert!(rt; !handle.is(&table(2, "a", "z")));
     assert!(rt; !handle.is(&table(1, "a", "y")));
+    let same: &SsTableHandle = handle.as_ref();
+    assert!(rt; same.is(&copy));
     Ok(())
 }
 
