@@ -2,3 +2,4 @@ pub mod Trackers
 pub mod Joined
 pub mod Latest
 pub mod Ascending
+pub mod Nestings

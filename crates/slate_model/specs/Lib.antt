@@ -6,3 +6,4 @@ pub mod Manifests
 pub mod Trees
 pub mod Watermark
 pub mod Externals
+pub mod Nesting

@@ -7,6 +7,7 @@ mod find_option;
 mod lsm_tree_state;
 mod manifest;
 mod manifest_core;
+mod nesting;
 mod owned_tables;
 mod pruned_entries;
 mod segment;
@@ -35,6 +36,8 @@ pub use versioned_manifest::VersionedManifest;
 mod equality_tests;
 #[cfg(test)]
 mod manifest_tests;
+#[cfg(test)]
+mod nesting_tests;
 #[cfg(test)]
 mod tracker_tests;
 #[cfg(test)]

@@ -24,7 +24,7 @@ pub(crate) fn place_of(segments: &[Segment], prefix: &[u8]) -> usize
 
 // The segment at a place, where there is one.
 #[tactic(auto, using(std::proofs::lemmas::Option::slice_get_read, std::proofs::lemmas::Option::slice_get_past))]
-fn segment_from(segments: &[Segment], place: usize) -> Option<&Segment>
+pub(crate) fn segment_from(segments: &[Segment], place: usize) -> Option<&Segment>
     ensures { option_copied result ≡ slice_get segments.now place }
 {
     if place < segments.len() {
