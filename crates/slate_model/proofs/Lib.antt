@@ -1,5 +1,0 @@
-pub mod Trackers
-pub mod Joined
-pub mod Latest
-pub mod Ascending
-pub mod Nestings

@@ -1,9 +1,0 @@
-pub mod Sequences
-pub mod Segments
-pub mod Options
-pub mod Cores
-pub mod Manifests
-pub mod Trees
-pub mod Watermark
-pub mod Externals
-pub mod Nesting
