@@ -15,7 +15,7 @@ mod table_tags;
 
 pub use l0_overlap::max_l0_overlap;
 pub use order::all_show_keys;
-pub use plain::Plain;
+pub use plain::{Plain, are_same, copies};
 pub use queue::Queue;
 pub use sorted_run::SortedRun;
 pub use ss_table_handle::SsTableHandle;
@@ -24,6 +24,8 @@ pub use ss_table_info::SsTableInfo;
 pub use ss_table_view::SsTableView;
 pub use table_tags::{CompressionTag, FilterFormat, SstType};
 
+#[cfg(test)]
+mod queue_tests;
 #[cfg(test)]
 mod run_tests;
 #[cfg(test)]

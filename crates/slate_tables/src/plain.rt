@@ -97,8 +97,8 @@ pub(crate) fn push_copies<T: Plain + Drop>(
     Ok(())
 }
 
-// An equal list.
-fn copies<T: Plain + Drop>(alloc: Global, items: &[T]) -> Result<Vec<T>, OutOfMemory>
+/// An equal list.
+pub fn copies<T: Plain + Drop>(alloc: Global, items: &[T]) -> Result<Vec<T>, OutOfMemory>
     ensures { IfOk result (λ copied. copied.items ≡ items.now) }
 {
     let mut copied = Vec::new(alloc);
@@ -106,8 +106,8 @@ fn copies<T: Plain + Drop>(alloc: Global, items: &[T]) -> Result<Vec<T>, OutOfMe
     Ok(copied)
 }
 
-// Whether two lists have the same values, one by one.
-fn are_same<T: Plain>(a: &[T], b: &[T]) -> bool
+/// Whether two lists have the same values, one by one. Takes no memory.
+pub fn are_same<T: Plain>(a: &[T], b: &[T]) -> bool
     ensures { IsTrue result ↔ a.now ≡ b.now }
 {
     if a.len() != b.len() {

@@ -1,0 +1,14 @@
+pub mod Sequences
+pub mod Segments
+pub mod Options
+pub mod Cores
+pub mod Manifests
+pub mod Trees
+pub mod Watermark
+pub mod Externals
+pub mod Nesting
+pub mod Insertion
+pub mod Lending
+pub mod Validation
+pub mod Selection
+pub mod Reach

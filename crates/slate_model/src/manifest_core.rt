@@ -1,0 +1,144 @@
+//! What a manifest says of its database.
+ghost use Rattle.std.specs.Prelude.{◌≡◌, IfOk, IsTrue, ◌↔◌};
+ghost use Rattle.slate_model.specs.Segments.{IsAscending};
+ghost use Rattle.slate_model.specs.Cores.{new_core};
+
+use crate::checkpoint::Checkpoint;
+use crate::lsm_tree_state::LsmTreeState;
+use crate::segment::Segment;
+use crate::segments::Segments;
+use crate::sequence_tracker::SequenceTracker;
+use slate_ids::{Listed, OutOfMemory, Text};
+use slate_tables::Plain;
+use std::alloc::Global;
+use std::marker::Model;
+
+/// What a manifest says of its database. The prefixes of its segments ascend strictly, and none is empty.
+#[derive(Debug, Drop)]
+pub struct ManifestCore {
+    /// Whether the database is ready for use.
+    pub initialized: bool,
+    /// The tree of the keys that are in no segment.
+    pub tree: LsmTreeState,
+    pub(crate) segments: Segments,
+    /// What finds the segments of keys.
+    pub segment_extractor_name: Option<Text>,
+    /// The store of the write-ahead log, where it is another.
+    pub wal_object_store_uri: Option<Text>,
+    /// The number of the next file of the write-ahead log.
+    pub next_wal_sst_id: u64,
+    /// The last file of the write-ahead log whose rows are all in tables.
+    pub replay_after_wal_id: u64,
+    /// The last sequence number of the newest flushed table.
+    pub last_l0_seq: u64,
+    /// The least sequence number that a snapshot may still need.
+    pub recent_snapshot_min_seq: u64,
+    /// The moment, in milliseconds since the Unix epoch, that no new table may be older than.
+    pub floor: u64,
+    /// The last clock tick of the newest flushed table, in milliseconds.
+    pub last_l0_clock_tick: i64,
+    /// Moments of sequence numbers.
+    pub sequence_tracker: SequenceTracker,
+    /// The versions that are kept, by the checkpoints that name them.
+    pub checkpoints: Listed<Checkpoint>,
+}
+
+impl Model for ManifestCore {
+    ghost use Rattle.slate_model.specs.Cores.{Core};
+
+    ghost Value = { Core };
+
+    ghost view = { λ a. record { initialized = a.initialized; tree = a.tree; segments = a.segments; segment_extractor_name = a.segment_extractor_name; wal_object_store_uri = a.wal_object_store_uri; next_wal_sst_id = a.next_wal_sst_id; replay_after_wal_id = a.replay_after_wal_id; last_l0_seq = a.last_l0_seq; recent_snapshot_min_seq = a.recent_snapshot_min_seq; floor = a.floor; last_l0_clock_tick = a.last_l0_clock_tick; sequence_tracker = a.sequence_tracker; checkpoints = a.checkpoints } };
+
+    ghost inverse = { λ d. record { initialized = d.initialized; tree = d.tree; segments = d.segments; segment_extractor_name = d.segment_extractor_name; wal_object_store_uri = d.wal_object_store_uri; next_wal_sst_id = d.next_wal_sst_id; replay_after_wal_id = d.replay_after_wal_id; last_l0_seq = d.last_l0_seq; recent_snapshot_min_seq = d.recent_snapshot_min_seq; floor = d.floor; last_l0_clock_tick = d.last_l0_clock_tick; sequence_tracker = d.sequence_tracker; checkpoints = d.checkpoints } };
+}
+
+impl ManifestCore {
+    /// What the manifest of a new database says. Takes no memory.
+    pub fn new(alloc: Global) -> ManifestCore
+        ensures { result ≡ new_core }
+    {
+        ManifestCore {
+            initialized: true,
+            tree: LsmTreeState::new(alloc),
+            segments: Segments::new(alloc),
+            segment_extractor_name: None,
+            wal_object_store_uri: None,
+            next_wal_sst_id: 1,
+            replay_after_wal_id: 0,
+            last_l0_seq: 0,
+            recent_snapshot_min_seq: 0,
+            floor: 0,
+            last_l0_clock_tick: i64::MIN,
+            sequence_tracker: SequenceTracker::new(alloc),
+            checkpoints: Listed::new(alloc),
+        }
+    }
+
+    /// The segments, ascending by prefix. No prefix is empty.
+    pub fn segments(&self) -> &[Segment]
+        ensures segments { result.now ≡ self.now.segments }
+        ensures ascending { IsAscending self.now.segments }
+    {
+        self.segments.as_slice()
+    }
+
+    /// Puts other segments in place of the segments. No prefix is empty, and the prefixes ascend strictly. Takes no memory.
+    pub fn set_segments(&mut self, segments: Vec<Segment>)
+        requires ascending { IsAscending segments.items }
+        ensures { self.new ≡ record self.old { segments = segments.items } }
+    {
+        self.segments = Segments::from_vec(segments);
+    }
+}
+
+// Whether all numbers are equal.
+fn same_numbers(a: &ManifestCore, b: &ManifestCore) -> bool
+    ensures { IsTrue result
+        ↔ ((a.now.next_wal_sst_id ≡ b.now.next_wal_sst_id)
+        × (a.now.replay_after_wal_id ≡ b.now.replay_after_wal_id)
+        × (a.now.last_l0_seq ≡ b.now.last_l0_seq)
+        × (a.now.recent_snapshot_min_seq ≡ b.now.recent_snapshot_min_seq)
+        × (a.now.floor ≡ b.now.floor)
+        × (a.now.last_l0_clock_tick ≡ b.now.last_l0_clock_tick)) }
+{
+    a.next_wal_sst_id == b.next_wal_sst_id
+        && a.replay_after_wal_id == b.replay_after_wal_id
+        && a.last_l0_seq == b.last_l0_seq
+        && a.recent_snapshot_min_seq == b.recent_snapshot_min_seq
+        && a.floor == b.floor
+        && a.last_l0_clock_tick == b.last_l0_clock_tick
+}
+
+impl Plain for ManifestCore {
+    fn clone(&self, alloc: Global) -> Result<ManifestCore, OutOfMemory> {
+        Ok(ManifestCore {
+            initialized: self.initialized,
+            tree: self.tree.clone(alloc)?,
+            segments: self.segments.clone(alloc)?,
+            segment_extractor_name: Plain::clone(&self.segment_extractor_name, alloc)?,
+            wal_object_store_uri: Plain::clone(&self.wal_object_store_uri, alloc)?,
+            next_wal_sst_id: self.next_wal_sst_id,
+            replay_after_wal_id: self.replay_after_wal_id,
+            last_l0_seq: self.last_l0_seq,
+            recent_snapshot_min_seq: self.recent_snapshot_min_seq,
+            floor: self.floor,
+            last_l0_clock_tick: self.last_l0_clock_tick,
+            sequence_tracker: self.sequence_tracker.clone(alloc)?,
+            checkpoints: self.checkpoints.clone(alloc)?,
+        })
+    }
+
+    fn is(&self, other: &ManifestCore) -> bool {
+        self.initialized == other.initialized
+            && self.tree.is(&other.tree)
+            && self.segments.is(&other.segments)
+            && self
+                .segment_extractor_name
+                .is(&other.segment_extractor_name)
+            && self.wal_object_store_uri.is(&other.wal_object_store_uri)
+            && same_numbers(self, other)
+            && self.sequence_tracker.is(&other.sequence_tracker)
+            && self.checkpoints.is(&other.checkpoints)
+    }
+}
