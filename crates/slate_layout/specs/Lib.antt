@@ -1,0 +1,10 @@
+pub mod Bytes
+pub mod Reading
+pub mod Parts
+pub mod Reads
+pub mod Atoms
+pub mod Texts
+pub mod RangeParts
+pub mod InfoParts
+pub mod InfoCodec
+pub mod CheckpointParts

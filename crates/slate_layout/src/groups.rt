@@ -1,0 +1,162 @@
+//! The bytes of pairs, options and lists.
+ghost use Rattle.std.specs.Prelude.{◌≡◌, ◌++◌, ◌<◌, ◌^◌, ◌*◌, nat_le, length, OnOk, IfOk};
+ghost use Rattle.std.specs.List.{flat_map};
+ghost use Rattle.std.proofs.Common.{arith};
+ghost use Rattle.slate_layout.specs.Bytes as bytes;
+ghost use Rattle.slate_layout.specs.Reading as reading;
+ghost use Rattle.slate_layout.specs.Reading.{items_in, room_in};
+ghost use Rattle.slate_layout.specs.Reads.{PairFits, OptionFits, ListFits, pair_reads, option_reads, list_reads};
+
+use crate::numbers::write_count;
+use crate::part::Part;
+use crate::reader::Reader;
+use slate_ids::{Listed, OutOfMemory};
+use std::alloc::Global;
+
+impl<A: Part, B: Part> Part for (A, B) {
+    ghost bytes = { bytes.pair_bytes A.bytes B.bytes };
+
+    ghost in_front = { reading.pair_in A.in_front B.in_front };
+
+    ghost Fits = { PairFits A.Fits B.Fits };
+
+    ghost LEAST = { A.LEAST };
+
+    const LEAST: usize = A::LEAST;
+
+    ghost few = { A.few };
+
+    ghost reads = { pair_reads A.in_front A.bytes A.Fits A.LEAST A.reads B.in_front B.bytes B.Fits B.LEAST B.reads };
+
+    fn write(&self, out: &mut Vec<u8>) -> Result<(), OutOfMemory> {
+        self.0.write(out)?;
+        self.1.write(out)
+    }
+
+    fn read(alloc: Global, from: Reader<'_>) -> Result<Option<((A, B), Reader<'_>)>, OutOfMemory> {
+        let Some((a, from)) = A::read(alloc, from)? else {
+            return Ok(None);
+        };
+        let Some((b, from)) = B::read(alloc, from)? else {
+            return Ok(None);
+        };
+        Ok(Some(((a, b), from)))
+    }
+}
+
+impl<T: Part> Part for Option<T> {
+    ghost bytes = { bytes.option_bytes T.bytes };
+
+    ghost in_front = { reading.option_in T.in_front };
+
+    ghost Fits = { OptionFits T.Fits };
+
+    ghost LEAST = { 1 };
+
+    const LEAST: usize = 1;
+
+    ghost few = { omega arith };
+
+    ghost reads = { option_reads T.in_front T.bytes T.Fits T.LEAST T.reads };
+
+    fn write(&self, out: &mut Vec<u8>) -> Result<(), OutOfMemory> {
+        match self {
+            None => false.write(out),
+            Some(value) => {
+                true.write(out)?;
+                value.write(out)
+            }
+        }
+    }
+
+    fn read(
+        alloc: Global,
+        from: Reader<'_>,
+    ) -> Result<Option<(Option<T>, Reader<'_>)>, OutOfMemory> {
+        let Some((flag, from)) = from.flag() else {
+            return Ok(None);
+        };
+        if !flag {
+            return Ok(Some((None, from)));
+        }
+        match T::read(alloc, from)? {
+            Some((value, from)) => Ok(Some((Some(value), from))),
+            None => Ok(None),
+        }
+    }
+}
+
+/// Adds the bytes of each value at the end.
+pub(crate) fn write_items<T: Part>(items: &[T], out: &mut Vec<u8>) -> Result<(), OutOfMemory>
+    ensures { OnOk result (out.new.items ≡ out.old.items ++ flat_map T.bytes items.now) }
+{
+    for item in items {
+        item.write(out)?;
+    }
+    Ok(())
+}
+
+// So many values, one after the other.
+fn read_items<T: Part>(
+    alloc: Global,
+    count: usize,
+    from: Reader<'_>,
+) -> Result<Option<(Listed<T>, Reader<'_>)>, OutOfMemory>
+    ensures { IfOk result (λ read. read ≡ items_in T.in_front count from.entry) }
+{
+    let mut items = Listed::new(alloc);
+    let mut left = from;
+    for _ in 0..count {
+        match T::read(alloc, left)? {
+            Some((item, rest)) => {
+                items.push(item)?;
+                left = rest;
+            }
+            None => return Ok(None),
+        }
+    }
+    Ok(Some((items, left)))
+}
+
+// Whether so many values of at least so many bytes can be left.
+fn has_room(count: u32, least: usize, from: &Reader<'_>) -> bool
+    requires { least < 2 ^ 16 }
+    ensures { result ≡ nat_le (count * least) (length from.now) }
+{
+    count as usize * least <= from.len()
+}
+
+impl<T: Part> Part for Listed<T> {
+    ghost bytes = { bytes.list_bytes T.bytes };
+
+    ghost in_front = { reading.list_in T.in_front T.LEAST };
+
+    ghost Fits = { ListFits T.Fits };
+
+    ghost LEAST = { 4 };
+
+    const LEAST: usize = 4;
+
+    ghost few = { omega arith };
+
+    ghost reads = { list_reads T.in_front T.bytes T.Fits T.LEAST T.reads };
+
+    fn write(&self, out: &mut Vec<u8>) -> Result<(), OutOfMemory> {
+        let items = self.as_slice();
+        write_count(items.len(), out)?;
+        write_items(items, out)
+    }
+
+    fn read(
+        alloc: Global,
+        from: Reader<'_>,
+    ) -> Result<Option<(Listed<T>, Reader<'_>)>, OutOfMemory> {
+        let Some((count, from)) = from.u32() else {
+            return Ok(None);
+        };
+        if !has_room(count, T::LEAST, &from) {
+            return Ok(None);
+        }
+        read_items(alloc, count as usize, from)
+    }
+}

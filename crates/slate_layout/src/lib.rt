@@ -1,0 +1,20 @@
+//! The bytes of manifests and of what is known of tables.
+#![tactic(auto)]
+
+mod groups;
+mod info_codec;
+mod infos;
+mod manifest_parts;
+mod numbers;
+mod part;
+mod ranges;
+mod reader;
+mod tags;
+mod texts;
+
+pub use info_codec::{decode_info, encode_info};
+
+#[cfg(test)]
+mod info_tests;
+#[cfg(test)]
+mod part_tests;

@@ -1,0 +1,209 @@
+//! The bytes of checkpoints, of entries of other databases, and of trackers.
+ghost use Rattle.std.specs.Prelude.{◌≡◌, ◌++◌, OnOk};
+ghost use Rattle.std.proofs.Common.{arith};
+ghost use Rattle.slate_layout.specs.Bytes.{option_bytes, u32_bytes};
+ghost use Rattle.slate_layout.specs.CheckpointParts as parts;
+
+use crate::groups::write_items;
+use crate::infos::table_id;
+use crate::numbers::write_count;
+use crate::part::Part;
+use crate::reader::Reader;
+use slate_ids::{CheckpointId, DbPath, Listed, Millis, OutOfMemory, Text, Ulid};
+use slate_model::{Checkpoint, ExternalDb, SequenceTracker, SsTableId};
+use std::alloc::Global;
+
+// The second of a moment in milliseconds, cut down; 0 before the first.
+fn second_of(moment: Millis) -> u64
+    ensures { result ≡ parts.second_of moment }
+{
+    if moment < 0 { 0 } else { moment as u64 / 1000 }
+}
+
+// The expiry at a second, which isn't 0; never, where there is none.
+fn expiry_of(second: Option<u32>) -> Option<Option<Millis>>
+    ensures { result ≡ parts.expiry_of second }
+{
+    match second {
+        None => Some(None),
+        Some(0) => None,
+        Some(second) => Some(Some(second as i64 * 1000)),
+    }
+}
+
+// Adds the bytes of the second of an expiry at the end.
+fn write_expiry(expiry: Option<Millis>, out: &mut Vec<u8>) -> Result<(), OutOfMemory>
+    ensures { OnOk result (out.new.items ≡ out.old.items ++ option_bytes u32_bytes (parts.expiry_second expiry)) }
+{
+    match expiry {
+        None => false.write(out),
+        Some(moment) => {
+            true.write(out)?;
+            write_count(second_of(moment) as usize, out)
+        }
+    }
+}
+
+// The id, the version that it names, the seconds of expiry and creation, and the name.
+type CheckpointParts = (CheckpointId, (u64, (Option<u32>, (u32, Option<Text>))));
+
+// The checkpoint of its parts.
+fn checkpoint_of(read: CheckpointParts) -> Option<Checkpoint>
+    ensures { result ≡ parts.checkpoint_of read }
+{
+    let (id, (manifest_id, (expiry, (creation, name)))) = read;
+    let expire_time = expiry_of(expiry)?;
+    Some(Checkpoint {
+        id,
+        manifest_id,
+        expire_time,
+        create_time: creation as i64 * 1000,
+        name,
+    })
+}
+
+impl Part for Checkpoint {
+    ghost bytes = { parts.checkpoint_bytes };
+
+    ghost in_front = { parts.checkpoint_in };
+
+    ghost Fits = { parts.CheckpointFits };
+
+    ghost LEAST = { 16 };
+
+    const LEAST: usize = 16;
+
+    ghost few = { omega arith };
+
+    ghost reads = { parts.checkpoint_reads };
+
+    fn write(&self, out: &mut Vec<u8>) -> Result<(), OutOfMemory> {
+        self.id.write(out)?;
+        self.manifest_id.write(out)?;
+        write_expiry(self.expire_time, out)?;
+        write_count(second_of(self.create_time) as usize, out)?;
+        self.name.write(out)
+    }
+
+    fn read(
+        alloc: Global,
+        from: Reader<'_>,
+    ) -> Result<Option<(Checkpoint, Reader<'_>)>, OutOfMemory> {
+        let Some((read, from)) = CheckpointParts::read(alloc, from)? else {
+            return Ok(None);
+        };
+        match checkpoint_of(read) {
+            Some(checkpoint) => Ok(Some((checkpoint, from))),
+            None => Ok(None),
+        }
+    }
+}
+
+impl Part for SsTableId {
+    ghost bytes = { parts.table_bytes };
+
+    ghost in_front = { parts.table_in };
+
+    ghost Fits = { parts.TableFits };
+
+    ghost LEAST = { 8 };
+
+    const LEAST: usize = 8;
+
+    ghost few = { omega arith };
+
+    ghost reads = { parts.table_reads };
+
+    fn write(&self, out: &mut Vec<u8>) -> Result<(), OutOfMemory> {
+        table_id(*self).write(out)
+    }
+
+    fn read(
+        alloc: Global,
+        from: Reader<'_>,
+    ) -> Result<Option<(SsTableId, Reader<'_>)>, OutOfMemory> {
+        match Ulid::read(alloc, from)? {
+            Some((id, from)) => Ok(Some((SsTableId::Compacted(id), from))),
+            None => Ok(None),
+        }
+    }
+}
+
+// The path, the source, the pin, and the tables.
+type EntryParts = (DbPath, (CheckpointId, (Option<CheckpointId>, Listed<SsTableId>)));
+
+impl Part for ExternalDb {
+    ghost bytes = { parts.entry_bytes };
+
+    ghost in_front = { parts.entry_in };
+
+    ghost Fits = { parts.EntryFits };
+
+    ghost LEAST = { 4 };
+
+    const LEAST: usize = 4;
+
+    ghost few = { omega arith };
+
+    ghost reads = { parts.entry_reads };
+
+    fn write(&self, out: &mut Vec<u8>) -> Result<(), OutOfMemory> {
+        self.path.write(out)?;
+        self.source_checkpoint_id.write(out)?;
+        self.final_checkpoint_id.write(out)?;
+        self.sst_ids.write(out)
+    }
+
+    fn read(
+        alloc: Global,
+        from: Reader<'_>,
+    ) -> Result<Option<(ExternalDb, Reader<'_>)>, OutOfMemory> {
+        match EntryParts::read(alloc, from)? {
+            Some(((path, (source_checkpoint_id, (final_checkpoint_id, sst_ids))), from)) => {
+                let entry = ExternalDb {
+                    path,
+                    source_checkpoint_id,
+                    final_checkpoint_id,
+                    sst_ids,
+                };
+                Ok(Some((entry, from)))
+            }
+            None => Ok(None),
+        }
+    }
+}
+
+impl Part for SequenceTracker {
+    ghost bytes = { parts.tracker_bytes };
+
+    ghost in_front = { parts.tracker_in };
+
+    ghost Fits = { parts.TrackerFits };
+
+    ghost LEAST = { 4 };
+
+    const LEAST: usize = 4;
+
+    ghost few = { omega arith };
+
+    ghost reads = { parts.tracker_reads };
+
+    fn write(&self, out: &mut Vec<u8>) -> Result<(), OutOfMemory> {
+        let pairs = self.pairs();
+        write_count(pairs.len(), out)?;
+        write_items(pairs, out)
+    }
+
+    fn read(
+        alloc: Global,
+        from: Reader<'_>,
+    ) -> Result<Option<(SequenceTracker, Reader<'_>)>, OutOfMemory> {
+        let Some((pairs, from)) = Listed::<(u64, i64)>::read(alloc, from)? else {
+            return Ok(None);
+        };
+        match SequenceTracker::from_pairs(pairs.into_vec()) {
+            Some(tracker) => Ok(Some((tracker, from))),
+            None => Ok(None),
+        }
+    }
+}

@@ -1,0 +1,38 @@
+//! Parts of a layout: values that bytes begin with.
+ghost use Rattle.std.specs.Prelude.{◌≡◌, ◌<◌, ◌^◌, ◌++◌, ℕ, List, Option, OnOk, IfOk};
+ghost use Rattle.slate_layout.specs.Reads.{Reads};
+
+use crate::reader::Reader;
+use slate_ids::OutOfMemory;
+use std::alloc::Global;
+
+/// A value that bytes begin with. What is written is read back, and only what was written is read.
+pub(crate) trait Part: Drop {
+    /// The bytes of a value.
+    ghost bytes: { Self → List ℕ };
+
+    /// The value that bytes begin with, and the bytes after it.
+    ghost in_front: { List ℕ → Option (Self × List ℕ) };
+
+    /// Whether a value has bytes.
+    ghost Fits: { Self → Type 0 };
+
+    /// How many bytes a value has at least.
+    ghost LEAST: { ℕ };
+
+    const LEAST: usize;
+
+    /// It has 16 bits.
+    ghost few: { LEAST < 2 ^ 16 };
+
+    /// What fits is read as it was written; what is read fits, and was written so.
+    ghost reads: { Reads in_front bytes Fits LEAST };
+
+    /// Adds the bytes of a value at the end.
+    fn write(&self, out: &mut Vec<u8>) -> Result<(), OutOfMemory>
+        ensures { OnOk result (out.new.items ≡ out.old.items ++ bytes self.now) };
+
+    /// The value that bytes begin with, where they begin with one.
+    fn read(alloc: Global, from: Reader<'_>) -> Result<Option<(Self, Reader<'_>)>, OutOfMemory>
+        ensures { IfOk result (λ read. read ≡ in_front from.entry) };
+}
