@@ -1,12 +1,12 @@
 -- The parts that no others are made of.
-use Rattle.std.specs.Prelude.{◌≡◌, ℕ, ℤ, ◌<◌, ◌≤◌, ◌^◌, ◌++◌, nat_le, Bool, true, false, List, [], ◌∷◌, length, take, drop, get_or, Option, Some, None, if◌then◌else◌, refl}
-use Rattle.std.specs.Int.{w16, w64, from_be_bytes, to_be_bytes}
+use Rattle.std.specs.Prelude.{◌≡◌, ℕ, ◌<◌, ◌≤◌, ◌^◌, ◌++◌, nat_le, Bool, true, false, List, [], ◌∷◌, length, take, drop, get_or, Some, None, if◌then◌else◌, refl}
+use Rattle.std.specs.Int.{w16, from_be_bytes, to_be_bytes}
 use Rattle.std.proofs.Common.{arith, ap, sym, subst, ◌∙◌}
 use Rattle.std.proofs.lemmas.Nat.{be_bytes_2, from_be_bytes-to_be_bytes_2}
 use Rattle.std.proofs.lemmas.List.{append_assoc, length-take-le, take-append-drop}
 use Rattle.std.proofs.lemmas.Bool.Decides.{nat_tests}
 use Rattle.slate_layout.specs.Bytes.{is_u64, is_i64, byte_bytes, u16_bytes, u32_bytes, u64_bytes, i64_bytes, flag_bytes, counted_bytes}
-use Rattle.slate_layout.specs.Reading.{◌>>=◌, byte_in, u16_in, u32_in, u64_in, i64_in, flag_in, bytes_in, counted_in}
+use Rattle.slate_layout.specs.Reading.{byte_in, u16_in, u32_in, u64_in, i64_in, flag_in, bytes_in, counted_in}
 use Rattle.slate_layout.specs.Parts.{AreBytes, AreBytes-rest, AreBytes-drop, IsFront, steps, bind_at, found, same_found, join_fronts, small_take, u32_back, u32_only, u32_small, u64_back, u64_only, i64_back, i64_only, flag_back, flag_only, bytes_back, bytes_only}
 use Rattle.slate_layout.specs.Reads.{Reads, IsRead}
 

@@ -1,5 +1,5 @@
 -- The bytes of numbers, flags, texts, options and lists.
-use Rattle.std.specs.Prelude.{◌<◌, ◌≤◌, ◌^◌, ℕ, ℤ, pos, negsuc, nat_lt, ◌++◌, Bool, true, false, List, [], ◌∷◌, length, Option, Some, None}
+use Rattle.std.specs.Prelude.{◌^◌, ℕ, ℤ, pos, negsuc, nat_lt, ◌++◌, Bool, true, false, List, [], ◌∷◌, length, Option, Some, None}
 use Rattle.std.specs.Int.{w16, w32, w64, to_be_bytes, cast_unsigned}
 use Rattle.std.specs.List.{flat_map}
 

@@ -1,8 +1,8 @@
 -- The bytes of checkpoints, of entries of other databases, and of trackers.
-use Rattle.std.specs.Prelude.{◌≡◌, ℕ, ℤ, pos, negsuc, ◌*◌, ◌/◌, ◌<◌, ◌^◌, ◌==◌, Bool, true, false, List, length, Option, Some, None, if◌then◌else◌, refl}
-use Rattle.std.proofs.Common.{ap, sym, ◌∙◌, subst, arith}
+use Rattle.std.specs.Prelude.{◌≡◌, ℕ, ℤ, pos, negsuc, ◌*◌, ◌/◌, ◌<◌, ◌^◌, ◌==◌, Bool, true, false, List, length, Option, Some, None, if◌then◌else◌}
+use Rattle.std.proofs.Common.{ap, sym, ◌∙◌, arith}
 use Rattle.slate_tables.specs.declared.ss_table_id.SsTableId.{SsTableId}
-use Rattle.slate_tables.specs.declared.ss_table_id.SsTableId.TheVariants.{Wal, Compacted}
+use Rattle.slate_tables.specs.declared.ss_table_id.SsTableId.TheVariants.{Compacted}
 use Rattle.slate_model.specs.declared.checkpoint.Checkpoint.{Checkpoint}
 use Rattle.slate_model.specs.declared.external_db.ExternalDb.{ExternalDb}
 use Rattle.slate_model.specs.Sequences.{is_kept}
@@ -11,7 +11,7 @@ use Rattle.slate_layout.specs.Reading.{bytes_in, u32_in, u64_in, i64_in, option_
 use Rattle.slate_layout.specs.Reads.{Reads, OptionFits, ListFits, PairFits, MadeFits, option_reads, list_reads, pair_reads, made_reads}
 use Rattle.slate_layout.specs.Atoms.{u32_reads, u64_reads, i64_reads, sixteen_reads}
 use Rattle.slate_layout.specs.Texts.{text_in, TextFits, text_reads, path_in, PathFits, path_reads, id_bytes, id_in, IdFits, id_reads}
-use Rattle.slate_layout.specs.InfoParts.{table_id}
+use Rattle.slate_layout.specs.Tables.{table_id}
 
 -- ---- checkpoints
 

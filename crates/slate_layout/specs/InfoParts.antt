@@ -1,11 +1,10 @@
 -- The bytes of what is known of a table, and of its handle.
-use Rattle.std.specs.Prelude.{◌≡◌, ℕ, ◌≤◌, ◌<◌, ◌^◌, ◌==◌, ◌&&◌, nat_lt, Bool, true, false, List, length, Option, Some, None, if◌then◌else◌, refl}
+use Rattle.std.specs.Prelude.{◌≡◌, ℕ, ◌<◌, ◌^◌, ◌==◌, Bool, true, false, List, Option, Some, None, if◌then◌else◌, refl}
 use Rattle.std.proofs.Common.{ap, sym, ◌∙◌}
 use Rattle.std.proofs.lemmas.Bool.Decides.{nat_tests}
 use Rattle.std.proofs.Common.{arith}
 use Rattle.slate_ids.specs.Keys.{key_le}
-use Rattle.slate_tables.specs.declared.ss_table_id.SsTableId.{SsTableId}
-use Rattle.slate_tables.specs.declared.ss_table_id.SsTableId.TheVariants.{Wal, Compacted}
+use Rattle.slate_tables.specs.declared.ss_table_id.SsTableId.TheVariants.{Compacted}
 use Rattle.slate_tables.specs.declared.ss_table_info.SsTableInfo.{SsTableInfo}
 use Rattle.slate_tables.specs.declared.ss_table_handle.SsTableHandle.{SsTableHandle}
 use Rattle.slate_tables.specs.declared.table_tags.CompressionTag.{CompressionTag}
@@ -14,6 +13,7 @@ use Rattle.slate_tables.specs.declared.table_tags.SstType.{SstType}
 use Rattle.slate_tables.specs.declared.table_tags.SstType.TheVariants as type
 use Rattle.slate_tables.specs.declared.table_tags.FilterFormat.{FilterFormat}
 use Rattle.slate_tables.specs.declared.table_tags.FilterFormat.TheVariants as format
+use Rattle.slate_layout.specs.Tables.{table_id}
 use Rattle.slate_layout.specs.Bytes.{is_u64, byte_bytes, u16_bytes, u64_bytes, counted_bytes, option_bytes, pair_bytes}
 use Rattle.slate_layout.specs.Reading.{byte_in, u16_in, u64_in, counted_in, option_in, pair_in, made_in}
 use Rattle.slate_layout.specs.Reads.{Reads, OptionFits, PairFits, MadeFits, option_reads, pair_reads, made_reads}
@@ -203,11 +203,6 @@ HandleParts = (ℕ × ℕ) × (ℕ × SsTableInfo)
 
 abbrev pub handle_of : HandleParts → Option SsTableHandle
 handle_of p = Some (record { id = Compacted p.0; format_version = p.1.0; info = p.1.1 })
-
--- the id of a compacted table; a file of the write-ahead log has none
-abbrev pub table_id : SsTableId → ℕ × ℕ
-table_id (Compacted id) = id
-table_id (Wal n) = (0, 0)
 
 abbrev pub handle_parts : SsTableHandle → HandleParts
 handle_parts h = (table_id h.id, (h.format_version, h.info))

@@ -1,3 +1,4 @@
+pub mod Tables
 pub mod Bytes
 pub mod Reading
 pub mod Parts
@@ -8,3 +9,4 @@ pub mod RangeParts
 pub mod InfoParts
 pub mod InfoCodec
 pub mod CheckpointParts
+pub mod TreeParts

@@ -1,7 +1,6 @@
 -- Reading bytes from the front: what was read and the rest, or `None`.
 use Rattle.std.specs.Prelude.{ℕ, zero, suc, ℤ, ◌==◌, ◌*◌, nat_le, Bool, true, false, List, [], ◌∷◌, length, take, drop, Option, Some, None, if◌then◌else◌}
 use Rattle.std.specs.Int.{w16, w32, w64, from_be_bytes, cast_signed}
-use Rattle.std.specs.Str.{is_utf8}
 
 infixl 10 ◌>>=◌
 -- the second reading, of what the first found

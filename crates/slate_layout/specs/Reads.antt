@@ -6,7 +6,7 @@ use Rattle.std.proofs.lemmas.List.{append_assoc, length-append}
 use Rattle.std.proofs.lemmas.Bool.Decides.{nat_tests}
 use Rattle.slate_layout.specs.Bytes.{u32_bytes, flag_bytes, option_bytes, list_bytes, pair_bytes}
 use Rattle.slate_layout.specs.Reading.{◌>>=◌, flag_in, u32_in, value_in, option_in, items_in, room_in, list_in, pair_in, made_in}
-use Rattle.slate_layout.specs.Parts.{AreBytes, IsFront, steps, bind_at, join_fronts, flag_only, flag_back, u32_back, u32_only, u32_small, found, same_found}
+use Rattle.slate_layout.specs.Parts.{AreBytes, IsFront, steps, bind_at, join_fronts, flag_only, u32_back, u32_only, u32_small, same_found}
 
 -- what was read of bytes fits, and its bytes stand in front of the rest
 pub record IsRead {X : Type 0} (write : X → List ℕ) (Fits : X → Type 0) (x : X) (bytes rest : List ℕ) : Type 0 where

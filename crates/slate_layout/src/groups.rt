@@ -10,15 +10,16 @@ ghost use Rattle.slate_layout.specs.Reads.{PairFits, OptionFits, ListFits, pair_
 use crate::numbers::write_count;
 use crate::part::Part;
 use crate::reader::Reader;
+use crate::tables::Tables;
 use slate_ids::{Listed, OutOfMemory};
 use std::alloc::Global;
 
 impl<A: Part, B: Part> Part for (A, B) {
     ghost bytes = { bytes.pair_bytes A.bytes B.bytes };
 
-    ghost in_front = { reading.pair_in A.in_front B.in_front };
+    ghost in_front = { λ tables. reading.pair_in (A.in_front tables) (B.in_front tables) };
 
-    ghost Fits = { PairFits A.Fits B.Fits };
+    ghost Fits = { λ tables. PairFits (A.Fits tables) (B.Fits tables) };
 
     ghost LEAST = { A.LEAST };
 
@@ -26,18 +27,22 @@ impl<A: Part, B: Part> Part for (A, B) {
 
     ghost few = { A.few };
 
-    ghost reads = { pair_reads A.in_front A.bytes A.Fits A.LEAST A.reads B.in_front B.bytes B.Fits B.LEAST B.reads };
+    ghost reads = { λ tables. pair_reads (A.in_front tables) A.bytes (A.Fits tables) A.LEAST (A.reads tables) (B.in_front tables) B.bytes (B.Fits tables) B.LEAST (B.reads tables) };
 
     fn write(&self, out: &mut Vec<u8>) -> Result<(), OutOfMemory> {
         self.0.write(out)?;
         self.1.write(out)
     }
 
-    fn read(alloc: Global, from: Reader<'_>) -> Result<Option<((A, B), Reader<'_>)>, OutOfMemory> {
-        let Some((a, from)) = A::read(alloc, from)? else {
+    fn read<'a>(
+        alloc: Global,
+        tables: &Tables,
+        from: Reader<'a>,
+    ) -> Result<Option<((A, B), Reader<'a>)>, OutOfMemory> {
+        let Some((a, from)) = A::read(alloc, tables, from)? else {
             return Ok(None);
         };
-        let Some((b, from)) = B::read(alloc, from)? else {
+        let Some((b, from)) = B::read(alloc, tables, from)? else {
             return Ok(None);
         };
         Ok(Some(((a, b), from)))
@@ -47,9 +52,9 @@ impl<A: Part, B: Part> Part for (A, B) {
 impl<T: Part> Part for Option<T> {
     ghost bytes = { bytes.option_bytes T.bytes };
 
-    ghost in_front = { reading.option_in T.in_front };
+    ghost in_front = { λ tables. reading.option_in (T.in_front tables) };
 
-    ghost Fits = { OptionFits T.Fits };
+    ghost Fits = { λ tables. OptionFits (T.Fits tables) };
 
     ghost LEAST = { 1 };
 
@@ -57,7 +62,7 @@ impl<T: Part> Part for Option<T> {
 
     ghost few = { omega arith };
 
-    ghost reads = { option_reads T.in_front T.bytes T.Fits T.LEAST T.reads };
+    ghost reads = { λ tables. option_reads (T.in_front tables) T.bytes (T.Fits tables) T.LEAST (T.reads tables) };
 
     fn write(&self, out: &mut Vec<u8>) -> Result<(), OutOfMemory> {
         match self {
@@ -69,17 +74,18 @@ impl<T: Part> Part for Option<T> {
         }
     }
 
-    fn read(
+    fn read<'a>(
         alloc: Global,
-        from: Reader<'_>,
-    ) -> Result<Option<(Option<T>, Reader<'_>)>, OutOfMemory> {
+        tables: &Tables,
+        from: Reader<'a>,
+    ) -> Result<Option<(Option<T>, Reader<'a>)>, OutOfMemory> {
         let Some((flag, from)) = from.flag() else {
             return Ok(None);
         };
         if !flag {
             return Ok(Some((None, from)));
         }
-        match T::read(alloc, from)? {
+        match T::read(alloc, tables, from)? {
             Some((value, from)) => Ok(Some((Some(value), from))),
             None => Ok(None),
         }
@@ -97,17 +103,18 @@ pub(crate) fn write_items<T: Part>(items: &[T], out: &mut Vec<u8>) -> Result<(),
 }
 
 // So many values, one after the other.
-fn read_items<T: Part>(
+fn read_items<'a, T: Part>(
     alloc: Global,
+    tables: &Tables,
     count: usize,
-    from: Reader<'_>,
-) -> Result<Option<(Listed<T>, Reader<'_>)>, OutOfMemory>
-    ensures { IfOk result (λ read. read ≡ items_in T.in_front count from.entry) }
+    from: Reader<'a>,
+) -> Result<Option<(Listed<T>, Reader<'a>)>, OutOfMemory>
+    ensures { IfOk result (λ read. read ≡ items_in (T.in_front tables.now) count from.entry) }
 {
     let mut items = Listed::new(alloc);
     let mut left = from;
     for _ in 0..count {
-        match T::read(alloc, left)? {
+        match T::read(alloc, tables, left)? {
             Some((item, rest)) => {
                 items.push(item)?;
                 left = rest;
@@ -129,9 +136,9 @@ fn has_room(count: u32, least: usize, from: &Reader<'_>) -> bool
 impl<T: Part> Part for Listed<T> {
     ghost bytes = { bytes.list_bytes T.bytes };
 
-    ghost in_front = { reading.list_in T.in_front T.LEAST };
+    ghost in_front = { λ tables. reading.list_in (T.in_front tables) T.LEAST };
 
-    ghost Fits = { ListFits T.Fits };
+    ghost Fits = { λ tables. ListFits (T.Fits tables) };
 
     ghost LEAST = { 4 };
 
@@ -139,7 +146,7 @@ impl<T: Part> Part for Listed<T> {
 
     ghost few = { omega arith };
 
-    ghost reads = { list_reads T.in_front T.bytes T.Fits T.LEAST T.reads };
+    ghost reads = { λ tables. list_reads (T.in_front tables) T.bytes (T.Fits tables) T.LEAST (T.reads tables) };
 
     fn write(&self, out: &mut Vec<u8>) -> Result<(), OutOfMemory> {
         let items = self.as_slice();
@@ -147,16 +154,17 @@ impl<T: Part> Part for Listed<T> {
         write_items(items, out)
     }
 
-    fn read(
+    fn read<'a>(
         alloc: Global,
-        from: Reader<'_>,
-    ) -> Result<Option<(Listed<T>, Reader<'_>)>, OutOfMemory> {
+        tables: &Tables,
+        from: Reader<'a>,
+    ) -> Result<Option<(Listed<T>, Reader<'a>)>, OutOfMemory> {
         let Some((count, from)) = from.u32() else {
             return Ok(None);
         };
         if !has_room(count, T::LEAST, &from) {
             return Ok(None);
         }
-        read_items(alloc, count as usize, from)
+        read_items(alloc, tables, count as usize, from)
     }
 }

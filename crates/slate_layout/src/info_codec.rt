@@ -9,6 +9,7 @@ ghost use Rattle.slate_layout.specs.InfoCodec.{info_field, encoded_info, decoded
 use crate::infos::are_entries;
 use crate::part::Part;
 use crate::reader::Reader;
+use crate::tables::Tables;
 use bytes::Bytes;
 use slate_ids::{FieldName, FormatName, SlateDBError};
 use slate_model::SsTableInfo;
@@ -76,7 +77,7 @@ pub fn decode_info(alloc: Global, bytes: &[u8]) -> Result<SsTableInfo, SlateDBEr
     ensures exact { Gives result (decoded_info bytes.now) }
     ensures only { IfOk result (λ info. encoded_info info ≡ Ok bytes.now) }
 {
-    match SsTableInfo::read(alloc, Reader::new(bytes))? {
+    match SsTableInfo::read(alloc, &Tables::none(alloc), Reader::new(bytes))? {
         Some((info, rest)) if rest.len() == 0 => Ok(info),
         _ => Err(SlateDBError::Corrupt(FormatName::Info)),
     }

@@ -5,6 +5,7 @@ ghost use Rattle.slate_layout.specs.InfoParts as infos;
 
 use crate::part::Part;
 use crate::reader::Reader;
+use crate::tables::{Tables, table_id};
 use bytes::Bytes;
 use slate_ids::{OutOfMemory, Ulid};
 use slate_model::{CompressionTag, FilterFormat, SsTableHandle, SsTableId, SsTableInfo, SstType};
@@ -73,9 +74,9 @@ fn places_of(info: &SsTableInfo) -> Places
 impl Part for SsTableInfo {
     ghost bytes = { infos.info_bytes };
 
-    ghost in_front = { infos.info_in };
+    ghost in_front = { λ tables. infos.info_in };
 
-    ghost Fits = { infos.InfoFits };
+    ghost Fits = { λ tables. infos.InfoFits };
 
     ghost LEAST = { 1 };
 
@@ -83,7 +84,7 @@ impl Part for SsTableInfo {
 
     ghost few = { omega arith };
 
-    ghost reads = { infos.info_reads };
+    ghost reads = { λ tables. infos.info_reads };
 
     fn write(&self, out: &mut Vec<u8>) -> Result<(), OutOfMemory> {
         self.first_entry.write(out)?;
@@ -91,11 +92,12 @@ impl Part for SsTableInfo {
         places_of(self).write(out)
     }
 
-    fn read(
+    fn read<'a>(
         alloc: Global,
-        from: Reader<'_>,
-    ) -> Result<Option<(SsTableInfo, Reader<'_>)>, OutOfMemory> {
-        let Some(((entries, places), from)) = <(Entries, Places)>::read(alloc, from)? else {
+        tables: &Tables,
+        from: Reader<'a>,
+    ) -> Result<Option<(SsTableInfo, Reader<'a>)>, OutOfMemory> {
+        let Some(((entries, places), from)) = <(Entries, Places)>::read(alloc, tables, from)? else {
             return Ok(None);
         };
         match info_of(entries, places) {
@@ -105,22 +107,12 @@ impl Part for SsTableInfo {
     }
 }
 
-/// The id of a compacted table; a file of the write-ahead log has none.
-pub(crate) fn table_id(id: SsTableId) -> Ulid
-    ensures { result ≡ infos.table_id id }
-{
-    match id {
-        SsTableId::Compacted(id) => id,
-        SsTableId::Wal(_) => Ulid::from_parts(0, 0),
-    }
-}
-
 impl Part for SsTableHandle {
     ghost bytes = { infos.handle_bytes };
 
-    ghost in_front = { infos.handle_in };
+    ghost in_front = { λ tables. infos.handle_in };
 
-    ghost Fits = { infos.HandleFits };
+    ghost Fits = { λ tables. infos.HandleFits };
 
     ghost LEAST = { 8 };
 
@@ -128,7 +120,7 @@ impl Part for SsTableHandle {
 
     ghost few = { omega arith };
 
-    ghost reads = { infos.handle_reads };
+    ghost reads = { λ tables. infos.handle_reads };
 
     fn write(&self, out: &mut Vec<u8>) -> Result<(), OutOfMemory> {
         table_id(self.id).write(out)?;
@@ -136,11 +128,12 @@ impl Part for SsTableHandle {
         self.info.write(out)
     }
 
-    fn read(
+    fn read<'a>(
         alloc: Global,
-        from: Reader<'_>,
-    ) -> Result<Option<(SsTableHandle, Reader<'_>)>, OutOfMemory> {
-        match <(Ulid, (u16, SsTableInfo))>::read(alloc, from)? {
+        tables: &Tables,
+        from: Reader<'a>,
+    ) -> Result<Option<(SsTableHandle, Reader<'a>)>, OutOfMemory> {
+        match <(Ulid, (u16, SsTableInfo))>::read(alloc, tables, from)? {
             Some(((id, (format_version, info)), from)) => {
                 let handle = SsTableHandle {
                     id: SsTableId::Compacted(id),

@@ -9,8 +9,10 @@ mod numbers;
 mod part;
 mod ranges;
 mod reader;
+mod tables;
 mod tags;
 mod texts;
+mod trees;
 
 pub use info_codec::{decode_info, encode_info};
 
@@ -18,3 +20,5 @@ pub use info_codec::{decode_info, encode_info};
 mod info_tests;
 #[cfg(test)]
 mod part_tests;
+#[cfg(test)]
+mod tree_tests;

@@ -5,10 +5,10 @@ ghost use Rattle.slate_layout.specs.Bytes.{option_bytes, u32_bytes};
 ghost use Rattle.slate_layout.specs.CheckpointParts as parts;
 
 use crate::groups::write_items;
-use crate::infos::table_id;
 use crate::numbers::write_count;
 use crate::part::Part;
 use crate::reader::Reader;
+use crate::tables::{Tables, table_id};
 use slate_ids::{CheckpointId, DbPath, Listed, Millis, OutOfMemory, Text, Ulid};
 use slate_model::{Checkpoint, ExternalDb, SequenceTracker, SsTableId};
 use std::alloc::Global;
@@ -65,9 +65,9 @@ fn checkpoint_of(read: CheckpointParts) -> Option<Checkpoint>
 impl Part for Checkpoint {
     ghost bytes = { parts.checkpoint_bytes };
 
-    ghost in_front = { parts.checkpoint_in };
+    ghost in_front = { λ tables. parts.checkpoint_in };
 
-    ghost Fits = { parts.CheckpointFits };
+    ghost Fits = { λ tables. parts.CheckpointFits };
 
     ghost LEAST = { 16 };
 
@@ -75,7 +75,7 @@ impl Part for Checkpoint {
 
     ghost few = { omega arith };
 
-    ghost reads = { parts.checkpoint_reads };
+    ghost reads = { λ tables. parts.checkpoint_reads };
 
     fn write(&self, out: &mut Vec<u8>) -> Result<(), OutOfMemory> {
         self.id.write(out)?;
@@ -85,11 +85,12 @@ impl Part for Checkpoint {
         self.name.write(out)
     }
 
-    fn read(
+    fn read<'a>(
         alloc: Global,
-        from: Reader<'_>,
-    ) -> Result<Option<(Checkpoint, Reader<'_>)>, OutOfMemory> {
-        let Some((read, from)) = CheckpointParts::read(alloc, from)? else {
+        tables: &Tables,
+        from: Reader<'a>,
+    ) -> Result<Option<(Checkpoint, Reader<'a>)>, OutOfMemory> {
+        let Some((read, from)) = CheckpointParts::read(alloc, tables, from)? else {
             return Ok(None);
         };
         match checkpoint_of(read) {
@@ -102,9 +103,9 @@ impl Part for Checkpoint {
 impl Part for SsTableId {
     ghost bytes = { parts.table_bytes };
 
-    ghost in_front = { parts.table_in };
+    ghost in_front = { λ tables. parts.table_in };
 
-    ghost Fits = { parts.TableFits };
+    ghost Fits = { λ tables. parts.TableFits };
 
     ghost LEAST = { 8 };
 
@@ -112,17 +113,18 @@ impl Part for SsTableId {
 
     ghost few = { omega arith };
 
-    ghost reads = { parts.table_reads };
+    ghost reads = { λ tables. parts.table_reads };
 
     fn write(&self, out: &mut Vec<u8>) -> Result<(), OutOfMemory> {
         table_id(*self).write(out)
     }
 
-    fn read(
+    fn read<'a>(
         alloc: Global,
-        from: Reader<'_>,
-    ) -> Result<Option<(SsTableId, Reader<'_>)>, OutOfMemory> {
-        match Ulid::read(alloc, from)? {
+        tables: &Tables,
+        from: Reader<'a>,
+    ) -> Result<Option<(SsTableId, Reader<'a>)>, OutOfMemory> {
+        match Ulid::read(alloc, tables, from)? {
             Some((id, from)) => Ok(Some((SsTableId::Compacted(id), from))),
             None => Ok(None),
         }
@@ -130,14 +132,17 @@ impl Part for SsTableId {
 }
 
 // The path, the source, the pin, and the tables.
-type EntryParts = (DbPath, (CheckpointId, (Option<CheckpointId>, Listed<SsTableId>)));
+type EntryParts = (
+    DbPath,
+    (CheckpointId, (Option<CheckpointId>, Listed<SsTableId>)),
+);
 
 impl Part for ExternalDb {
     ghost bytes = { parts.entry_bytes };
 
-    ghost in_front = { parts.entry_in };
+    ghost in_front = { λ tables. parts.entry_in };
 
-    ghost Fits = { parts.EntryFits };
+    ghost Fits = { λ tables. parts.EntryFits };
 
     ghost LEAST = { 4 };
 
@@ -145,7 +150,7 @@ impl Part for ExternalDb {
 
     ghost few = { omega arith };
 
-    ghost reads = { parts.entry_reads };
+    ghost reads = { λ tables. parts.entry_reads };
 
     fn write(&self, out: &mut Vec<u8>) -> Result<(), OutOfMemory> {
         self.path.write(out)?;
@@ -154,11 +159,12 @@ impl Part for ExternalDb {
         self.sst_ids.write(out)
     }
 
-    fn read(
+    fn read<'a>(
         alloc: Global,
-        from: Reader<'_>,
-    ) -> Result<Option<(ExternalDb, Reader<'_>)>, OutOfMemory> {
-        match EntryParts::read(alloc, from)? {
+        tables: &Tables,
+        from: Reader<'a>,
+    ) -> Result<Option<(ExternalDb, Reader<'a>)>, OutOfMemory> {
+        match EntryParts::read(alloc, tables, from)? {
             Some(((path, (source_checkpoint_id, (final_checkpoint_id, sst_ids))), from)) => {
                 let entry = ExternalDb {
                     path,
@@ -176,9 +182,9 @@ impl Part for ExternalDb {
 impl Part for SequenceTracker {
     ghost bytes = { parts.tracker_bytes };
 
-    ghost in_front = { parts.tracker_in };
+    ghost in_front = { λ tables. parts.tracker_in };
 
-    ghost Fits = { parts.TrackerFits };
+    ghost Fits = { λ tables. parts.TrackerFits };
 
     ghost LEAST = { 4 };
 
@@ -186,7 +192,7 @@ impl Part for SequenceTracker {
 
     ghost few = { omega arith };
 
-    ghost reads = { parts.tracker_reads };
+    ghost reads = { λ tables. parts.tracker_reads };
 
     fn write(&self, out: &mut Vec<u8>) -> Result<(), OutOfMemory> {
         let pairs = self.pairs();
@@ -194,11 +200,12 @@ impl Part for SequenceTracker {
         write_items(pairs, out)
     }
 
-    fn read(
+    fn read<'a>(
         alloc: Global,
-        from: Reader<'_>,
-    ) -> Result<Option<(SequenceTracker, Reader<'_>)>, OutOfMemory> {
-        let Some((pairs, from)) = Listed::<(u64, i64)>::read(alloc, from)? else {
+        tables: &Tables,
+        from: Reader<'a>,
+    ) -> Result<Option<(SequenceTracker, Reader<'a>)>, OutOfMemory> {
+        let Some((pairs, from)) = Listed::<(u64, i64)>::read(alloc, tables, from)? else {
             return Ok(None);
         };
         match SequenceTracker::from_pairs(pairs.into_vec()) {

@@ -7,15 +7,16 @@ ghost use Rattle.slate_layout.specs.Atoms as atoms;
 
 use crate::part::Part;
 use crate::reader::Reader;
+use crate::tables::Tables;
 use slate_ids::OutOfMemory;
 use std::alloc::Global;
 
 impl Part for u64 {
     ghost bytes = { bytes.u64_bytes };
 
-    ghost in_front = { reading.u64_in };
+    ghost in_front = { λ tables. reading.u64_in };
 
-    ghost Fits = { λ n. bytes.is_u64 n ≡ true };
+    ghost Fits = { λ tables. λ n. bytes.is_u64 n ≡ true };
 
     ghost LEAST = { 8 };
 
@@ -23,7 +24,7 @@ impl Part for u64 {
 
     ghost few = { omega arith };
 
-    ghost reads = { atoms.u64_reads };
+    ghost reads = { λ tables. atoms.u64_reads };
 
     #[tactic(auto, unfolding(crate::specs::Bytes::u64_bytes))]
     fn write(&self, out: &mut Vec<u8>) -> Result<(), OutOfMemory> {
@@ -31,7 +32,11 @@ impl Part for u64 {
         Ok(())
     }
 
-    fn read(_alloc: Global, from: Reader<'_>) -> Result<Option<(u64, Reader<'_>)>, OutOfMemory> {
+    fn read<'a>(
+        _alloc: Global,
+        _tables: &Tables,
+        from: Reader<'a>,
+    ) -> Result<Option<(u64, Reader<'a>)>, OutOfMemory> {
         Ok(from.u64())
     }
 }
@@ -39,9 +44,9 @@ impl Part for u64 {
 impl Part for u8 {
     ghost bytes = { bytes.byte_bytes };
 
-    ghost in_front = { reading.byte_in };
+    ghost in_front = { λ tables. reading.byte_in };
 
-    ghost Fits = { λ n. Unit {0} };
+    ghost Fits = { λ tables. λ n. Unit {0} };
 
     ghost LEAST = { 1 };
 
@@ -49,14 +54,18 @@ impl Part for u8 {
 
     ghost few = { omega arith };
 
-    ghost reads = { atoms.byte_reads };
+    ghost reads = { λ tables. atoms.byte_reads };
 
     fn write(&self, out: &mut Vec<u8>) -> Result<(), OutOfMemory> {
         out.push(*self)?;
         Ok(())
     }
 
-    fn read(_alloc: Global, from: Reader<'_>) -> Result<Option<(u8, Reader<'_>)>, OutOfMemory> {
+    fn read<'a>(
+        _alloc: Global,
+        _tables: &Tables,
+        from: Reader<'a>,
+    ) -> Result<Option<(u8, Reader<'a>)>, OutOfMemory> {
         Ok(from.byte())
     }
 }
@@ -64,9 +73,9 @@ impl Part for u8 {
 impl Part for u16 {
     ghost bytes = { bytes.u16_bytes };
 
-    ghost in_front = { reading.u16_in };
+    ghost in_front = { λ tables. reading.u16_in };
 
-    ghost Fits = { λ n. n < 2 ^ 16 };
+    ghost Fits = { λ tables. λ n. n < 2 ^ 16 };
 
     ghost LEAST = { 2 };
 
@@ -74,7 +83,7 @@ impl Part for u16 {
 
     ghost few = { omega arith };
 
-    ghost reads = { atoms.u16_reads };
+    ghost reads = { λ tables. atoms.u16_reads };
 
     #[tactic(auto, unfolding(crate::specs::Bytes::u16_bytes))]
     fn write(&self, out: &mut Vec<u8>) -> Result<(), OutOfMemory> {
@@ -82,7 +91,11 @@ impl Part for u16 {
         Ok(())
     }
 
-    fn read(_alloc: Global, from: Reader<'_>) -> Result<Option<(u16, Reader<'_>)>, OutOfMemory> {
+    fn read<'a>(
+        _alloc: Global,
+        _tables: &Tables,
+        from: Reader<'a>,
+    ) -> Result<Option<(u16, Reader<'a>)>, OutOfMemory> {
         Ok(from.u16())
     }
 }
@@ -90,9 +103,9 @@ impl Part for u16 {
 impl Part for u32 {
     ghost bytes = { bytes.u32_bytes };
 
-    ghost in_front = { reading.u32_in };
+    ghost in_front = { λ tables. reading.u32_in };
 
-    ghost Fits = { λ n. n < 2 ^ 32 };
+    ghost Fits = { λ tables. λ n. n < 2 ^ 32 };
 
     ghost LEAST = { 4 };
 
@@ -100,7 +113,7 @@ impl Part for u32 {
 
     ghost few = { omega arith };
 
-    ghost reads = { atoms.u32_reads };
+    ghost reads = { λ tables. atoms.u32_reads };
 
     #[tactic(auto, unfolding(crate::specs::Bytes::u32_bytes))]
     fn write(&self, out: &mut Vec<u8>) -> Result<(), OutOfMemory> {
@@ -108,7 +121,11 @@ impl Part for u32 {
         Ok(())
     }
 
-    fn read(_alloc: Global, from: Reader<'_>) -> Result<Option<(u32, Reader<'_>)>, OutOfMemory> {
+    fn read<'a>(
+        _alloc: Global,
+        _tables: &Tables,
+        from: Reader<'a>,
+    ) -> Result<Option<(u32, Reader<'a>)>, OutOfMemory> {
         Ok(from.u32())
     }
 }
@@ -116,9 +133,9 @@ impl Part for u32 {
 impl Part for i64 {
     ghost bytes = { bytes.i64_bytes };
 
-    ghost in_front = { reading.i64_in };
+    ghost in_front = { λ tables. reading.i64_in };
 
-    ghost Fits = { λ z. bytes.is_i64 z ≡ true };
+    ghost Fits = { λ tables. λ z. bytes.is_i64 z ≡ true };
 
     ghost LEAST = { 8 };
 
@@ -126,13 +143,17 @@ impl Part for i64 {
 
     ghost few = { omega arith };
 
-    ghost reads = { atoms.i64_reads };
+    ghost reads = { λ tables. atoms.i64_reads };
 
     fn write(&self, out: &mut Vec<u8>) -> Result<(), OutOfMemory> {
         self.cast_unsigned().write(out)
     }
 
-    fn read(_alloc: Global, from: Reader<'_>) -> Result<Option<(i64, Reader<'_>)>, OutOfMemory> {
+    fn read<'a>(
+        _alloc: Global,
+        _tables: &Tables,
+        from: Reader<'a>,
+    ) -> Result<Option<(i64, Reader<'a>)>, OutOfMemory> {
         Ok(from.i64())
     }
 }
@@ -140,9 +161,9 @@ impl Part for i64 {
 impl Part for bool {
     ghost bytes = { bytes.flag_bytes };
 
-    ghost in_front = { reading.flag_in };
+    ghost in_front = { λ tables. reading.flag_in };
 
-    ghost Fits = { λ flag. Unit {0} };
+    ghost Fits = { λ tables. λ flag. Unit {0} };
 
     ghost LEAST = { 1 };
 
@@ -150,14 +171,18 @@ impl Part for bool {
 
     ghost few = { omega arith };
 
-    ghost reads = { atoms.flag_reads };
+    ghost reads = { λ tables. atoms.flag_reads };
 
     fn write(&self, out: &mut Vec<u8>) -> Result<(), OutOfMemory> {
         out.push(if *self { 1 } else { 0 })?;
         Ok(())
     }
 
-    fn read(_alloc: Global, from: Reader<'_>) -> Result<Option<(bool, Reader<'_>)>, OutOfMemory> {
+    fn read<'a>(
+        _alloc: Global,
+        _tables: &Tables,
+        from: Reader<'a>,
+    ) -> Result<Option<(bool, Reader<'a>)>, OutOfMemory> {
         Ok(from.flag())
     }
 }

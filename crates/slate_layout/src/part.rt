@@ -1,8 +1,10 @@
 //! Parts of a layout: values that bytes begin with.
 ghost use Rattle.std.specs.Prelude.{◌≡◌, ◌<◌, ◌^◌, ◌++◌, ℕ, List, Option, OnOk, IfOk};
+ghost use Rattle.slate_tables.specs.declared.ss_table_handle.SsTableHandle.{SsTableHandle};
 ghost use Rattle.slate_layout.specs.Reads.{Reads};
 
 use crate::reader::Reader;
+use crate::tables::Tables;
 use slate_ids::OutOfMemory;
 use std::alloc::Global;
 
@@ -11,11 +13,11 @@ pub(crate) trait Part: Drop {
     /// The bytes of a value.
     ghost bytes: { Self → List ℕ };
 
-    /// The value that bytes begin with, and the bytes after it.
-    ghost in_front: { List ℕ → Option (Self × List ℕ) };
+    /// The value that bytes begin with, among these tables, and the bytes after it.
+    ghost in_front: { List SsTableHandle → List ℕ → Option (Self × List ℕ) };
 
-    /// Whether a value has bytes.
-    ghost Fits: { Self → Type 0 };
+    /// Whether a value has bytes, among these tables.
+    ghost Fits: { List SsTableHandle → Self → Type 0 };
 
     /// How many bytes a value has at least.
     ghost LEAST: { ℕ };
@@ -26,13 +28,17 @@ pub(crate) trait Part: Drop {
     ghost few: { LEAST < 2 ^ 16 };
 
     /// What fits is read as it was written; what is read fits, and was written so.
-    ghost reads: { Reads in_front bytes Fits LEAST };
+    ghost reads: { (tables : List SsTableHandle) → Reads (in_front tables) bytes (Fits tables) LEAST };
 
     /// Adds the bytes of a value at the end.
     fn write(&self, out: &mut Vec<u8>) -> Result<(), OutOfMemory>
         ensures { OnOk result (out.new.items ≡ out.old.items ++ bytes self.now) };
 
-    /// The value that bytes begin with, where they begin with one.
-    fn read(alloc: Global, from: Reader<'_>) -> Result<Option<(Self, Reader<'_>)>, OutOfMemory>
-        ensures { IfOk result (λ read. read ≡ in_front from.entry) };
+    /// The value that bytes begin with, where they begin with one. Views are of these tables.
+    fn read<'a>(
+        alloc: Global,
+        tables: &Tables,
+        from: Reader<'a>,
+    ) -> Result<Option<(Self, Reader<'a>)>, OutOfMemory>
+        ensures { IfOk result (λ read. read ≡ in_front tables.now from.entry) };
 }

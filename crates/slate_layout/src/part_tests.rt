@@ -2,6 +2,7 @@
 
 use crate::part::Part;
 use crate::reader::Reader;
+use crate::tables::Tables;
 use bytes::Bytes;
 use slate_ids::{BytesRange, CheckpointId, DbPath, Listed, OutOfMemory, Text, Ulid};
 use slate_model::{Checkpoint, ExternalDb, Plain, SequenceTracker, SsTableId};
@@ -16,7 +17,7 @@ fn written<T: Part>(alloc: Global, value: &T) -> Result<Vec<u8>, OutOfMemory> {
 
 /// The value of all these bytes.
 fn read_whole<T: Part>(alloc: Global, bytes: &[u8]) -> Result<Option<T>, OutOfMemory> {
-    match T::read(alloc, Reader::new(bytes))? {
+    match T::read(alloc, &Tables::none(alloc), Reader::new(bytes))? {
         Some((value, rest)) if rest.len() == 0 => Ok(Some(value)),
         _ => Ok(None),
     }

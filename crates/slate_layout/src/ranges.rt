@@ -6,6 +6,7 @@ ghost use Rattle.slate_layout.specs.RangeParts as ranges;
 
 use crate::part::Part;
 use crate::reader::Reader;
+use crate::tables::Tables;
 use bytes::Bytes;
 use slate_ids::{BytesRange, KeySpan, OutOfMemory};
 use std::alloc::Global;
@@ -31,9 +32,9 @@ fn write_bound(bound: Bound<&Bytes>, out: &mut Vec<u8>) -> Result<(), OutOfMemor
 impl Part for Bound<Bytes> {
     ghost bytes = { ranges.bound_bytes };
 
-    ghost in_front = { ranges.bound_in };
+    ghost in_front = { λ tables. ranges.bound_in };
 
-    ghost Fits = { ranges.BoundFits };
+    ghost Fits = { λ tables. ranges.BoundFits };
 
     ghost LEAST = { 1 };
 
@@ -41,16 +42,17 @@ impl Part for Bound<Bytes> {
 
     ghost few = { omega arith };
 
-    ghost reads = { ranges.bound_reads };
+    ghost reads = { λ tables. ranges.bound_reads };
 
     fn write(&self, out: &mut Vec<u8>) -> Result<(), OutOfMemory> {
         write_bound(self.as_ref(), out)
     }
 
-    fn read(
+    fn read<'a>(
         alloc: Global,
-        from: Reader<'_>,
-    ) -> Result<Option<(Bound<Bytes>, Reader<'_>)>, OutOfMemory> {
+        tables: &Tables,
+        from: Reader<'a>,
+    ) -> Result<Option<(Bound<Bytes>, Reader<'a>)>, OutOfMemory> {
         let Some((kind, from)) = from.byte() else {
             return Ok(None);
         };
@@ -60,7 +62,7 @@ impl Part for Bound<Bytes> {
         if kind > 2 {
             return Ok(None);
         }
-        match Bytes::read(alloc, from)? {
+        match Bytes::read(alloc, tables, from)? {
             None => Ok(None),
             Some((key, from)) => {
                 if kind == 1 {
@@ -87,9 +89,9 @@ fn range_of(start: Bound<Bytes>, end: Bound<Bytes>) -> Option<BytesRange>
 impl Part for BytesRange {
     ghost bytes = { ranges.range_bytes };
 
-    ghost in_front = { ranges.range_in };
+    ghost in_front = { λ tables. ranges.range_in };
 
-    ghost Fits = { ranges.RangeFits };
+    ghost Fits = { λ tables. ranges.RangeFits };
 
     ghost LEAST = { 1 };
 
@@ -97,18 +99,20 @@ impl Part for BytesRange {
 
     ghost few = { omega arith };
 
-    ghost reads = { ranges.range_reads };
+    ghost reads = { λ tables. ranges.range_reads };
 
     fn write(&self, out: &mut Vec<u8>) -> Result<(), OutOfMemory> {
         write_bound(self.start_bound(), out)?;
         write_bound(self.end_bound(), out)
     }
 
-    fn read(
+    fn read<'a>(
         alloc: Global,
-        from: Reader<'_>,
-    ) -> Result<Option<(BytesRange, Reader<'_>)>, OutOfMemory> {
-        let Some(((start, end), from)) = <(Bound<Bytes>, Bound<Bytes>)>::read(alloc, from)? else {
+        tables: &Tables,
+        from: Reader<'a>,
+    ) -> Result<Option<(BytesRange, Reader<'a>)>, OutOfMemory> {
+        let Some(((start, end), from)) = <(Bound<Bytes>, Bound<Bytes>)>::read(alloc, tables, from)?
+        else {
             return Ok(None);
         };
         match range_of(start, end) {

@@ -7,6 +7,7 @@ ghost use Rattle.slate_layout.specs.InfoParts.{tag_in, TagFits};
 
 use crate::part::Part;
 use crate::reader::Reader;
+use crate::tables::Tables;
 use slate_ids::OutOfMemory;
 use slate_model::{CompressionTag, FilterFormat, SstType};
 use std::alloc::Global;
@@ -14,9 +15,9 @@ use std::alloc::Global;
 impl Part for CompressionTag {
     ghost bytes = { λ c. byte_bytes (infos.codec_number c) };
 
-    ghost in_front = { tag_in infos.codec_of };
+    ghost in_front = { λ tables. tag_in infos.codec_of };
 
-    ghost Fits = { TagFits infos.codec_of infos.codec_number };
+    ghost Fits = { λ tables. TagFits infos.codec_of infos.codec_number };
 
     ghost LEAST = { 1 };
 
@@ -24,7 +25,7 @@ impl Part for CompressionTag {
 
     ghost few = { omega arith };
 
-    ghost reads = { infos.codec_reads };
+    ghost reads = { λ tables. infos.codec_reads };
 
     fn write(&self, out: &mut Vec<u8>) -> Result<(), OutOfMemory> {
         match self {
@@ -36,10 +37,11 @@ impl Part for CompressionTag {
         }
     }
 
-    fn read(
+    fn read<'a>(
         _alloc: Global,
-        from: Reader<'_>,
-    ) -> Result<Option<(CompressionTag, Reader<'_>)>, OutOfMemory> {
+        _tables: &Tables,
+        from: Reader<'a>,
+    ) -> Result<Option<(CompressionTag, Reader<'a>)>, OutOfMemory> {
         let Some((number, from)) = from.byte() else {
             return Ok(None);
         };
@@ -58,9 +60,9 @@ impl Part for CompressionTag {
 impl Part for SstType {
     ghost bytes = { λ t. byte_bytes (infos.type_number t) };
 
-    ghost in_front = { tag_in infos.type_of };
+    ghost in_front = { λ tables. tag_in infos.type_of };
 
-    ghost Fits = { TagFits infos.type_of infos.type_number };
+    ghost Fits = { λ tables. TagFits infos.type_of infos.type_number };
 
     ghost LEAST = { 1 };
 
@@ -68,7 +70,7 @@ impl Part for SstType {
 
     ghost few = { omega arith };
 
-    ghost reads = { infos.type_reads };
+    ghost reads = { λ tables. infos.type_reads };
 
     fn write(&self, out: &mut Vec<u8>) -> Result<(), OutOfMemory> {
         match self {
@@ -77,10 +79,11 @@ impl Part for SstType {
         }
     }
 
-    fn read(
+    fn read<'a>(
         _alloc: Global,
-        from: Reader<'_>,
-    ) -> Result<Option<(SstType, Reader<'_>)>, OutOfMemory> {
+        _tables: &Tables,
+        from: Reader<'a>,
+    ) -> Result<Option<(SstType, Reader<'a>)>, OutOfMemory> {
         match from.byte() {
             Some((0, from)) => Ok(Some((SstType::Compacted, from))),
             Some((1, from)) => Ok(Some((SstType::Wal, from))),
@@ -92,9 +95,9 @@ impl Part for SstType {
 impl Part for FilterFormat {
     ghost bytes = { λ f. byte_bytes (infos.format_number f) };
 
-    ghost in_front = { tag_in infos.format_of };
+    ghost in_front = { λ tables. tag_in infos.format_of };
 
-    ghost Fits = { TagFits infos.format_of infos.format_number };
+    ghost Fits = { λ tables. TagFits infos.format_of infos.format_number };
 
     ghost LEAST = { 1 };
 
@@ -102,7 +105,7 @@ impl Part for FilterFormat {
 
     ghost few = { omega arith };
 
-    ghost reads = { infos.format_reads };
+    ghost reads = { λ tables. infos.format_reads };
 
     fn write(&self, out: &mut Vec<u8>) -> Result<(), OutOfMemory> {
         match self {
@@ -111,10 +114,11 @@ impl Part for FilterFormat {
         }
     }
 
-    fn read(
+    fn read<'a>(
         _alloc: Global,
-        from: Reader<'_>,
-    ) -> Result<Option<(FilterFormat, Reader<'_>)>, OutOfMemory> {
+        _tables: &Tables,
+        from: Reader<'a>,
+    ) -> Result<Option<(FilterFormat, Reader<'a>)>, OutOfMemory> {
         match from.byte() {
             Some((0, from)) => Ok(Some((FilterFormat::Legacy, from))),
             Some((1, from)) => Ok(Some((FilterFormat::Composite, from))),

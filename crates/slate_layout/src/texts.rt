@@ -10,6 +10,7 @@ ghost use Rattle.slate_layout.specs.Texts as texts;
 use crate::numbers::write_count;
 use crate::part::Part;
 use crate::reader::Reader;
+use crate::tables::Tables;
 use bytes::Bytes;
 use slate_ids::{CheckpointId, DbPath, OutOfMemory, Text, Ulid};
 use std::alloc::Global;
@@ -17,9 +18,9 @@ use std::alloc::Global;
 impl Part for Bytes {
     ghost bytes = { bytes.counted_bytes };
 
-    ghost in_front = { reading.counted_in };
+    ghost in_front = { λ tables. reading.counted_in };
 
-    ghost Fits = { texts.IsShort };
+    ghost Fits = { λ tables. texts.IsShort };
 
     ghost LEAST = { 4 };
 
@@ -27,7 +28,7 @@ impl Part for Bytes {
 
     ghost few = { omega arith };
 
-    ghost reads = { atoms.counted_reads };
+    ghost reads = { λ tables. atoms.counted_reads };
 
     fn write(&self, out: &mut Vec<u8>) -> Result<(), OutOfMemory> {
         write_count(self.len(), out)?;
@@ -35,7 +36,11 @@ impl Part for Bytes {
         Ok(())
     }
 
-    fn read(alloc: Global, from: Reader<'_>) -> Result<Option<(Bytes, Reader<'_>)>, OutOfMemory> {
+    fn read<'a>(
+        alloc: Global,
+        _tables: &Tables,
+        from: Reader<'a>,
+    ) -> Result<Option<(Bytes, Reader<'a>)>, OutOfMemory> {
         match from.counted() {
             Some((bytes, from)) => Ok(Some((Bytes::copy_from_slice(alloc, bytes)?, from))),
             None => Ok(None),
@@ -65,9 +70,9 @@ fn text_in_front(from: Reader<'_>) -> Option<(&str, Reader<'_>)>
 impl Part for Text {
     ghost bytes = { bytes.counted_bytes };
 
-    ghost in_front = { texts.text_in };
+    ghost in_front = { λ tables. texts.text_in };
 
-    ghost Fits = { texts.TextFits };
+    ghost Fits = { λ tables. texts.TextFits };
 
     ghost LEAST = { 4 };
 
@@ -75,7 +80,7 @@ impl Part for Text {
 
     ghost few = { omega arith };
 
-    ghost reads = { texts.text_reads };
+    ghost reads = { λ tables. texts.text_reads };
 
     fn write(&self, out: &mut Vec<u8>) -> Result<(), OutOfMemory> {
         let bytes = self.as_str().as_bytes();
@@ -84,7 +89,11 @@ impl Part for Text {
         Ok(())
     }
 
-    fn read(alloc: Global, from: Reader<'_>) -> Result<Option<(Text, Reader<'_>)>, OutOfMemory> {
+    fn read<'a>(
+        alloc: Global,
+        _tables: &Tables,
+        from: Reader<'a>,
+    ) -> Result<Option<(Text, Reader<'a>)>, OutOfMemory> {
         match text_in_front(from) {
             Some((text, from)) => Ok(Some((Text::copy_of(alloc, text)?, from))),
             None => Ok(None),
@@ -95,9 +104,9 @@ impl Part for Text {
 impl Part for DbPath {
     ghost bytes = { bytes.counted_bytes };
 
-    ghost in_front = { texts.path_in };
+    ghost in_front = { λ tables. texts.path_in };
 
-    ghost Fits = { texts.PathFits };
+    ghost Fits = { λ tables. texts.PathFits };
 
     ghost LEAST = { 4 };
 
@@ -105,7 +114,7 @@ impl Part for DbPath {
 
     ghost few = { omega arith };
 
-    ghost reads = { texts.path_reads };
+    ghost reads = { λ tables. texts.path_reads };
 
     fn write(&self, out: &mut Vec<u8>) -> Result<(), OutOfMemory> {
         let letters = self.letters();
@@ -114,7 +123,11 @@ impl Part for DbPath {
         Ok(())
     }
 
-    fn read(_alloc: Global, from: Reader<'_>) -> Result<Option<(DbPath, Reader<'_>)>, OutOfMemory> {
+    fn read<'a>(
+        _alloc: Global,
+        _tables: &Tables,
+        from: Reader<'a>,
+    ) -> Result<Option<(DbPath, Reader<'a>)>, OutOfMemory> {
         let Some((text, from)) = text_in_front(from) else {
             return Ok(None);
         };
@@ -128,9 +141,9 @@ impl Part for DbPath {
 impl Part for Ulid {
     ghost bytes = { texts.id_bytes };
 
-    ghost in_front = { texts.id_in };
+    ghost in_front = { λ tables. texts.id_in };
 
-    ghost Fits = { texts.IdFits };
+    ghost Fits = { λ tables. texts.IdFits };
 
     ghost LEAST = { 8 };
 
@@ -138,7 +151,7 @@ impl Part for Ulid {
 
     ghost few = { omega arith };
 
-    ghost reads = { texts.id_reads };
+    ghost reads = { λ tables. texts.id_reads };
 
     fn write(&self, out: &mut Vec<u8>) -> Result<(), OutOfMemory> {
         let number = self.as_u128();
@@ -146,8 +159,12 @@ impl Part for Ulid {
         ((number >> 64) as u64, low).write(out)
     }
 
-    fn read(alloc: Global, from: Reader<'_>) -> Result<Option<(Ulid, Reader<'_>)>, OutOfMemory> {
-        match <(u64, u64)>::read(alloc, from)? {
+    fn read<'a>(
+        alloc: Global,
+        tables: &Tables,
+        from: Reader<'a>,
+    ) -> Result<Option<(Ulid, Reader<'a>)>, OutOfMemory> {
+        match <(u64, u64)>::read(alloc, tables, from)? {
             Some(((high, low), from)) => {
                 let number = ((high as u128) << 64) + low as u128;
                 Ok(Some((Ulid::from_u128(number), from)))
@@ -160,9 +177,9 @@ impl Part for Ulid {
 impl Part for CheckpointId {
     ghost bytes = { λ id. id };
 
-    ghost in_front = { reading.bytes_in 16 };
+    ghost in_front = { λ tables. reading.bytes_in 16 };
 
-    ghost Fits = { λ id. length id ≡ 16 };
+    ghost Fits = { λ tables. λ id. length id ≡ 16 };
 
     ghost LEAST = { 16 };
 
@@ -170,17 +187,18 @@ impl Part for CheckpointId {
 
     ghost few = { omega arith };
 
-    ghost reads = { atoms.sixteen_reads };
+    ghost reads = { λ tables. atoms.sixteen_reads };
 
     fn write(&self, out: &mut Vec<u8>) -> Result<(), OutOfMemory> {
         out.extend_from_slice(self.as_bytes())?;
         Ok(())
     }
 
-    fn read(
+    fn read<'a>(
         _alloc: Global,
-        from: Reader<'_>,
-    ) -> Result<Option<(CheckpointId, Reader<'_>)>, OutOfMemory> {
+        _tables: &Tables,
+        from: Reader<'a>,
+    ) -> Result<Option<(CheckpointId, Reader<'a>)>, OutOfMemory> {
         match from.take(16) {
             Some((bytes, from)) => {
                 let mut id = [0; 16];

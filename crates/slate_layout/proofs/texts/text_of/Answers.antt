@@ -1,7 +1,6 @@
-use Rattle.std.proofs.Common.{◌≡◌, ℕ, List, Bool, true, false, Option, Some, None, if◌then◌else◌, refl, ap, sym, subst, ◌∙◌}
+use Rattle.std.proofs.Common.{◌≡◌, ℕ, List, Bool, true, false, Option, Some, None, if◌then◌else◌, refl}
 use Rattle.std.specs.Str.{IsUtf8, is_utf8}
 use Rattle.std.proofs.lemmas.Str.{is_utf8-from_IsUtf8, IsUtf8-from_is_utf8}
-use Rattle.slate_layout.specs.Texts.{tested}
 use Rattle.slate_layout.proofs.texts.text_of.Goals as goal
 
 passed : (text bytes : List ℕ) (b : Bool) → text ≡ bytes → b ≡ true → Some text ≡ (if b then Some bytes else None)
