@@ -10,3 +10,5 @@ pub mod InfoParts
 pub mod InfoCodec
 pub mod CheckpointParts
 pub mod TreeParts
+pub mod ManifestParts
+pub mod UsedTables

@@ -9,15 +9,19 @@ mod numbers;
 mod part;
 mod ranges;
 mod reader;
+mod second_version;
 mod tables;
 mod tags;
 mod texts;
 mod trees;
+mod used_tables;
 
 pub use info_codec::{decode_info, encode_info};
 
 #[cfg(test)]
 mod info_tests;
+#[cfg(test)]
+mod manifest_tests;
 #[cfg(test)]
 mod part_tests;
 #[cfg(test)]

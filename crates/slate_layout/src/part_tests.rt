@@ -104,7 +104,9 @@ fn a_tracker_keeps_its_order(rt: HostRuntime) -> Result<(), OutOfMemory> {
     let mut bytes = written(rt.alloc(), &tracker)?;
     let read = read_whole::<SequenceTracker>(rt.alloc(), bytes.as_slice())?.ok_or(OutOfMemory)?;
     assert!(rt; read.is(&tracker));
-    bytes[27] = 10;
+    if let Some(number) = bytes.get_mut(27) {
+        *number = 10;
+    }
     assert!(rt; read_whole::<SequenceTracker>(rt.alloc(), bytes.as_slice())?.is_none());
     Ok(())
 }

@@ -120,6 +120,14 @@ impl Tables {
         }
     }
 
+    /// The tables, ascending by id.
+    pub(crate) fn as_slice(&self) -> &[SsTableHandle]
+        ensures tables { result.now ≡ self.now }
+        ensures ascending { ascend self.now ≡ true }
+    {
+        self.handles.as_slice()
+    }
+
     /// The table of an id, by search.
     #[tactic(auto, using(crate::proofs::Lookups::found))]
     pub(crate) fn get(&self, id: Ulid) -> Option<&SsTableHandle>
