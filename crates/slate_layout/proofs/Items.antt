@@ -23,3 +23,10 @@ module _ {X : Type 0} (read : List ℕ → Option (X × List ℕ)) where
       joined_more front item (items_in read (count - (i + 1)) rest)
       ∙ ap (λ (o : Option (X × List ℕ)). with_front front (o >>= λ p. items_in read (count - (i + 1)) p.1 >>= λ items. Some (p.0 ∷ items.0, items.1))) (sym h)
       ∙ ap (λ (n : ℕ). with_front front (items_in read n left)) (sym step)
+
+  -- nothing was read
+  pub read_stops : (front : List X) (left : List ℕ) (count i : ℕ) → i < count → read left ≡ None → with_front front (items_in read (count - i) left) ≡ None
+  read_stops front left count i within h =
+      let step : count - i ≡ suc (count - (i + 1)) = omega arith in
+      ap (λ (n : ℕ). with_front front (items_in read n left)) step
+      ∙ ap (λ (o : Option (X × List ℕ)). with_front front (o >>= λ p. items_in read (count - (i + 1)) p.1 >>= λ items. Some (p.0 ∷ items.0, items.1))) h

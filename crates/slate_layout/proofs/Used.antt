@@ -9,7 +9,8 @@ use Rattle.slate_model.specs.Trees.{views_of_tree}
 use Rattle.slate_layout.specs.Tables.{table_id, same_id}
 use Rattle.slate_layout.specs.UsedTables.{any_of}
 
-by_segment : (ss : List Prefixed) → flat_map views_of_tree (map (λ s. s.tree) ss) ≡ flat_map (λ s. views_of_tree s.tree) ss
+-- the views of segments, through their trees or one by one
+pub by_segment : (ss : List Prefixed) → flat_map views_of_tree (map (λ s. s.tree) ss) ≡ flat_map (λ s. views_of_tree s.tree) ss
 by_segment [] = refl
 by_segment (s ∷ ss) = ap (λ (l : List View). views_of_tree s.tree ++ l) (by_segment ss)
 

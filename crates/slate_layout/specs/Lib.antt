@@ -12,3 +12,6 @@ pub mod CheckpointParts
 pub mod TreeParts
 pub mod ManifestParts
 pub mod UsedTables
+pub mod Gathered
+pub mod OldManifests
+pub mod Decoding

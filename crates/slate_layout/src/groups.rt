@@ -125,8 +125,8 @@ fn read_items<'a, T: Part>(
     Ok(Some((items, left)))
 }
 
-// Whether so many values of at least so many bytes can be left.
-fn has_room(count: u32, least: usize, from: &Reader<'_>) -> bool
+/// Whether so many values of at least so many bytes can be left.
+pub(crate) fn has_room(count: u32, least: usize, from: &Reader<'_>) -> bool
     requires { least < 2 ^ 16 }
     ensures { result ≡ nat_le (count * least) (length from.now) }
 {

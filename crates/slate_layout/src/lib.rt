@@ -1,6 +1,9 @@
 //! The bytes of manifests and of what is known of tables.
 #![tactic(auto)]
 
+mod decode;
+mod first_version;
+mod gathered;
 mod groups;
 mod info_codec;
 mod infos;
@@ -16,8 +19,11 @@ mod texts;
 mod trees;
 mod used_tables;
 
+pub use decode::decode_manifest;
 pub use info_codec::{decode_info, encode_info};
 
+#[cfg(test)]
+mod decode_tests;
 #[cfg(test)]
 mod info_tests;
 #[cfg(test)]

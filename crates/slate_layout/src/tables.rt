@@ -36,6 +36,13 @@ pub(crate) fn table_id(id: SsTableId) -> Ulid
     }
 }
 
+/// The milliseconds and the tail of an id.
+pub(crate) fn parts_of(id: Ulid) -> (u64, u128)
+    ensures { result ≡ id }
+{
+    (id.timestamp_ms(), id.tail())
+}
+
 // Whether an id stands before another.
 fn id_lt(a: Ulid, b: Ulid) -> bool
     ensures { result ≡ tables.id_lt a b }

@@ -39,8 +39,8 @@ fn starts_with_key(range: &BytesRange) -> bool
     }
 }
 
-// Whether a table has a first entry, and a visible range, where not all is visible, may be one of it.
-fn may_show(table: &SsTableHandle, visible: &Option<BytesRange>) -> bool
+/// Whether a table has a first entry, and a visible range, where not all is visible, may be one of it.
+pub(crate) fn may_show(table: &SsTableHandle, visible: &Option<BytesRange>) -> bool
     ensures { result ≡ trees.may_show table.now visible.now }
 {
     match (&table.info.first_entry, visible) {

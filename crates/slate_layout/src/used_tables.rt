@@ -6,8 +6,8 @@ ghost use Rattle.slate_layout.specs.Tables as tables;
 ghost use Rattle.slate_layout.specs.UsedTables.{has, any_of};
 ghost use Rattle.slate_layout.specs.ManifestParts.{all_used};
 
-use crate::tables::table_id;
-use slate_ids::{OutOfMemory, Ulid};
+use crate::tables::{parts_of, table_id};
+use slate_ids::OutOfMemory;
 use slate_model::{
     LsmTreeState, Manifest, ManifestCore, Segment, SortedRun, SsTableHandle, SsTableView,
 };
@@ -16,13 +16,6 @@ use std::collections::BTreeSet;
 
 /// Ids of tables, in order.
 type Ids = BTreeSet<(u64, u128)>;
-
-// The parts of an id.
-fn parts_of(id: Ulid) -> (u64, u128)
-    ensures { result ≡ id }
-{
-    (id.timestamp_ms(), id.tail())
-}
 
 // Adds the tables of these views.
 fn add_views(ids: &mut Ids, views: &[SsTableView]) -> Result<(), OutOfMemory>
