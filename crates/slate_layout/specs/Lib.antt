@@ -15,3 +15,5 @@ pub mod UsedTables
 pub mod Gathered
 pub mod OldManifests
 pub mod Decoding
+pub mod Unencodable
+pub mod Normal
