@@ -17,3 +17,5 @@ pub mod OldManifests
 pub mod Decoding
 pub mod Unencodable
 pub mod Normal
+pub mod GatheredLaws
+pub mod SameHandles

@@ -8,6 +8,7 @@ mod gathered;
 mod groups;
 mod info_codec;
 mod infos;
+mod laws;
 mod manifest_parts;
 mod normal;
 mod numbers;
