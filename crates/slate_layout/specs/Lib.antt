@@ -15,7 +15,3 @@ pub mod UsedTables
 pub mod Gathered
 pub mod OldManifests
 pub mod Decoding
-pub mod Unencodable
-pub mod Normal
-pub mod GatheredLaws
-pub mod SameHandles
