@@ -75,18 +75,18 @@ fits_short : (o : Option (List ℕ)) → OptionFits IsShort o → is_short o ≡
 fits_short None h = refl
 fits_short (Some key) h = grind (arith, nat_tests)
 
-codec_fits : (c : CompressionTag) → TagFits codec_of codec_number c
+pub codec_fits : (c : CompressionTag) → TagFits codec_of codec_number c
 codec_fits compressed.None = record { fits = tt; is_made = refl }
 codec_fits compressed.Snappy = record { fits = tt; is_made = refl }
 codec_fits compressed.Lz4 = record { fits = tt; is_made = refl }
 codec_fits compressed.Zlib = record { fits = tt; is_made = refl }
 codec_fits compressed.Zstd = record { fits = tt; is_made = refl }
 
-type_fits : (t : SstType) → TagFits type_of type_number t
+pub type_fits : (t : SstType) → TagFits type_of type_number t
 type_fits type.Compacted = record { fits = tt; is_made = refl }
 type_fits type.Wal = record { fits = tt; is_made = refl }
 
-format_fits : (f : FilterFormat) → TagFits format_of format_number f
+pub format_fits : (f : FilterFormat) → TagFits format_of format_number f
 format_fits format.Legacy = record { fits = tt; is_made = refl }
 format_fits format.Composite = record { fits = tt; is_made = refl }
 

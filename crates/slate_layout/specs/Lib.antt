@@ -15,3 +15,7 @@ pub mod UsedTables
 pub mod Gathered
 pub mod OldManifests
 pub mod Decoding
+pub mod Unencodable
+pub mod Normal
+pub mod GatheredLaws
+pub mod SameHandles

@@ -73,7 +73,7 @@ two_reads = pair_reads _ _ _ 8 u64_reads _ _ _ 8 u64_reads
 abbrev head_in : List ℕ → Option (Head × List ℕ)
 head_in = pair_in flag_in (pair_in two_in two_in)
 
-abbrev head_bytes : Head → List ℕ
+abbrev pub head_bytes : Head → List ℕ
 head_bytes = pair_bytes flag_bytes (pair_bytes two_bytes two_bytes)
 
 abbrev HeadFits : Head → Type 0
@@ -85,7 +85,7 @@ head_reads = pair_reads _ _ _ 1 flag_reads _ _ _ 8 (pair_reads _ _ _ 8 two_reads
 abbrev middle_in : List ℕ → Option (Middle × List ℕ)
 middle_in = pair_in (option_in text_in) (pair_in i64_in two_in)
 
-abbrev middle_bytes : Middle → List ℕ
+abbrev pub middle_bytes : Middle → List ℕ
 middle_bytes = pair_bytes (option_bytes counted_bytes) (pair_bytes i64_bytes two_bytes)
 
 abbrev MiddleFits : Middle → Type 0
@@ -97,7 +97,7 @@ middle_reads = pair_reads _ _ _ 1 (option_reads _ _ _ 4 text_reads) _ _ _ 8 (pai
 abbrev tail_in : List ℕ → Option (Tail × List ℕ)
 tail_in = pair_in tracker_in (pair_in (list_in checkpoint_in 16) (pair_in (list_in entry_in 4) u64_in))
 
-abbrev tail_bytes : Tail → List ℕ
+abbrev pub tail_bytes : Tail → List ℕ
 tail_bytes = pair_bytes tracker_bytes (pair_bytes (list_bytes checkpoint_bytes) (pair_bytes (list_bytes entry_bytes) u64_bytes))
 
 abbrev TailFits : Tail → Type 0
@@ -105,6 +105,10 @@ TailFits = PairFits TrackerFits (PairFits (ListFits CheckpointFits) (PairFits (L
 
 tail_reads : Reads tail_in tail_bytes TailFits 4
 tail_reads = pair_reads _ _ _ 4 tracker_reads _ _ _ 4 (pair_reads _ _ _ 4 (list_reads _ _ _ 16 checkpoint_reads) _ _ _ 4 (pair_reads _ _ _ 4 (list_reads _ _ _ 4 entry_reads) _ _ _ 8 u64_reads))
+
+-- the root tree and the segments
+abbrev pub trees_bytes : LsmTreeState × List Prefixed → List ℕ
+trees_bytes = pair_bytes tree_bytes (list_bytes segment_bytes)
 
 abbrev pub body_in : List SsTableHandle → List ℕ → Option (Body × List ℕ)
 body_in tables = pair_in head_in (pair_in (tree_in tables) (pair_in (list_in (segment_in tables) 4) (pair_in middle_in tail_in)))

@@ -9,7 +9,7 @@ use Rattle.std.proofs.lemmas.Int.{to_z-of_z, of_z-to_z}
 use Rattle.std.proofs.lemmas.Bool.Decides.{nat_tests}
 use Rattle.slate_layout.specs.Bytes.{is_u64, is_i64}
 use Rattle.slate_layout.specs.Bytes.{u32_bytes, u64_bytes, i64_bytes, flag_bytes}
-use Rattle.slate_layout.specs.Reading.{◌>>=◌, after, flag_in, u32_in, u64_in, i64_in, bytes_in}
+use Rattle.slate_layout.specs.Reading.{◌>>=◌, flag_in, u32_in, u64_in, i64_in, bytes_in}
 
 -- each is below 256
 pub record AreBytes (bytes : List ℕ) : Type 0 where
@@ -48,18 +48,6 @@ pub record IsFront (front bytes rest : List ℕ) : Type 0 where
 
 pub join_fronts : {a b bytes mid rest : List ℕ} → IsFront a bytes mid → IsFront b mid rest → IsFront (a ++ b) bytes rest
 join_fronts {a} {b} {bytes} {mid} {rest} h g = record { is = append_assoc a b rest ∙ ap (λ (l : List ℕ). a ++ l) g.is ∙ h.is; rest_small = g.rest_small }
-
-after_by_first : (t : Bool) (c b : ℕ) (constant bytes rest : List ℕ) → c == b ≡ t → (after constant bytes ≡ Some rest → IsFront constant bytes rest) → (if t then after constant bytes else None) ≡ Some rest → IsFront (c ∷ constant) (b ∷ bytes) rest
-after_by_first true c b constant bytes rest e more h =
-    let same : c ≡ b = grind (arith, nat_tests) in
-    let found = more h in
-    record { is = cc (found.is); rest_small = found.rest_small }
-after_by_first false c b constant bytes rest e more h = absurd (cc)
-
-pub after_only : (constant bytes rest : List ℕ) → AreBytes bytes → after constant bytes ≡ Some rest → IsFront constant bytes rest
-after_only [] bytes rest small h = record { is = cc; rest_small = subst (λ (l : List ℕ). AreBytes l) (cc) small }
-after_only (c ∷ constant) [] rest small h = absurd (cc)
-after_only (c ∷ constant) (b ∷ bytes) rest small h = after_by_first (c == b) c b constant bytes rest refl (after_only constant bytes rest (AreBytes-rest b bytes small)) h
 
 -- a value and the rest
 abbrev pub found : {X : Type 0} → List ℕ → X → Option (X × List ℕ)

@@ -8,12 +8,6 @@ abbrev pub ◌>>=◌ : {A B : Type 0} → Option A → (A → Option B) → Opti
 (Some x) >>= f = f x
 None >>= f = None
 
--- what follows these bytes
-abbrev pub after : List ℕ → List ℕ → Option (List ℕ)
-after [] bytes = Some bytes
-after (c ∷ constant) [] = None
-after (c ∷ constant) (b ∷ bytes) = if c == b then after constant bytes else None
-
 -- one byte
 abbrev pub byte_in : List ℕ → Option (ℕ × List ℕ)
 byte_in [] = None

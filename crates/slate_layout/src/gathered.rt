@@ -1,10 +1,14 @@
 //! The tables of views, gathered by id.
-ghost use Rattle.std.specs.Prelude.{◌≡◌, [], IfOk, Some, None, map, if◌then◌else◌};
+ghost use Rattle.std.specs.Prelude.{◌≡◌, ◌++◌, [], length, IfOk, OnOk, Some, None, map, if◌then◌else◌};
 ghost use Rattle.std.specs.List.{flat_map};
 ghost use Rattle.slate_model.specs.Trees.{views_of, views_of_tree};
+ghost use Rattle.slate_layout.specs.Bytes.{list_bytes};
+ghost use Rattle.slate_layout.specs.InfoParts.{handle_bytes};
 ghost use Rattle.slate_layout.specs.Gathered as gathering;
 ghost use Rattle.slate_layout.specs.Gathered.{gathered, with_view};
 
+use crate::numbers::write_count;
+use crate::part::Part;
 use crate::tables::{parts_of, table_id};
 use bytes::Bytes;
 use slate_ids::OutOfMemory;
@@ -64,6 +68,19 @@ fn same_handle(a: &SsTableHandle, b: &SsTableHandle) -> bool
     a.id == b.id && a.format_version == b.format_version && same_info(&a.info, &b.info)
 }
 
+// Adds the bytes of tables at the end.
+fn write_tables(
+    tables: &BTreeMap<(u64, u128), SsTableHandle>,
+    out: &mut Vec<u8>,
+) -> Result<(), OutOfMemory>
+    ensures { OnOk result (out.new.items ≡ out.old.items ++ flat_map handle_bytes (map (λ e. e.1) tables.now.entries)) }
+{
+    for (_, table) in tables {
+        table.write(out)?;
+    }
+    Ok(())
+}
+
 impl Gathered {
     /// No tables. Takes no memory.
     pub(crate) fn new(alloc: Global) -> Gathered
@@ -72,6 +89,21 @@ impl Gathered {
         Gathered {
             tables: BTreeMap::new(alloc),
         }
+    }
+
+    /// How many tables there are.
+    pub(crate) fn len(&self) -> usize
+        ensures { result ≡ length self.now }
+    {
+        self.tables.len()
+    }
+
+    /// Adds the bytes of the tables, ascending by id, at the end.
+    pub(crate) fn write(&self, out: &mut Vec<u8>) -> Result<(), OutOfMemory>
+        ensures { OnOk result (out.new.items ≡ out.old.items ++ list_bytes handle_bytes (map (λ e. e.1) self.now)) }
+    {
+        write_count(self.tables.len(), out)?;
+        write_tables(&self.tables, out)
     }
 
     /// Adds the table of a view; whether its id has no other.

@@ -15,8 +15,8 @@ use slate_ids::{FieldName, FormatName, SlateDBError};
 use slate_model::SsTableInfo;
 use std::alloc::Global;
 
-// Whether a key, where there is one, has 32 bits of length.
-fn is_short(key: &Option<Bytes>) -> bool
+/// Whether a key, where there is one, has 32 bits of length.
+pub(crate) fn is_short(key: &Option<Bytes>) -> bool
     ensures { result ≡ codec.is_short key.now }
 {
     match key {

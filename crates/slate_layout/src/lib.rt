@@ -2,12 +2,15 @@
 #![tactic(auto)]
 
 mod decode;
+mod encode;
 mod first_version;
 mod gathered;
 mod groups;
 mod info_codec;
 mod infos;
+mod laws;
 mod manifest_parts;
+mod normal;
 mod numbers;
 mod part;
 mod ranges;
@@ -17,13 +20,18 @@ mod tables;
 mod tags;
 mod texts;
 mod trees;
+mod unencodable;
 mod used_tables;
 
 pub use decode::decode_manifest;
+pub use encode::encode_manifest;
 pub use info_codec::{decode_info, encode_info};
+pub use normal::normal_form_manifest;
 
 #[cfg(test)]
 mod decode_tests;
+#[cfg(test)]
+mod encode_tests;
 #[cfg(test)]
 mod info_tests;
 #[cfg(test)]

@@ -1,0 +1,98 @@
+//! The bytes of a manifest.
+ghost use Rattle.std.specs.Prelude.{◌≡◌, ◌++◌, Some, OnOk};
+ghost use Rattle.slate_ids.specs.Answers.{GivesList};
+ghost use Rattle.slate_layout.specs.ManifestParts as parts;
+ghost use Rattle.slate_layout.specs.Unencodable.{encoded_with, encoded_manifest};
+
+use crate::gathered::Gathered;
+use crate::groups::write_items;
+use crate::numbers::write_count;
+use crate::part::Part;
+use crate::unencodable::{early_field, late_field};
+use slate_ids::{FieldName, OutOfMemory, SlateDBError};
+use slate_model::{Manifest, ManifestCore};
+use std::alloc::Global;
+
+// Adds the bytes of the head: the flag, the epochs, and the files of the write-ahead log.
+fn write_head(manifest: &Manifest, out: &mut Vec<u8>) -> Result<(), OutOfMemory>
+    ensures { OnOk result (out.new.items ≡ out.old.items ++ parts.head_bytes (parts.body_of manifest.now).0) }
+{
+    let core = &manifest.core;
+    let epochs = (manifest.writer_epoch, manifest.compactor_epoch);
+    let files = (
+        core.replay_after_wal_id,
+        core.next_wal_sst_id.saturating_sub(1),
+    );
+    (core.initialized, (epochs, files)).write(out)
+}
+
+// Adds the bytes of the middle: the extractor's name, the tick, and the sequence numbers.
+fn write_middle(core: &ManifestCore, out: &mut Vec<u8>) -> Result<(), OutOfMemory>
+    ensures { OnOk result (out.new.items ≡ out.old.items ++ parts.middle_bytes (core.now.segment_extractor_name, (core.now.last_l0_clock_tick, (core.now.last_l0_seq, core.now.recent_snapshot_min_seq)))) }
+{
+    core.segment_extractor_name.write(out)?;
+    core.last_l0_clock_tick.write(out)?;
+    (core.last_l0_seq, core.recent_snapshot_min_seq).write(out)
+}
+
+// Adds the bytes of the tail: the tracker, the checkpoints, the entries, and the floor.
+fn write_tail(manifest: &Manifest, out: &mut Vec<u8>) -> Result<(), OutOfMemory>
+    ensures { OnOk result (out.new.items ≡ out.old.items ++ parts.tail_bytes (parts.body_of manifest.now).1.1.1.1) }
+{
+    manifest.core.sequence_tracker.write(out)?;
+    manifest.core.checkpoints.write(out)?;
+    manifest.external_dbs.write(out)?;
+    manifest.core.floor.write(out)
+}
+
+// Adds the bytes of the root tree and of the segments.
+fn write_trees(core: &ManifestCore, out: &mut Vec<u8>) -> Result<(), OutOfMemory>
+    ensures { OnOk result (out.new.items ≡ out.old.items ++ (parts.trees_bytes (core.now.tree, core.now.segments))) }
+{
+    let segments = core.segments();
+    core.tree.write(out)?;
+    write_count(segments.len(), out)?;
+    write_items(segments, out)
+}
+
+// Adds the bytes of a manifest after those of its tables.
+fn write_body(manifest: &Manifest, out: &mut Vec<u8>) -> Result<(), OutOfMemory>
+    ensures { OnOk result (out.new.items ≡ out.old.items ++ parts.body_bytes (parts.body_of manifest.now)) }
+{
+    write_head(manifest, out)?;
+    write_trees(&manifest.core, out)?;
+    write_middle(&manifest.core, out)?;
+    write_tail(manifest, out)
+}
+
+// The bytes of a manifest with these tables.
+fn encode_with(
+    alloc: Global,
+    tables: &Gathered,
+    manifest: &Manifest,
+) -> Result<Vec<u8>, SlateDBError>
+    ensures { GivesList result (encoded_with (Some tables.now) manifest.now) }
+{
+    if let Some(field) = late_field(tables.len(), manifest) {
+        return Err(SlateDBError::Unencodable(field));
+    }
+    let mut out = Vec::new(alloc);
+    out.extend_from_slice(&[0, 2])?;
+    tables.write(&mut out)?;
+    write_body(manifest, &mut out)?;
+    Ok(out)
+}
+
+/// The bytes of a manifest, by version 2 of the layout. Unencodable names the first field that has none, in this order: ExpireTime,
+/// CreateTime, WalId, Handles, NoKeys, NextWal, Length.
+pub fn encode_manifest(alloc: Global, manifest: &Manifest) -> Result<Vec<u8>, SlateDBError>
+    ensures { GivesList result (encoded_manifest manifest.now) }
+{
+    if let Some(field) = early_field(manifest) {
+        return Err(SlateDBError::Unencodable(field));
+    }
+    match Gathered::of_core(alloc, &manifest.core)? {
+        Some(tables) => encode_with(alloc, &tables, manifest),
+        None => Err(SlateDBError::Unencodable(FieldName::Handles)),
+    }
+}
