@@ -56,7 +56,7 @@ checkpoint_parts c = (c.id, (c.manifest_id, (expiry_second c.expire_time, (secon
 abbrev id_name_in : List ℕ → Option (CheckpointParts × List ℕ)
 id_name_in = pair_in (bytes_in 16) (pair_in u64_in (pair_in (option_in u32_in) (pair_in u32_in (option_in text_in))))
 
-abbrev id_name_bytes : CheckpointParts → List ℕ
+abbrev pub id_name_bytes : CheckpointParts → List ℕ
 id_name_bytes = pair_bytes (λ l. l) (pair_bytes u64_bytes (pair_bytes (option_bytes u32_bytes) (pair_bytes u32_bytes (option_bytes counted_bytes))))
 
 -- a number of 32 bits

@@ -183,8 +183,7 @@ EachHas (v ∷ views) tables = At (table_id v.sst.id) v.sst tables × EachHas vi
 pub each_has : (views : List View) (tables all : ById) → gathered views tables ≡ Some all → EachHas views all
 each_has [] tables all e = tt
 each_has (v ∷ views) tables all e =
-    let s = steps (with_view tables v) (gathered views) all e in
-    (
+    let s = steps (with_view tables v) (gathered views) all e in (
       kept_gathering views s.value all (table_id v.sst.id) v.sst s.at_next (has_with v.sst tables s.value (lookup (is_at (id_cmp (table_id v.sst.id))) tables) refl s.at_first),
       each_has views s.value all s.at_next,
     )

@@ -99,9 +99,13 @@ Entries = Option (List ℕ) × Option (List ℕ)
 abbrev pub Two : Type 0
 Two = ℕ × ℕ
 
--- the parts of what is known, in the order of their bytes: keys; index and filters; codec and type; statistics and the form of filters
+-- index and filters; codec and type; statistics and the form of filters
+abbrev pub Places : Type 0
+Places = (Two × Two) × ((CompressionTag × SstType) × (Two × FilterFormat))
+
+-- the parts of what is known, in the order of their bytes: keys, and places
 abbrev pub Parts : Type 0
-Parts = Entries × ((Two × Two) × ((CompressionTag × SstType) × (Two × FilterFormat)))
+Parts = Entries × Places
 
 -- whether a last key is there only after a first one, and isn't below it
 abbrev pub are_entries : Option (List ℕ) → Option (List ℕ) → Bool

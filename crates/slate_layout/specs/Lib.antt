@@ -15,7 +15,14 @@ pub mod UsedTables
 pub mod Gathered
 pub mod OldManifests
 pub mod Decoding
+pub mod Typed
 pub mod Unencodable
 pub mod Normal
 pub mod GatheredLaws
 pub mod SameHandles
+pub mod Fitting
+pub mod FittingTrees
+pub mod GatheredTests
+pub mod Kept
+pub mod RoundTrip
+pub mod Codec

@@ -1,7 +1,10 @@
 //! The bytes of a manifest.
-ghost use Rattle.std.specs.Prelude.{◌≡◌, ◌++◌, Some, OnOk};
+ghost use Rattle.std.specs.Prelude.{◌≡◌, ◌++◌, ◌&&◌, true, Some, Ok, OnOk, IfOk};
 ghost use Rattle.slate_ids.specs.Answers.{GivesList};
 ghost use Rattle.slate_layout.specs.ManifestParts as parts;
+ghost use Rattle.slate_layout.specs.Decoding.{decoded_manifest};
+ghost use Rattle.slate_layout.specs.Normal.{normal_manifest};
+ghost use Rattle.slate_layout.specs.Typed as typed;
 ghost use Rattle.slate_layout.specs.Unencodable.{encoded_with, encoded_manifest};
 
 use crate::gathered::Gathered;
@@ -15,7 +18,8 @@ use std::alloc::Global;
 
 // Adds the bytes of the head: the flag, the epochs, and the files of the write-ahead log.
 fn write_head(manifest: &Manifest, out: &mut Vec<u8>) -> Result<(), OutOfMemory>
-    ensures { OnOk result (out.new.items ≡ out.old.items ++ parts.head_bytes (parts.body_of manifest.now).0) }
+    ensures bytes { OnOk result (out.new.items ≡ out.old.items ++ parts.head_bytes (parts.body_of manifest.now).0) }
+    ensures typed { OnOk result (typed.is_front manifest.now ≡ true) }
 {
     let core = &manifest.core;
     let epochs = (manifest.writer_epoch, manifest.compactor_epoch);
@@ -28,7 +32,8 @@ fn write_head(manifest: &Manifest, out: &mut Vec<u8>) -> Result<(), OutOfMemory>
 
 // Adds the bytes of the middle: the extractor's name, the tick, and the sequence numbers.
 fn write_middle(core: &ManifestCore, out: &mut Vec<u8>) -> Result<(), OutOfMemory>
-    ensures { OnOk result (out.new.items ≡ out.old.items ++ parts.middle_bytes (core.now.segment_extractor_name, (core.now.last_l0_clock_tick, (core.now.last_l0_seq, core.now.recent_snapshot_min_seq)))) }
+    ensures bytes { OnOk result (out.new.items ≡ out.old.items ++ parts.middle_bytes (core.now.segment_extractor_name, (core.now.last_l0_clock_tick, (core.now.last_l0_seq, core.now.recent_snapshot_min_seq)))) }
+    ensures typed { OnOk result (typed.is_middle (core.now.segment_extractor_name, (core.now.last_l0_clock_tick, (core.now.last_l0_seq, core.now.recent_snapshot_min_seq))) ≡ true) }
 {
     core.segment_extractor_name.write(out)?;
     core.last_l0_clock_tick.write(out)?;
@@ -37,7 +42,8 @@ fn write_middle(core: &ManifestCore, out: &mut Vec<u8>) -> Result<(), OutOfMemor
 
 // Adds the bytes of the tail: the tracker, the checkpoints, the entries, and the floor.
 fn write_tail(manifest: &Manifest, out: &mut Vec<u8>) -> Result<(), OutOfMemory>
-    ensures { OnOk result (out.new.items ≡ out.old.items ++ parts.tail_bytes (parts.body_of manifest.now).1.1.1.1) }
+    ensures bytes { OnOk result (out.new.items ≡ out.old.items ++ parts.tail_bytes (parts.body_of manifest.now).1.1.1.1) }
+    ensures typed { OnOk result (typed.is_tail (parts.body_of manifest.now).1.1.1.1 ≡ true) }
 {
     manifest.core.sequence_tracker.write(out)?;
     manifest.core.checkpoints.write(out)?;
@@ -47,7 +53,8 @@ fn write_tail(manifest: &Manifest, out: &mut Vec<u8>) -> Result<(), OutOfMemory>
 
 // Adds the bytes of the root tree and of the segments.
 fn write_trees(core: &ManifestCore, out: &mut Vec<u8>) -> Result<(), OutOfMemory>
-    ensures { OnOk result (out.new.items ≡ out.old.items ++ (parts.trees_bytes (core.now.tree, core.now.segments))) }
+    ensures bytes { OnOk result (out.new.items ≡ out.old.items ++ (parts.trees_bytes (core.now.tree, core.now.segments))) }
+    ensures typed { OnOk result (typed.are_trees (core.now.tree, core.now.segments) ≡ true) }
 {
     let segments = core.segments();
     core.tree.write(out)?;
@@ -57,7 +64,8 @@ fn write_trees(core: &ManifestCore, out: &mut Vec<u8>) -> Result<(), OutOfMemory
 
 // Adds the bytes of a manifest after those of its tables.
 fn write_body(manifest: &Manifest, out: &mut Vec<u8>) -> Result<(), OutOfMemory>
-    ensures { OnOk result (out.new.items ≡ out.old.items ++ parts.body_bytes (parts.body_of manifest.now)) }
+    ensures bytes { OnOk result (out.new.items ≡ out.old.items ++ parts.body_bytes (parts.body_of manifest.now)) }
+    ensures typed { OnOk result (typed.is_body manifest.now ≡ true) }
 {
     write_head(manifest, out)?;
     write_trees(&manifest.core, out)?;
@@ -71,7 +79,8 @@ fn encode_with(
     tables: &Gathered,
     manifest: &Manifest,
 ) -> Result<Vec<u8>, SlateDBError>
-    ensures { GivesList result (encoded_with (Some tables.now) manifest.now) }
+    ensures bytes { GivesList result (encoded_with (Some tables.now) manifest.now) }
+    ensures typed { OnOk result ((typed.is_body manifest.now && typed.are_tables (Some tables.now)) ≡ true) }
 {
     if let Some(field) = late_field(tables.len(), manifest) {
         return Err(SlateDBError::Unencodable(field));
@@ -83,10 +92,10 @@ fn encode_with(
     Ok(out)
 }
 
-/// The bytes of a manifest, by version 2 of the layout. Unencodable names the first field that has none, in this order: ExpireTime,
-/// CreateTime, WalId, Handles, NoKeys, NextWal, Length.
-pub fn encode_manifest(alloc: Global, manifest: &Manifest) -> Result<Vec<u8>, SlateDBError>
-    ensures { GivesList result (encoded_manifest manifest.now) }
+// The bytes of a manifest, or the first field that has none.
+fn encode(alloc: Global, manifest: &Manifest) -> Result<Vec<u8>, SlateDBError>
+    ensures exact { GivesList result (encoded_manifest manifest.now) }
+    ensures typed { OnOk result (typed.is_manifest manifest.now ≡ true) }
 {
     if let Some(field) = early_field(manifest) {
         return Err(SlateDBError::Unencodable(field));
@@ -95,4 +104,17 @@ pub fn encode_manifest(alloc: Global, manifest: &Manifest) -> Result<Vec<u8>, Sl
         Some(tables) => encode_with(alloc, &tables, manifest),
         None => Err(SlateDBError::Unencodable(FieldName::Handles)),
     }
+}
+
+/// The bytes of a manifest, by version 2 of the layout. Unencodable names the first field that has none, in this order: ExpireTime,
+/// CreateTime, WalId, Handles, NoKeys, NextWal, Length. The bytes are read back as the normal form, which has the same bytes.
+#[tactic(auto, using(crate::specs::RoundTrip::round_trip, crate::specs::Kept::encoded_kept))]
+pub fn encode_manifest(alloc: Global, manifest: &Manifest) -> Result<Vec<u8>, SlateDBError>
+    ensures exact { GivesList result (encoded_manifest manifest.now) }
+    ensures typed { OnOk result (typed.is_manifest manifest.now ≡ true) }
+    ensures read_back { IfOk result (λ bytes. decoded_manifest bytes.items ≡ Ok (normal_manifest manifest.now)) }
+    ensures same { IfOk result (λ bytes. encoded_manifest (normal_manifest manifest.now) ≡ Ok bytes.items) }
+{
+    let bytes = encode(alloc, manifest)?;
+    Ok(bytes)
 }

@@ -1,9 +1,10 @@
 //! The tables of views, gathered by id.
-ghost use Rattle.std.specs.Prelude.{◌≡◌, ◌++◌, [], length, IfOk, OnOk, Some, None, map, if◌then◌else◌};
-ghost use Rattle.std.specs.List.{flat_map};
+ghost use Rattle.std.specs.Prelude.{◌≡◌, ◌++◌, [], length, IfOk, OnOk, Some, None, map, true, if◌then◌else◌};
+ghost use Rattle.std.specs.List.{flat_map, list_all};
 ghost use Rattle.slate_model.specs.Trees.{views_of, views_of_tree};
 ghost use Rattle.slate_layout.specs.Bytes.{list_bytes};
 ghost use Rattle.slate_layout.specs.InfoParts.{handle_bytes};
+ghost use Rattle.slate_layout.specs.Typed.{is_handle};
 ghost use Rattle.slate_layout.specs.Gathered as gathering;
 ghost use Rattle.slate_layout.specs.Gathered.{gathered, with_view};
 
@@ -73,7 +74,8 @@ fn write_tables(
     tables: &BTreeMap<(u64, u128), SsTableHandle>,
     out: &mut Vec<u8>,
 ) -> Result<(), OutOfMemory>
-    ensures { OnOk result (out.new.items ≡ out.old.items ++ flat_map handle_bytes (map (λ e. e.1) tables.now.entries)) }
+    ensures bytes { OnOk result (out.new.items ≡ out.old.items ++ flat_map handle_bytes (map (λ e. e.1) tables.now.entries)) }
+    ensures typed { OnOk result (list_all is_handle (map (λ e. e.1) tables.now.entries) ≡ true) }
 {
     for (_, table) in tables {
         table.write(out)?;
@@ -100,7 +102,8 @@ impl Gathered {
 
     /// Adds the bytes of the tables, ascending by id, at the end.
     pub(crate) fn write(&self, out: &mut Vec<u8>) -> Result<(), OutOfMemory>
-        ensures { OnOk result (out.new.items ≡ out.old.items ++ list_bytes handle_bytes (map (λ e. e.1) self.now)) }
+        ensures bytes { OnOk result (out.new.items ≡ out.old.items ++ list_bytes handle_bytes (map (λ e. e.1) self.now)) }
+        ensures typed { OnOk result (list_all is_handle (map (λ e. e.1) self.now) ≡ true) }
     {
         write_count(self.tables.len(), out)?;
         write_tables(&self.tables, out)

@@ -1,11 +1,12 @@
 //! The bytes of pairs, options and lists.
-ghost use Rattle.std.specs.Prelude.{◌≡◌, ◌++◌, ◌<◌, ◌^◌, ◌*◌, nat_le, length, OnOk, IfOk};
-ghost use Rattle.std.specs.List.{flat_map};
+ghost use Rattle.std.specs.Prelude.{◌≡◌, ◌++◌, ◌<◌, ◌^◌, ◌*◌, nat_le, true, length, OnOk, IfOk};
+ghost use Rattle.std.specs.List.{flat_map, list_all};
 ghost use Rattle.std.proofs.Common.{arith};
 ghost use Rattle.slate_layout.specs.Bytes as bytes;
 ghost use Rattle.slate_layout.specs.Reading as reading;
 ghost use Rattle.slate_layout.specs.Reading.{items_in, room_in};
 ghost use Rattle.slate_layout.specs.Reads.{PairFits, OptionFits, ListFits, pair_reads, option_reads, list_reads};
+ghost use Rattle.slate_layout.specs.Typed as typed;
 
 use crate::numbers::write_count;
 use crate::part::Part;
@@ -20,6 +21,8 @@ impl<A: Part, B: Part> Part for (A, B) {
     ghost in_front = { λ tables. reading.pair_in (A.in_front tables) (B.in_front tables) };
 
     ghost Fits = { λ tables. PairFits (A.Fits tables) (B.Fits tables) };
+
+    ghost is_typed = { typed.both A.is_typed B.is_typed };
 
     ghost LEAST = { A.LEAST };
 
@@ -55,6 +58,8 @@ impl<T: Part> Part for Option<T> {
     ghost in_front = { λ tables. reading.option_in (T.in_front tables) };
 
     ghost Fits = { λ tables. OptionFits (T.Fits tables) };
+
+    ghost is_typed = { typed.none_or T.is_typed };
 
     ghost LEAST = { 1 };
 
@@ -94,7 +99,8 @@ impl<T: Part> Part for Option<T> {
 
 /// Adds the bytes of each value at the end.
 pub(crate) fn write_items<T: Part>(items: &[T], out: &mut Vec<u8>) -> Result<(), OutOfMemory>
-    ensures { OnOk result (out.new.items ≡ out.old.items ++ flat_map T.bytes items.now) }
+    ensures bytes { OnOk result (out.new.items ≡ out.old.items ++ flat_map T.bytes items.now) }
+    ensures typed { OnOk result (list_all T.is_typed items.now ≡ true) }
 {
     for item in items {
         item.write(out)?;
@@ -139,6 +145,8 @@ impl<T: Part> Part for Listed<T> {
     ghost in_front = { λ tables. reading.list_in (T.in_front tables) T.LEAST };
 
     ghost Fits = { λ tables. ListFits (T.Fits tables) };
+
+    ghost is_typed = { list_all T.is_typed };
 
     ghost LEAST = { 4 };
 

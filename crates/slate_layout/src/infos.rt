@@ -2,6 +2,7 @@
 ghost use Rattle.std.specs.Prelude.{◌≡◌, ◌<◌, ◌^◌, IfOk, Some, if◌then◌else◌};
 ghost use Rattle.std.proofs.Common.{arith};
 ghost use Rattle.slate_layout.specs.InfoParts as infos;
+ghost use Rattle.slate_layout.specs.Typed as typed;
 
 use crate::part::Part;
 use crate::reader::Reader;
@@ -78,6 +79,8 @@ impl Part for SsTableInfo {
 
     ghost Fits = { λ tables. infos.InfoFits };
 
+    ghost is_typed = { typed.is_info };
+
     ghost LEAST = { 1 };
 
     const LEAST: usize = 1;
@@ -113,6 +116,8 @@ impl Part for SsTableHandle {
     ghost in_front = { λ tables. infos.handle_in };
 
     ghost Fits = { λ tables. infos.HandleFits };
+
+    ghost is_typed = { typed.is_handle };
 
     ghost LEAST = { 8 };
 

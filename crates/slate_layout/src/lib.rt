@@ -1,6 +1,7 @@
 //! The bytes of manifests and of what is known of tables.
 #![tactic(auto)]
 
+mod codec;
 mod decode;
 mod encode;
 mod first_version;
@@ -23,6 +24,7 @@ mod trees;
 mod unencodable;
 mod used_tables;
 
+pub use codec::ManifestCodec;
 pub use decode::decode_manifest;
 pub use encode::encode_manifest;
 pub use info_codec::{decode_info, encode_info};

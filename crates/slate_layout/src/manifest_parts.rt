@@ -3,6 +3,7 @@ ghost use Rattle.std.specs.Prelude.{◌≡◌, ◌++◌, OnOk};
 ghost use Rattle.std.proofs.Common.{arith};
 ghost use Rattle.slate_layout.specs.Bytes.{option_bytes, u32_bytes};
 ghost use Rattle.slate_layout.specs.CheckpointParts as parts;
+ghost use Rattle.slate_layout.specs.Typed as typed;
 
 use crate::groups::write_items;
 use crate::numbers::write_count;
@@ -69,6 +70,8 @@ impl Part for Checkpoint {
 
     ghost Fits = { λ tables. parts.CheckpointFits };
 
+    ghost is_typed = { typed.is_checkpoint };
+
     ghost LEAST = { 16 };
 
     const LEAST: usize = 16;
@@ -107,6 +110,8 @@ impl Part for SsTableId {
 
     ghost Fits = { λ tables. parts.TableFits };
 
+    ghost is_typed = { typed.is_table };
+
     ghost LEAST = { 8 };
 
     const LEAST: usize = 8;
@@ -143,6 +148,8 @@ impl Part for ExternalDb {
     ghost in_front = { λ tables. parts.entry_in };
 
     ghost Fits = { λ tables. parts.EntryFits };
+
+    ghost is_typed = { typed.is_entry };
 
     ghost LEAST = { 4 };
 
@@ -185,6 +192,8 @@ impl Part for SequenceTracker {
     ghost in_front = { λ tables. parts.tracker_in };
 
     ghost Fits = { λ tables. parts.TrackerFits };
+
+    ghost is_typed = { typed.is_tracker };
 
     ghost LEAST = { 4 };
 

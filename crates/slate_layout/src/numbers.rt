@@ -4,6 +4,7 @@ ghost use Rattle.std.proofs.Common.{arith};
 ghost use Rattle.slate_layout.specs.Bytes as bytes;
 ghost use Rattle.slate_layout.specs.Reading as reading;
 ghost use Rattle.slate_layout.specs.Atoms as atoms;
+ghost use Rattle.slate_layout.specs.Typed as typed;
 
 use crate::part::Part;
 use crate::reader::Reader;
@@ -17,6 +18,8 @@ impl Part for u64 {
     ghost in_front = { λ tables. reading.u64_in };
 
     ghost Fits = { λ tables. λ n. bytes.is_u64 n ≡ true };
+
+    ghost is_typed = { bytes.is_u64 };
 
     ghost LEAST = { 8 };
 
@@ -48,6 +51,8 @@ impl Part for u8 {
 
     ghost Fits = { λ tables. λ n. Unit {0} };
 
+    ghost is_typed = { typed.any };
+
     ghost LEAST = { 1 };
 
     const LEAST: usize = 1;
@@ -76,6 +81,8 @@ impl Part for u16 {
     ghost in_front = { λ tables. reading.u16_in };
 
     ghost Fits = { λ tables. λ n. n < 2 ^ 16 };
+
+    ghost is_typed = { typed.is_u16 };
 
     ghost LEAST = { 2 };
 
@@ -107,6 +114,8 @@ impl Part for u32 {
 
     ghost Fits = { λ tables. λ n. n < 2 ^ 32 };
 
+    ghost is_typed = { typed.is_u32 };
+
     ghost LEAST = { 4 };
 
     const LEAST: usize = 4;
@@ -137,6 +146,8 @@ impl Part for i64 {
 
     ghost Fits = { λ tables. λ z. bytes.is_i64 z ≡ true };
 
+    ghost is_typed = { bytes.is_i64 };
+
     ghost LEAST = { 8 };
 
     const LEAST: usize = 8;
@@ -164,6 +175,8 @@ impl Part for bool {
     ghost in_front = { λ tables. reading.flag_in };
 
     ghost Fits = { λ tables. λ flag. Unit {0} };
+
+    ghost is_typed = { typed.any };
 
     ghost LEAST = { 1 };
 

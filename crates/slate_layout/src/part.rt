@@ -1,5 +1,5 @@
 //! Parts of a layout: values that bytes begin with.
-ghost use Rattle.std.specs.Prelude.{◌≡◌, ◌<◌, ◌^◌, ◌++◌, ℕ, List, Option, OnOk, IfOk};
+ghost use Rattle.std.specs.Prelude.{◌≡◌, ◌<◌, ◌^◌, ◌++◌, ℕ, Bool, true, List, Option, OnOk, IfOk};
 ghost use Rattle.slate_tables.specs.declared.ss_table_handle.SsTableHandle.{SsTableHandle};
 ghost use Rattle.slate_layout.specs.Reads.{Reads};
 
@@ -19,6 +19,9 @@ pub(crate) trait Part: Drop {
     /// Whether a value has bytes, among these tables.
     ghost Fits: { List SsTableHandle → Self → Type 0 };
 
+    /// Whether a value is one of its type: numbers have their bits, texts are UTF-8. Each that a program holds is.
+    ghost is_typed: { Self → Bool };
+
     /// How many bytes a value has at least.
     ghost LEAST: { ℕ };
 
@@ -32,7 +35,8 @@ pub(crate) trait Part: Drop {
 
     /// Adds the bytes of a value at the end.
     fn write(&self, out: &mut Vec<u8>) -> Result<(), OutOfMemory>
-        ensures { OnOk result (out.new.items ≡ out.old.items ++ bytes self.now) };
+        ensures bytes { OnOk result (out.new.items ≡ out.old.items ++ bytes self.now) }
+        ensures typed { OnOk result (is_typed self.now ≡ true) };
 
     /// The value that bytes begin with, where they begin with one. Views are of these tables.
     fn read<'a>(

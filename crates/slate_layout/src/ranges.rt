@@ -3,6 +3,7 @@ ghost use Rattle.std.specs.Prelude.{◌≡◌, ◌++◌, OnOk};
 ghost use Rattle.slate_ids.specs.Keys.{pointed};
 ghost use Rattle.std.proofs.Common.{arith};
 ghost use Rattle.slate_layout.specs.RangeParts as ranges;
+ghost use Rattle.slate_layout.specs.Typed as typed;
 
 use crate::part::Part;
 use crate::reader::Reader;
@@ -35,6 +36,8 @@ impl Part for Bound<Bytes> {
     ghost in_front = { λ tables. ranges.bound_in };
 
     ghost Fits = { λ tables. ranges.BoundFits };
+
+    ghost is_typed = { typed.any };
 
     ghost LEAST = { 1 };
 
@@ -92,6 +95,8 @@ impl Part for BytesRange {
     ghost in_front = { λ tables. ranges.range_in };
 
     ghost Fits = { λ tables. ranges.RangeFits };
+
+    ghost is_typed = { typed.any };
 
     ghost LEAST = { 1 };
 

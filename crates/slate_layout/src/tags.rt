@@ -4,6 +4,7 @@ ghost use Rattle.std.proofs.Common.{arith};
 ghost use Rattle.slate_layout.specs.Bytes.{byte_bytes};
 ghost use Rattle.slate_layout.specs.InfoParts as infos;
 ghost use Rattle.slate_layout.specs.InfoParts.{tag_in, TagFits};
+ghost use Rattle.slate_layout.specs.Typed as typed;
 
 use crate::part::Part;
 use crate::reader::Reader;
@@ -18,6 +19,8 @@ impl Part for CompressionTag {
     ghost in_front = { λ tables. tag_in infos.codec_of };
 
     ghost Fits = { λ tables. TagFits infos.codec_of infos.codec_number };
+
+    ghost is_typed = { typed.any };
 
     ghost LEAST = { 1 };
 
@@ -64,6 +67,8 @@ impl Part for SstType {
 
     ghost Fits = { λ tables. TagFits infos.type_of infos.type_number };
 
+    ghost is_typed = { typed.any };
+
     ghost LEAST = { 1 };
 
     const LEAST: usize = 1;
@@ -98,6 +103,8 @@ impl Part for FilterFormat {
     ghost in_front = { λ tables. tag_in infos.format_of };
 
     ghost Fits = { λ tables. TagFits infos.format_of infos.format_number };
+
+    ghost is_typed = { typed.any };
 
     ghost LEAST = { 1 };
 

@@ -1,11 +1,13 @@
 //! The bytes of texts, ids and paths.
-ghost use Rattle.std.specs.Prelude.{◌≡◌, length, option_map};
+ghost use Rattle.std.specs.Prelude.{◌≡◌, ◌++◌, true, length, option_map, OnOk};
 ghost use Rattle.std.specs.Str.{is_utf8};
+ghost use Rattle.slate_ids.specs.Ids.{is_db_path};
 ghost use Rattle.std.proofs.Common.{arith};
 ghost use Rattle.slate_layout.specs.Bytes as bytes;
 ghost use Rattle.slate_layout.specs.Reading as reading;
 ghost use Rattle.slate_layout.specs.Atoms as atoms;
 ghost use Rattle.slate_layout.specs.Texts as texts;
+ghost use Rattle.slate_layout.specs.Typed as typed;
 
 use crate::numbers::write_count;
 use crate::part::Part;
@@ -21,6 +23,8 @@ impl Part for Bytes {
     ghost in_front = { λ tables. reading.counted_in };
 
     ghost Fits = { λ tables. texts.IsShort };
+
+    ghost is_typed = { typed.any };
 
     ghost LEAST = { 4 };
 
@@ -67,12 +71,25 @@ fn text_in_front(from: Reader<'_>) -> Option<(&str, Reader<'_>)>
     Some((text, from))
 }
 
+// Adds a text's length and its bytes at the end.
+fn write_text(text: &str, out: &mut Vec<u8>) -> Result<(), OutOfMemory>
+    ensures bytes { OnOk result (out.new.items ≡ out.old.items ++ bytes.counted_bytes text.now) }
+    ensures typed { OnOk result (is_utf8 text.now ≡ true) }
+{
+    let bytes = text.as_bytes();
+    write_count(bytes.len(), out)?;
+    out.extend_from_slice(bytes)?;
+    Ok(())
+}
+
 impl Part for Text {
     ghost bytes = { bytes.counted_bytes };
 
     ghost in_front = { λ tables. texts.text_in };
 
     ghost Fits = { λ tables. texts.TextFits };
+
+    ghost is_typed = { is_utf8 };
 
     ghost LEAST = { 4 };
 
@@ -83,10 +100,7 @@ impl Part for Text {
     ghost reads = { λ tables. texts.text_reads };
 
     fn write(&self, out: &mut Vec<u8>) -> Result<(), OutOfMemory> {
-        let bytes = self.as_str().as_bytes();
-        write_count(bytes.len(), out)?;
-        out.extend_from_slice(bytes)?;
-        Ok(())
+        write_text(self.as_str(), out)
     }
 
     fn read<'a>(
@@ -101,12 +115,21 @@ impl Part for Text {
     }
 }
 
+// The letters of a path are those of one.
+fn is_name(path: &DbPath)
+    ensures { is_db_path path.now ≡ true }
+{
+    let _letters = path.letters();
+}
+
 impl Part for DbPath {
     ghost bytes = { bytes.counted_bytes };
 
     ghost in_front = { λ tables. texts.path_in };
 
     ghost Fits = { λ tables. texts.PathFits };
+
+    ghost is_typed = { typed.is_path };
 
     ghost LEAST = { 4 };
 
@@ -117,10 +140,8 @@ impl Part for DbPath {
     ghost reads = { λ tables. texts.path_reads };
 
     fn write(&self, out: &mut Vec<u8>) -> Result<(), OutOfMemory> {
-        let letters = self.letters();
-        write_count(letters.len(), out)?;
-        out.extend_from_slice(letters)?;
-        Ok(())
+        is_name(self);
+        write_text(self.as_str(), out)
     }
 
     fn read<'a>(
@@ -138,12 +159,22 @@ impl Part for DbPath {
     }
 }
 
+// An id has 48 bits of milliseconds, and 80 of the tail.
+fn is_id(id: Ulid)
+    ensures { typed.is_id id ≡ true }
+{
+    let _milliseconds = id.timestamp_ms();
+    let _tail = id.tail();
+}
+
 impl Part for Ulid {
     ghost bytes = { texts.id_bytes };
 
     ghost in_front = { λ tables. texts.id_in };
 
     ghost Fits = { λ tables. texts.IdFits };
+
+    ghost is_typed = { typed.is_id };
 
     ghost LEAST = { 8 };
 
@@ -154,6 +185,7 @@ impl Part for Ulid {
     ghost reads = { λ tables. texts.id_reads };
 
     fn write(&self, out: &mut Vec<u8>) -> Result<(), OutOfMemory> {
+        is_id(*self);
         let number = self.as_u128();
         let low = (number & 0xffff_ffff_ffff_ffff) as u64;
         ((number >> 64) as u64, low).write(out)
@@ -180,6 +212,8 @@ impl Part for CheckpointId {
     ghost in_front = { λ tables. reading.bytes_in 16 };
 
     ghost Fits = { λ tables. λ id. length id ≡ 16 };
+
+    ghost is_typed = { typed.is_sixteen };
 
     ghost LEAST = { 16 };
 

@@ -1,11 +1,13 @@
 //! The bytes of views, runs, trees and segments.
 ghost use Rattle.std.specs.Prelude.{◌≡◌, ◌++◌, Some, None, true, IfOk, OnOk, is_some, option_copied};
+ghost use Rattle.std.specs.List.{list_all};
 ghost use Rattle.std.proofs.Common.{arith};
 ghost use Rattle.slate_tables.specs.Tables.{physical_range};
 ghost use Rattle.slate_tables.specs.Views as views;
 ghost use Rattle.slate_layout.specs.Bytes.{option_bytes, list_bytes};
 ghost use Rattle.slate_layout.specs.RangeParts.{range_bytes};
 ghost use Rattle.slate_layout.specs.TreeParts as trees;
+ghost use Rattle.slate_layout.specs.Typed as typed;
 
 use crate::groups::write_items;
 use crate::numbers::write_count;
@@ -90,12 +92,24 @@ fn write_visible(visible: Option<&BytesRange>, out: &mut Vec<u8>) -> Result<(), 
     }
 }
 
+// What is visible of a view's table is a proper range that may be.
+#[tactic(auto, using(crate::proofs::Shown::all_shown, crate::proofs::Shown::range_shown))]
+fn is_shown(view: &SsTableView)
+    ensures { typed.is_shown view.now.sst view.now.visible ≡ true }
+{
+    if let Some(visible) = view.visible_range() {
+        let _span = visible.as_span();
+    }
+}
+
 impl Part for SsTableView {
     ghost bytes = { trees.view_bytes };
 
     ghost in_front = { trees.view_in };
 
     ghost Fits = { trees.ViewFits };
+
+    ghost is_typed = { typed.is_view };
 
     ghost LEAST = { 8 };
 
@@ -106,6 +120,7 @@ impl Part for SsTableView {
     ghost reads = { trees.view_reads };
 
     fn write(&self, out: &mut Vec<u8>) -> Result<(), OutOfMemory> {
+        is_shown(self);
         self.id.write(out)?;
         table_id(self.sst.id).write(out)?;
         write_visible(self.visible_range(), out)
@@ -132,6 +147,8 @@ impl Part for SortedRun {
     ghost in_front = { trees.run_in };
 
     ghost Fits = { trees.RunFits };
+
+    ghost is_typed = { typed.is_run };
 
     ghost LEAST = { 4 };
 
@@ -162,7 +179,8 @@ impl Part for SortedRun {
 
 // Adds the bytes of the views of a queue at the end.
 fn write_queue(views: &Queue<SsTableView>, out: &mut Vec<u8>) -> Result<(), OutOfMemory>
-    ensures { OnOk result (out.new.items ≡ out.old.items ++ list_bytes trees.view_bytes views.now) }
+    ensures bytes { OnOk result (out.new.items ≡ out.old.items ++ list_bytes trees.view_bytes views.now) }
+    ensures typed { OnOk result (list_all typed.is_view views.now ≡ true) }
 {
     let (front, back) = views.as_slices();
     write_count(views.as_deque().len(), out)?;
@@ -179,6 +197,8 @@ impl Part for LsmTreeState {
     ghost in_front = { trees.tree_in };
 
     ghost Fits = { trees.TreeFits };
+
+    ghost is_typed = { typed.is_tree };
 
     ghost LEAST = { 1 };
 
@@ -220,6 +240,8 @@ impl Part for Segment {
     ghost in_front = { trees.segment_in };
 
     ghost Fits = { trees.SegmentFits };
+
+    ghost is_typed = { typed.is_segment };
 
     ghost LEAST = { 4 };
 
