@@ -26,3 +26,4 @@ pub mod GatheredTests
 pub mod Kept
 pub mod RoundTrip
 pub mod Codec
+pub mod NormalLaws

@@ -1,18 +1,13 @@
 //! What follows from the definitions of the layout alone.
-ghost use Rattle.std.specs.Prelude.{◌≡◌, [], List, Some, true};
-ghost use Rattle.slate_tables.specs.Views.{View};
-ghost use Rattle.slate_layout.specs.Tables.{ascend};
-ghost use Rattle.slate_layout.specs.Gathered.{ById, gathered};
-ghost use Rattle.slate_layout.specs.GatheredLaws.{values, EachHas};
+ghost use Rattle.std.specs.Prelude.{◌≡◌, ◌↔◌, true};
+ghost use Rattle.slate_model.specs.declared.manifest.Manifest.{Manifest as AnyManifest};
+ghost use Rattle.slate_layout.specs.Normal.{normal_manifest, is_normal};
+ghost use Rattle.slate_layout.specs.Unencodable.{encoded_manifest};
 
-/// What is gathered of views ascends by id.
-#[tactic(auto, using(crate::specs::GatheredLaws::gathered_ascends))]
-pub fn gathered_tables_ascend()
-    ensures { (views : List View) (all : ById) → gathered views [] ≡ Some all → ascend (values all) ≡ true }
-{}
-
-/// Each view's table is among those that were gathered.
-#[tactic(auto, using(crate::specs::GatheredLaws::each_has))]
-pub fn gathered_tables_are_those_of_the_views()
-    ensures { (views : List View) (all : ById) → gathered views [] ≡ Some all → EachHas views all }
+/// The normal form of a manifest is its own normal form, and has the same bytes, or the same first field that has none. The test is true
+/// of exactly the manifests that are their own normal form.
+pub fn normal_laws()
+    ensures again { (m : AnyManifest) → normal_manifest (normal_manifest m) ≡ normal_manifest m }
+    ensures same { (m : AnyManifest) → encoded_manifest (normal_manifest m) ≡ encoded_manifest m }
+    ensures test { (m : AnyManifest) → (is_normal m ≡ true) ↔ (normal_manifest m ≡ m) }
 {}

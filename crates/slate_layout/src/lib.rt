@@ -12,6 +12,7 @@ mod infos;
 mod laws;
 mod manifest_parts;
 mod normal;
+mod normal_test;
 mod numbers;
 mod part;
 mod ranges;
@@ -28,8 +29,12 @@ pub use codec::ManifestCodec;
 pub use decode::decode_manifest;
 pub use encode::encode_manifest;
 pub use info_codec::{decode_info, encode_info};
+pub use laws::normal_laws;
 pub use normal::normal_form_manifest;
+pub use normal_test::is_normal;
 
+#[cfg(test)]
+mod codec_tests;
 #[cfg(test)]
 mod decode_tests;
 #[cfg(test)]
