@@ -14,14 +14,19 @@ fn new(alloc: Global) -> Manifest {
     Manifest::initial(alloc, ManifestCore::new(alloc))
 }
 
+/// Whether these are the bytes of a manifest.
+fn has_bytes(alloc: Global, manifest: &Manifest, expected: &[u8]) -> Result<bool, SlateDBError> {
+    let bytes = encode_manifest(alloc, manifest)?;
+    Ok(bytes.as_slice() == expected)
+}
+
 #[test]
 fn a_new_manifest_has_97_bytes(rt: HostRuntime) -> Result<(), SlateDBError> {
-    let bytes = encode_manifest(rt.alloc(), &new(rt.alloc()))?;
     let mut expected = [0; 97];
     expected[1] = 2;
     expected[6] = 1;
     expected[53] = 0x80;
-    assert!(rt; bytes.as_slice() == expected.as_slice());
+    assert!(rt; has_bytes(rt.alloc(), &new(rt.alloc()), &expected)?);
     Ok(())
 }
 
@@ -33,22 +38,26 @@ fn refused(alloc: Global, manifest: &Manifest) -> Option<FieldName> {
     }
 }
 
-/// Adds a checkpoint of these moments.
-fn add_checkpoint(
+/// A checkpoint of these moments.
+fn checkpoint(
     alloc: Global,
-    core: &mut ManifestCore,
     expiry: Option<i64>,
     creation: i64,
-) -> Result<(), OutOfMemory> {
-    let name = Text::copy_of(alloc, "pin")?;
-    let checkpoint = Checkpoint {
+) -> Result<Checkpoint, OutOfMemory> {
+    Ok(Checkpoint {
         id: CheckpointId::from_u64(8),
         manifest_id: 3,
         expire_time: expiry,
         create_time: creation,
-        name: Some(name),
-    };
-    core.checkpoints.push(checkpoint)
+        name: Some(Text::copy_of(alloc, "pin")?),
+    })
+}
+
+/// The core of a new manifest, with a checkpoint.
+fn core_with(alloc: Global, checkpoint: Checkpoint) -> Result<ManifestCore, OutOfMemory> {
+    let mut core = ManifestCore::new(alloc);
+    core.checkpoints.push(checkpoint)?;
+    Ok(core)
 }
 
 /// A manifest with a checkpoint of these moments.
@@ -57,9 +66,18 @@ fn with_checkpoint(
     expiry: Option<i64>,
     creation: i64,
 ) -> Result<Manifest, OutOfMemory> {
-    let mut manifest = new(alloc);
-    add_checkpoint(alloc, &mut manifest.core, expiry, creation)?;
-    Ok(manifest)
+    let core = core_with(alloc, checkpoint(alloc, expiry, creation)?)?;
+    Ok(Manifest::initial(alloc, core))
+}
+
+/// The field without bytes of a manifest with a checkpoint of these moments.
+fn refused_moment(
+    alloc: Global,
+    expiry: Option<i64>,
+    creation: i64,
+) -> Result<Option<FieldName>, OutOfMemory> {
+    let manifest = with_checkpoint(alloc, expiry, creation)?;
+    Ok(refused(alloc, &manifest))
 }
 
 #[test]
@@ -71,30 +89,62 @@ fn moments_without_a_second_have_no_bytes(rt: HostRuntime) -> Result<(), OutOfMe
         (None, 4294967296000, Some(FieldName::CreateTime)),
         (Some(1999), 4294967295999, None),
     ] {
-        let manifest = with_checkpoint(rt.alloc(), expiry, creation)?;
-        assert!(rt; refused(rt.alloc(), &manifest) == field);
+        assert!(rt; refused_moment(rt.alloc(), expiry, creation)? == field);
     }
     Ok(())
 }
 
+/// What is read of the bytes of a manifest.
+fn read_back(alloc: Global, manifest: &Manifest) -> Result<Manifest, SlateDBError> {
+    let bytes = encode_manifest(alloc, manifest)?;
+    decode_manifest(alloc, bytes.as_slice())
+}
+
+/// Whether the second manifest is read of the bytes of the first.
+fn is_read_back(
+    alloc: Global,
+    manifest: &Manifest,
+    expected: &Manifest,
+) -> Result<bool, SlateDBError> {
+    let read = read_back(alloc, manifest)?;
+    Ok(read.is(expected))
+}
+
+/// Whether the second manifest is the normal form of the first.
+fn is_normal(alloc: Global, manifest: &Manifest, expected: &Manifest) -> Result<bool, OutOfMemory> {
+    let normal = normal_form_manifest(alloc, manifest)?;
+    Ok(normal.is(expected))
+}
+
 #[test]
 fn seconds_are_read_back(rt: HostRuntime) -> Result<(), SlateDBError> {
-    let bytes = encode_manifest(rt.alloc(), &with_checkpoint(rt.alloc(), Some(1999), 2500)?)?;
-    let decoded = decode_manifest(rt.alloc(), bytes.as_slice())?;
+    let manifest = with_checkpoint(rt.alloc(), Some(1999), 2500)?;
     let whole = with_checkpoint(rt.alloc(), Some(1000), 2000)?;
-    assert!(rt; decoded.is(&whole));
+    assert!(rt; is_read_back(rt.alloc(), &manifest, &whole)?);
     Ok(())
+}
+
+#[test]
+fn the_normal_form_has_whole_seconds(rt: HostRuntime) -> Result<(), OutOfMemory> {
+    let manifest = with_checkpoint(rt.alloc(), Some(1999), 2500)?;
+    let whole = with_checkpoint(rt.alloc(), Some(1000), 2000)?;
+    assert!(rt; is_normal(rt.alloc(), &manifest, &whole)?);
+    Ok(())
+}
+
+/// The key of these letters.
+fn key(letters: Option<&'static str>) -> Option<Bytes> {
+    match letters {
+        Some(letters) => Some(Bytes::from(letters)),
+        None => None,
+    }
 }
 
 /// A table with these keys.
 fn table(id: SsTableId, first: Option<&'static str>, last: Option<&'static str>) -> SsTableHandle {
     let mut info = SsTableInfo::default();
-    if let Some(first) = first {
-        info.first_entry = Some(Bytes::from(first));
-    }
-    if let Some(last) = last {
-        info.last_entry = Some(Bytes::from(last));
-    }
+    info.first_entry = key(first);
+    info.last_entry = key(last);
     SsTableHandle {
         id,
         format_version: 2,
@@ -107,17 +157,45 @@ fn compacted(number: u32) -> SsTableId {
     SsTableId::Compacted(Ulid::from_parts(number as u64, 0))
 }
 
-/// Adds a view of this number of a table.
-fn add_view(tree: &mut LsmTreeState, number: u32, sst: SsTableHandle) -> Result<(), OutOfMemory> {
-    let id = Ulid::from_parts(number as u64, 1);
-    tree.l0.push_back(SsTableView::new(id, sst))
+/// The view of this number of a table.
+fn view(number: u32, sst: SsTableHandle) -> SsTableView {
+    SsTableView::new(Ulid::from_parts(number as u64, 1), sst)
 }
 
-/// A manifest with a view of this table.
-fn with_table(alloc: Global, sst: SsTableHandle) -> Result<Manifest, OutOfMemory> {
-    let mut manifest = new(alloc);
-    add_view(&mut manifest.core.tree, 1, sst)?;
-    Ok(manifest)
+/// A tree of a view.
+fn tree(alloc: Global, view: SsTableView) -> Result<LsmTreeState, OutOfMemory> {
+    let mut tree = LsmTreeState::new(alloc);
+    tree.l0.push_back(view)?;
+    Ok(tree)
+}
+
+/// A tree of two views.
+fn tree_of_two(
+    alloc: Global,
+    first: SsTableView,
+    second: SsTableView,
+) -> Result<LsmTreeState, OutOfMemory> {
+    let mut tree = tree(alloc, first)?;
+    tree.l0.push_back(second)?;
+    Ok(tree)
+}
+
+/// A manifest of this tree.
+fn with_tree(alloc: Global, tree: LsmTreeState) -> Manifest {
+    let mut core = ManifestCore::new(alloc);
+    core.tree = tree;
+    Manifest::initial(alloc, core)
+}
+
+/// The field without bytes of a manifest with this tree.
+fn refused_tree(alloc: Global, tree: LsmTreeState) -> Option<FieldName> {
+    refused(alloc, &with_tree(alloc, tree))
+}
+
+/// The field without bytes of a manifest with a view of this table.
+fn refused_table(alloc: Global, sst: SsTableHandle) -> Result<Option<FieldName>, OutOfMemory> {
+    let tree = tree(alloc, view(1, sst))?;
+    Ok(refused_tree(alloc, tree))
 }
 
 #[test]
@@ -128,51 +206,56 @@ fn tables_without_keys_have_no_bytes(rt: HostRuntime) -> Result<(), OutOfMemory>
         (None, None, Some(FieldName::NoKeys)),
         (Some("b"), Some("a"), Some(FieldName::NoKeys)),
     ] {
-        let manifest = with_table(rt.alloc(), table(compacted(1), first, last))?;
-        assert!(rt; refused(rt.alloc(), &manifest) == field);
+        assert!(rt; refused_table(rt.alloc(), table(compacted(1), first, last))? == field);
     }
     Ok(())
 }
 
 #[test]
 fn tables_of_the_log_have_no_bytes(rt: HostRuntime) -> Result<(), OutOfMemory> {
-    let manifest = with_table(rt.alloc(), table(SsTableId::Wal(1), Some("a"), None))?;
-    assert!(rt; refused(rt.alloc(), &manifest) == Some(FieldName::WalId));
-    Ok(())
-}
-
-/// An entry that lists a file of the write-ahead log.
-fn entry_of_the_log(alloc: Global, path: DbPath) -> Result<ExternalDb, OutOfMemory> {
-    let mut ids = Listed::new(alloc);
-    ids.push(SsTableId::Wal(1))?;
-    Ok(ExternalDb {
-        path,
-        source_checkpoint_id: CheckpointId::from_u64(1),
-        final_checkpoint_id: None,
-        sst_ids: ids,
-    })
-}
-
-#[test]
-fn entries_of_the_log_have_no_bytes(rt: HostRuntime) -> Result<(), OutOfMemory> {
-    let path = DbPath::from_text("p")?.ok_or(OutOfMemory)?;
-    let mut manifest = new(rt.alloc());
-    manifest
-        .external_dbs
-        .push(entry_of_the_log(rt.alloc(), path)?)?;
-    assert!(rt; refused(rt.alloc(), &manifest) == Some(FieldName::WalId));
+    let sst = table(SsTableId::Wal(1), Some("a"), None);
+    assert!(rt; refused_table(rt.alloc(), sst)? == Some(FieldName::WalId));
     Ok(())
 }
 
 #[test]
 fn unequal_handles_have_no_bytes(rt: HostRuntime) -> Result<(), OutOfMemory> {
-    let mut manifest = with_table(rt.alloc(), table(compacted(1), Some("a"), None))?;
-    add_view(
-        &mut manifest.core.tree,
-        2,
-        table(compacted(1), Some("b"), None),
-    )?;
-    assert!(rt; refused(rt.alloc(), &manifest) == Some(FieldName::Handles));
+    let first = view(1, table(compacted(1), Some("a"), None));
+    let second = view(2, table(compacted(1), Some("b"), None));
+    let tree = tree_of_two(rt.alloc(), first, second)?;
+    assert!(rt; refused_tree(rt.alloc(), tree) == Some(FieldName::Handles));
+    Ok(())
+}
+
+/// The id of a file of the write-ahead log.
+fn ids_of_the_log(alloc: Global) -> Result<Listed<SsTableId>, OutOfMemory> {
+    let mut ids = Listed::new(alloc);
+    ids.push(SsTableId::Wal(1))?;
+    Ok(ids)
+}
+
+/// An entry that lists a file of the write-ahead log.
+fn entry_of_the_log(alloc: Global, path: DbPath) -> Result<ExternalDb, OutOfMemory> {
+    Ok(ExternalDb {
+        path,
+        source_checkpoint_id: CheckpointId::from_u64(1),
+        final_checkpoint_id: None,
+        sst_ids: ids_of_the_log(alloc)?,
+    })
+}
+
+/// The field without bytes of a manifest with this entry.
+fn refused_entry(alloc: Global, entry: ExternalDb) -> Result<Option<FieldName>, OutOfMemory> {
+    let mut manifest = new(alloc);
+    manifest.external_dbs.push(entry)?;
+    Ok(refused(alloc, &manifest))
+}
+
+#[test]
+fn entries_of_the_log_have_no_bytes(rt: HostRuntime) -> Result<(), OutOfMemory> {
+    let path = DbPath::from_text("p")?.ok_or(OutOfMemory)?;
+    let entry = entry_of_the_log(rt.alloc(), path)?;
+    assert!(rt; refused_entry(rt.alloc(), entry)? == Some(FieldName::WalId));
     Ok(())
 }
 
@@ -183,80 +266,98 @@ fn a_log_without_a_next_file_has_no_bytes(rt: HostRuntime) {
     assert!(rt; refused(rt.alloc(), &manifest) == Some(FieldName::NextWal));
 }
 
-/// Puts a segment with a view of table 3.
-fn put_segment(alloc: Global, core: &mut ManifestCore) -> Result<(), OutOfMemory> {
-    let mut tree = LsmTreeState::new(alloc);
-    add_view(&mut tree, 4, table(compacted(3), Some("a"), Some("c")))?;
+/// The table 3.
+fn third() -> SsTableHandle {
+    table(compacted(3), Some("a"), Some("c"))
+}
+
+/// A segment with a view of table 3.
+fn segment(alloc: Global) -> Result<Segment, OutOfMemory> {
+    let tree = tree(alloc, view(4, third()))?;
+    Ok(Segment::new(Bytes::from("seg"), tree))
+}
+
+/// A list of this segment.
+fn segments(alloc: Global, segment: Segment) -> Result<Vec<Segment>, OutOfMemory> {
     let mut segments = Vec::new(alloc);
-    segments.push(Segment::new(Bytes::from("seg"), tree))?;
+    segments.push(segment)?;
+    Ok(segments)
+}
+
+/// Puts these segments into a core, where they ascend.
+fn put_segments(core: &mut ManifestCore, segments: Vec<Segment>) {
     if Segment::are_ascending(segments.as_slice()) {
         core.set_segments(segments);
     }
-    Ok(())
 }
 
-/// Changes a core to one with views of tables 3 and 1, and with numbers.
-fn fill(alloc: Global, core: &mut ManifestCore) -> Result<(), OutOfMemory> {
-    add_view(&mut core.tree, 1, table(compacted(3), Some("a"), Some("c")))?;
-    add_view(&mut core.tree, 2, table(compacted(1), Some("a"), None))?;
-    core.next_wal_sst_id = 9;
-    core.last_l0_clock_tick = -5;
-    put_segment(alloc, core)
+/// A tree with views of tables 3 and 1.
+fn two_tables(alloc: Global) -> Result<LsmTreeState, OutOfMemory> {
+    tree_of_two(
+        alloc,
+        view(1, third()),
+        view(2, table(compacted(1), Some("a"), None)),
+    )
 }
 
-/// A manifest with tables and a segment.
+/// A manifest with this tree, these segments, and numbers.
+fn manifest_of(alloc: Global, tree: LsmTreeState, segments: Vec<Segment>) -> Manifest {
+    let mut manifest = with_tree(alloc, tree);
+    manifest.core.next_wal_sst_id = 9;
+    manifest.core.last_l0_clock_tick = -5;
+    put_segments(&mut manifest.core, segments);
+    manifest
+}
+
+/// A manifest with views of tables 3 and 1, a segment, and numbers.
 fn sample(alloc: Global) -> Result<Manifest, OutOfMemory> {
-    let mut manifest = new(alloc);
-    fill(alloc, &mut manifest.core)?;
-    Ok(manifest)
+    let tree = two_tables(alloc)?;
+    let segments = segments(alloc, segment(alloc)?)?;
+    Ok(manifest_of(alloc, tree, segments))
 }
 
 #[test]
 fn a_manifest_with_tables_is_read_back(rt: HostRuntime) -> Result<(), SlateDBError> {
     let manifest = sample(rt.alloc())?;
-    let bytes = encode_manifest(rt.alloc(), &manifest)?;
-    let decoded = decode_manifest(rt.alloc(), bytes.as_slice())?;
-    assert!(rt; decoded.is(&manifest));
+    assert!(rt; is_read_back(rt.alloc(), &manifest, &manifest)?);
     Ok(())
 }
 
 /// Sets what isn't kept.
-fn set_unkept(alloc: Global, core: &mut ManifestCore) -> Result<(), OutOfMemory> {
+fn set_unkept(core: &mut ManifestCore, store: Text) {
     core.tree.last_compacted_l0_sst_id = Some(Ulid::from_parts(2, 2));
-    core.wal_object_store_uri = Some(Text::copy_of(alloc, "w")?);
-    Ok(())
+    core.wal_object_store_uri = Some(store);
 }
 
 /// A manifest that has what isn't kept.
 fn unkept(alloc: Global) -> Result<Manifest, OutOfMemory> {
+    let store = Text::copy_of(alloc, "w")?;
     let mut manifest = sample(alloc)?;
-    set_unkept(alloc, &mut manifest.core)?;
+    set_unkept(&mut manifest.core, store);
     Ok(manifest)
 }
 
 #[test]
 fn a_marker_of_tables_and_a_store_are_not_kept(rt: HostRuntime) -> Result<(), SlateDBError> {
-    let bytes = encode_manifest(rt.alloc(), &unkept(rt.alloc())?)?;
-    let decoded = decode_manifest(rt.alloc(), bytes.as_slice())?;
+    let manifest = unkept(rt.alloc())?;
     let kept = sample(rt.alloc())?;
-    assert!(rt; decoded.is(&kept));
+    assert!(rt; is_read_back(rt.alloc(), &manifest, &kept)?);
     Ok(())
 }
 
 #[test]
 fn the_normal_form_is_what_is_kept(rt: HostRuntime) -> Result<(), OutOfMemory> {
     let manifest = unkept(rt.alloc())?;
-    let normal = normal_form_manifest(rt.alloc(), &manifest)?;
     let kept = sample(rt.alloc())?;
-    assert!(rt; normal.is(&kept));
+    assert!(rt; is_normal(rt.alloc(), &manifest, &kept)?);
     Ok(())
 }
 
 #[test]
-fn the_normal_form_has_whole_seconds(rt: HostRuntime) -> Result<(), OutOfMemory> {
-    let manifest = with_checkpoint(rt.alloc(), Some(1999), 2500)?;
-    let normal = normal_form_manifest(rt.alloc(), &manifest)?;
-    let whole = with_checkpoint(rt.alloc(), Some(1000), 2000)?;
-    assert!(rt; normal.is(&whole));
+fn the_normal_form_has_no_store(rt: HostRuntime) -> Result<(), OutOfMemory> {
+    let store = Text::copy_of(rt.alloc(), "w")?;
+    let mut manifest = new(rt.alloc());
+    set_unkept(&mut manifest.core, store);
+    assert!(rt; is_normal(rt.alloc(), &manifest, &new(rt.alloc()))?);
     Ok(())
 }

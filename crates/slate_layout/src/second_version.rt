@@ -8,7 +8,6 @@ use crate::part::Part;
 use crate::reader::Reader;
 use crate::tables::Tables;
 use crate::used_tables::are_all_used;
-use bytes::Bytes;
 use slate_ids::{Listed, OutOfMemory, Text};
 use slate_model::{
     Checkpoint, ExternalDb, LsmTreeState, Manifest, ManifestCore, Segment, SequenceTracker,
