@@ -27,3 +27,4 @@ pub mod Kept
 pub mod RoundTrip
 pub mod Codec
 pub mod NormalLaws
+pub mod BoundaryCodec

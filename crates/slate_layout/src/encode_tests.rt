@@ -9,9 +9,14 @@ use slate_model::{
 };
 use std::alloc::Global;
 
+/// A manifest of this core.
+fn of_core(alloc: Global, core: ManifestCore) -> Manifest {
+    Manifest::initial(alloc, core)
+}
+
 /// A new manifest.
 fn new(alloc: Global) -> Manifest {
-    Manifest::initial(alloc, ManifestCore::new(alloc))
+    of_core(alloc, ManifestCore::new(alloc))
 }
 
 /// Whether these are the bytes of a manifest.
@@ -60,14 +65,24 @@ fn core_with(alloc: Global, checkpoint: Checkpoint) -> Result<ManifestCore, OutO
     Ok(core)
 }
 
+/// The core of a new manifest, with a checkpoint of these moments.
+fn core_with_moments(
+    alloc: Global,
+    expiry: Option<i64>,
+    creation: i64,
+) -> Result<ManifestCore, OutOfMemory> {
+    let checkpoint = checkpoint(alloc, expiry, creation)?;
+    core_with(alloc, checkpoint)
+}
+
 /// A manifest with a checkpoint of these moments.
 fn with_checkpoint(
     alloc: Global,
     expiry: Option<i64>,
     creation: i64,
 ) -> Result<Manifest, OutOfMemory> {
-    let core = core_with(alloc, checkpoint(alloc, expiry, creation)?)?;
-    Ok(Manifest::initial(alloc, core))
+    let core = core_with_moments(alloc, expiry, creation)?;
+    Ok(of_core(alloc, core))
 }
 
 /// The field without bytes of a manifest with a checkpoint of these moments.
@@ -180,11 +195,16 @@ fn tree_of_two(
     Ok(tree)
 }
 
-/// A manifest of this tree.
-fn with_tree(alloc: Global, tree: LsmTreeState) -> Manifest {
+/// The core of a new manifest, with this tree.
+fn core_of_tree(alloc: Global, tree: LsmTreeState) -> ManifestCore {
     let mut core = ManifestCore::new(alloc);
     core.tree = tree;
-    Manifest::initial(alloc, core)
+    core
+}
+
+/// A manifest of this tree.
+fn with_tree(alloc: Global, tree: LsmTreeState) -> Manifest {
+    of_core(alloc, core_of_tree(alloc, tree))
 }
 
 /// The field without bytes of a manifest with this tree.
@@ -244,10 +264,16 @@ fn entry_of_the_log(alloc: Global, path: DbPath) -> Result<ExternalDb, OutOfMemo
     })
 }
 
-/// The field without bytes of a manifest with this entry.
-fn refused_entry(alloc: Global, entry: ExternalDb) -> Result<Option<FieldName>, OutOfMemory> {
+/// A manifest with this entry.
+fn with_entry(alloc: Global, entry: ExternalDb) -> Result<Manifest, OutOfMemory> {
     let mut manifest = new(alloc);
     manifest.external_dbs.push(entry)?;
+    Ok(manifest)
+}
+
+/// The field without bytes of a manifest with this entry.
+fn refused_entry(alloc: Global, entry: ExternalDb) -> Result<Option<FieldName>, OutOfMemory> {
+    let manifest = with_entry(alloc, entry)?;
     Ok(refused(alloc, &manifest))
 }
 
@@ -300,20 +326,37 @@ fn two_tables(alloc: Global) -> Result<LsmTreeState, OutOfMemory> {
     )
 }
 
-/// A manifest with this tree, these segments, and numbers.
-fn manifest_of(alloc: Global, tree: LsmTreeState, segments: Vec<Segment>) -> Manifest {
-    let mut manifest = with_tree(alloc, tree);
-    manifest.core.next_wal_sst_id = 9;
-    manifest.core.last_l0_clock_tick = -5;
-    put_segments(&mut manifest.core, segments);
-    manifest
+/// Puts numbers into a core.
+fn put_numbers(core: &mut ManifestCore) {
+    core.next_wal_sst_id = 9;
+    core.last_l0_clock_tick = -5;
 }
 
-/// A manifest with views of tables 3 and 1, a segment, and numbers.
-fn sample(alloc: Global) -> Result<Manifest, OutOfMemory> {
+/// A core with this tree, these segments, and numbers.
+fn core_of(alloc: Global, tree: LsmTreeState, segments: Vec<Segment>) -> ManifestCore {
+    let mut core = core_of_tree(alloc, tree);
+    put_numbers(&mut core);
+    put_segments(&mut core, segments);
+    core
+}
+
+/// The segments of the sample.
+fn sample_segments(alloc: Global) -> Result<Vec<Segment>, OutOfMemory> {
+    let segment = segment(alloc)?;
+    segments(alloc, segment)
+}
+
+/// The core of the sample.
+fn sample_core(alloc: Global) -> Result<ManifestCore, OutOfMemory> {
     let tree = two_tables(alloc)?;
-    let segments = segments(alloc, segment(alloc)?)?;
-    Ok(manifest_of(alloc, tree, segments))
+    let segments = sample_segments(alloc)?;
+    Ok(core_of(alloc, tree, segments))
+}
+
+/// The sample: a manifest with views of tables 3 and 1, a segment, and numbers.
+fn sample(alloc: Global) -> Result<Manifest, OutOfMemory> {
+    let core = sample_core(alloc)?;
+    Ok(of_core(alloc, core))
 }
 
 #[test]
@@ -329,12 +372,18 @@ fn set_unkept(core: &mut ManifestCore, store: Text) {
     core.wal_object_store_uri = Some(store);
 }
 
-/// A manifest that has what isn't kept.
+/// A manifest of this core, with what isn't kept.
+fn with_unkept(alloc: Global, core: ManifestCore, store: Text) -> Manifest {
+    let mut core = core;
+    set_unkept(&mut core, store);
+    of_core(alloc, core)
+}
+
+/// The sample, with what isn't kept.
 fn unkept(alloc: Global) -> Result<Manifest, OutOfMemory> {
     let store = Text::copy_of(alloc, "w")?;
-    let mut manifest = sample(alloc)?;
-    set_unkept(&mut manifest.core, store);
-    Ok(manifest)
+    let core = sample_core(alloc)?;
+    Ok(with_unkept(alloc, core, store))
 }
 
 #[test]
@@ -356,8 +405,7 @@ fn the_normal_form_is_what_is_kept(rt: HostRuntime) -> Result<(), OutOfMemory> {
 #[test]
 fn the_normal_form_has_no_store(rt: HostRuntime) -> Result<(), OutOfMemory> {
     let store = Text::copy_of(rt.alloc(), "w")?;
-    let mut manifest = new(rt.alloc());
-    set_unkept(&mut manifest.core, store);
+    let manifest = with_unkept(rt.alloc(), ManifestCore::new(rt.alloc()), store);
     assert!(rt; is_normal(rt.alloc(), &manifest, &new(rt.alloc()))?);
     Ok(())
 }

@@ -1,6 +1,7 @@
 //! The bytes of manifests and of what is known of tables.
 #![tactic(auto)]
 
+mod boundary;
 mod codec;
 mod decode;
 mod encode;
@@ -25,6 +26,7 @@ mod trees;
 mod unencodable;
 mod used_tables;
 
+pub use boundary::{decode_boundary, encode_boundary};
 pub use codec::ManifestCodec;
 pub use decode::decode_manifest;
 pub use encode::encode_manifest;
@@ -33,6 +35,8 @@ pub use laws::normal_laws;
 pub use normal::normal_form_manifest;
 pub use normal_test::is_normal;
 
+#[cfg(test)]
+mod boundary_tests;
 #[cfg(test)]
 mod codec_tests;
 #[cfg(test)]
