@@ -5,7 +5,7 @@ use Rattle.std.specs.BTreeMap.{insert_entry}
 use Rattle.std.specs.Ordering.{match_ordering}
 use Rattle.std.specs.declared.cmp.Ordering.{Ordering}
 use Rattle.std.specs.declared.cmp.Ordering.TheVariants.{Less, Equal, Greater}
-use Rattle.std.proofs.Common.{◌≡◌, refl, sym, ap, ◌∙◌}
+use Rattle.std.proofs.Common.{◌≡◌, refl, sym, ap, ◌∙◌, append_assoc}
 use Rattle.slate_records.specs.declared.compaction.Compaction.{Compaction}
 use Rattle.slate_records.specs.Records.{is_before, are_ascending, inserted}
 use Rattle.slate_records.specs.Entries.{compactions_of, UnderOwnIds}
@@ -83,3 +83,20 @@ still_own c (e ∷ es) own = step (id_cmp c.id e.0) refl (still_own c es own.1)
     step Less is rest = (refl, own)
     step Equal is rest = (sym (equal c.id e.0 is), own.1)
     step Greater is rest = (own.0, rest)
+
+-- what stands after all others goes to their end
+last_of_all : (id : ℕ × ℕ) (cs rest : List Compaction) (c : Compaction) → list_all (after id) (cs ++ c ∷ rest) ≡ true → after id c ≡ true
+last_of_all id [] rest c h = (parts (after id c) (list_all (after id) rest) h).0
+last_of_all id (d ∷ cs) rest c h = last_of_all id cs rest c (parts (after id d) (list_all (after id) (cs ++ c ∷ rest)) h).1
+
+appended : (cs rest : List Compaction) (c : Compaction) → are_ascending (cs ++ c ∷ rest) ≡ true → inserted c cs ≡ cs ++ c ∷ []
+appended [] rest c a = refl
+appended (d ∷ cs) rest c a =
+    let p : (list_all (after d.id) (cs ++ c ∷ rest) ≡ true) × (are_ascending (cs ++ c ∷ rest) ≡ true) = parts (list_all (after d.id) (cs ++ c ∷ rest)) (are_ascending (cs ++ c ∷ rest)) a in
+    past c d cs (last_of_all d.id cs rest c p.0) ∙ ap (λ l. d ∷ l) (appended cs rest c p.1)
+
+-- one more compaction is copied
+pub copied_more : (copied rest left all new : List Compaction) (c : Compaction) → copied ++ rest ≡ all → rest ≡ c ∷ left → are_ascending all ≡ true → new ≡ inserted c copied → new ++ left ≡ all
+copied_more copied rest left all new c so_far next ascend put =
+    let whole : copied ++ c ∷ left ≡ all = sym (ap (λ l. copied ++ l) next) ∙ so_far in
+    ap (λ l. l ++ left) (put ∙ appended copied left c (ap are_ascending whole ∙ ascend)) ∙ append_assoc copied (c ∷ []) left ∙ whole

@@ -1,18 +1,18 @@
 -- Compactions in a map, in the order of their ids.
-use Rattle.std.specs.Prelude.{ℕ, ◌&&◌, ◌||◌, ◌++◌, Bool, true, false, List, [], ◌∷◌, slice_get, Some, if◌then◌else◌}
+use Rattle.std.specs.Prelude.{ℕ, ◌&&◌, ◌||◌, Bool, true, false, List, [], ◌∷◌, slice_get, Some, if◌then◌else◌}
 use Rattle.std.specs.List.{list_any, list_all, AllByRecursion, All}
 use Rattle.std.specs.List.Sorted.{IsStrictlySortedBy}
 use Rattle.std.specs.Map.{keys_of, lookup}
-use Rattle.std.specs.BTreeMap.{is_at, insert_entry}
+use Rattle.std.specs.BTreeMap.{is_at}
 use Rattle.std.specs.BTreeMap.Range.{IsLeBy}
-use Rattle.std.specs.Ordering.{is_eq, match_ordering, ordering_reverse}
-use Rattle.std.specs.declared.cmp.Ordering.TheVariants.{Less, Greater}
-use Rattle.std.proofs.Common.{◌≡◌, refl, sym, ap, ◌∙◌, append_assoc}
+use Rattle.std.specs.Ordering.{is_eq}
+use Rattle.std.specs.declared.cmp.Ordering.TheVariants.{Less}
+use Rattle.std.proofs.Common.{◌≡◌, refl, sym, ap, ◌∙◌}
 use Rattle.std.proofs.lemmas.List.Elements.{All-head, All-tail}
 use Rattle.slate_records.specs.declared.compaction.Compaction.{Compaction}
 use Rattle.slate_records.specs.Records.{same_id, is_before, are_ascending, entry_of, first_id}
 use Rattle.slate_records.specs.Entries.{compactions_of, UnderOwnIds}
-use Rattle.slate_records.proofs.Ids.{id_cmp, order, less, is_at_is, is_at_is_back, not_above}
+use Rattle.slate_records.proofs.Ids.{id_cmp, less, is_at_is, is_at_is_back, not_above}
 
 abbrev pub Entry : Type 0
 Entry = (ℕ × ℕ) × Compaction
@@ -56,26 +56,6 @@ pub none_before : (id : ℕ × ℕ) (es : List Entry) → All (IsLeBy id_cmp id)
 none_before id [] h own = refl
 none_before id (e ∷ es) h own = neither (is_before e.1.id id) (list_any (λ c. is_before c.id id) (compactions_of es)) (ap (λ k. is_before k id) (sym own.0) ∙ not_above id e.0 (All-head (IsLeBy id_cmp id) e.0 (keys_of es) h)) (none_before id es (All-tail (IsLeBy id_cmp id) e.0 (keys_of es) h) own.1)
 
--- a key that is above those of a map goes to its end
-last_of_all : (first : ℕ × ℕ) (es : List Entry) (e : Entry) (rest : List Entry) → AllByRecursion (λ k. id_cmp first k ≡ Less) (keys_of (es ++ e ∷ rest)) → id_cmp first e.0 ≡ Less
-last_of_all first [] e rest h = h.0
-last_of_all first (d ∷ es) e rest h = last_of_all first es e rest h.1
-
-pub appended : (es : List Entry) (e : Entry) (rest : List Entry) → IsStrictlySortedBy id_cmp (keys_of (es ++ e ∷ rest)) → insert_entry id_cmp es e.0 e.1 ≡ es ++ e ∷ []
-unfolding IsStrictlySortedBy
-appended [] e rest sorted = refl
-appended (d ∷ es) e rest sorted =
-    let below : id_cmp d.0 e.0 ≡ Less = last_of_all d.0 es e rest sorted.0 in
-    let above : id_cmp e.0 d.0 ≡ Greater = order.antisymm e.0 d.0 ∙ ap ordering_reverse below in
-    ap (λ o. match_ordering o (e ∷ d ∷ es) ((d.0, e.1) ∷ es) (d ∷ insert_entry id_cmp es e.0 e.1)) above ∙ ap (λ l. d ∷ l) (appended es e rest sorted.1)
-
 -- a look-up after a change at one id
 pub updated : (id : ℕ × ℕ) (c : Compaction) (old new : List Entry) → UnderOwnIds old → UnderOwnIds new → lookup (is_at (id_cmp id)) new ≡ (if is_eq (id_cmp c.id id) then Some c else lookup (is_at (id_cmp id)) old) → entry_of id (compactions_of new) ≡ (if same_id c.id id then Some c else entry_of id (compactions_of old))
 updated id c old new own own_new h = sym (found id new own_new) ∙ h ∙ ap (λ b. if b then Some c else lookup (is_at (id_cmp id)) old) (is_at_is_back c.id id) ∙ ap (λ o. if same_id c.id id then Some c else o) (found id old own)
-
--- one more entry of a map is copied
-pub copied_more : (copied rest new left all : List Entry) (e : Entry) → copied ++ rest ≡ all → rest ≡ e ∷ left → IsStrictlySortedBy id_cmp (keys_of all) → new ≡ insert_entry id_cmp copied e.0 e.1 → new ++ left ≡ all
-copied_more copied rest new left all e so_far next sorted put =
-    let whole : all ≡ copied ++ e ∷ left = sym so_far ∙ ap (λ l. copied ++ l) next in
-    let ascend : IsStrictlySortedBy id_cmp (keys_of (copied ++ e ∷ left)) = rw (← whole) sorted in
-    ap (λ l. l ++ left) (put ∙ appended copied e left ascend) ∙ append_assoc copied (e ∷ []) left ∙ sym whole

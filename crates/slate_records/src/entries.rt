@@ -46,13 +46,15 @@ pub(crate) fn keep(entries: &mut Entries, compaction: Compaction) -> Result<(), 
     Ok(())
 }
 
-/// Equal entries.
+/// Equal compactions.
 pub(crate) fn copies(alloc: Global, entries: &Entries) -> Result<Entries, OutOfMemory>
-    ensures { IfOk result (λ copied. copied.entries ≡ entries.now.entries) }
+    requires { UnderOwnIds entries.now.entries }
+    ensures own { IfOk result (λ copied. UnderOwnIds copied.entries) }
+    ensures same { IfOk result (λ copied. compactions_of copied.entries ≡ compactions_of entries.now.entries) }
 {
     let mut copied = BTreeMap::new(alloc);
-    for (id, compaction) in entries {
-        copied.insert(*id, compaction.clone(alloc)?)?;
+    for compaction in entries.values() {
+        keep(&mut copied, compaction.clone(alloc)?)?;
     }
     Ok(copied)
 }
