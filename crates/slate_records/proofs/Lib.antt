@@ -1,0 +1,4 @@
+pub mod Ids
+pub mod Ordered
+pub mod Inserted
+pub mod Kept

@@ -1,0 +1,5 @@
+pub mod Compactions
+pub mod Records
+pub mod Retaining
+pub mod Entries
+pub mod LastFinished

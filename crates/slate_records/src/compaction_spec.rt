@@ -1,0 +1,106 @@
+//! What a compaction is to do.
+ghost use Rattle.std.specs.Prelude.{◌≡◌, IsTrue, ◌↔◌};
+ghost use Rattle.slate_records.specs.Compactions.{segment_of, sources_of};
+
+use crate::source_id::SourceId;
+use bytes::Bytes;
+use slate_ids::{Listed, OutOfMemory};
+use slate_tables::Plain;
+use std::alloc::Global;
+
+/// What a compaction is to do in one segment.
+#[derive(Debug, Drop)]
+pub enum CompactionSpec {
+    /// Merge the sources into one sorted run.
+    Tiered {
+        /// The prefix of the segment; empty for the keys of no segment.
+        segment: Bytes,
+        /// What is read.
+        sources: Listed<SourceId>,
+        /// The number of the run that is written.
+        destination: u32,
+    },
+    /// Let the sources go and write nothing.
+    DrainSegment {
+        /// The prefix of the segment.
+        segment: Bytes,
+        /// What goes.
+        sources: Listed<SourceId>,
+    },
+}
+
+impl CompactionSpec {
+    /// The prefix of the segment.
+    pub fn segment(&self) -> &Bytes
+        ensures { result.now ≡ segment_of self.now }
+    {
+        match self {
+            CompactionSpec::Tiered { segment, .. } => segment,
+            CompactionSpec::DrainSegment { segment, .. } => segment,
+        }
+    }
+
+    /// What it reads, or lets go.
+    pub fn sources(&self) -> &[SourceId]
+        ensures { result.now ≡ sources_of self.now }
+    {
+        match self {
+            CompactionSpec::Tiered { sources, .. } => sources.as_slice(),
+            CompactionSpec::DrainSegment { sources, .. } => sources.as_slice(),
+        }
+    }
+}
+
+fn same_segment(a: &Bytes, b: &Bytes) -> bool
+    ensures { IsTrue result ↔ a.now ≡ b.now }
+{
+    a == b
+}
+
+impl Plain for CompactionSpec {
+    fn clone(&self, alloc: Global) -> Result<CompactionSpec, OutOfMemory> {
+        match self {
+            CompactionSpec::Tiered {
+                segment,
+                sources,
+                destination,
+            } => Ok(CompactionSpec::Tiered {
+                segment: segment.clone()?,
+                sources: sources.copy(alloc)?,
+                destination: *destination,
+            }),
+            CompactionSpec::DrainSegment { segment, sources } => Ok(CompactionSpec::DrainSegment {
+                segment: segment.clone()?,
+                sources: sources.copy(alloc)?,
+            }),
+        }
+    }
+
+    fn is(&self, other: &CompactionSpec) -> bool {
+        match (self, other) {
+            (
+                CompactionSpec::Tiered {
+                    segment: a,
+                    sources: b,
+                    destination: c,
+                },
+                CompactionSpec::Tiered {
+                    segment: x,
+                    sources: y,
+                    destination: z,
+                },
+            ) => same_segment(a, x) && b.is(y) && *c == *z,
+            (
+                CompactionSpec::DrainSegment {
+                    segment: a,
+                    sources: b,
+                },
+                CompactionSpec::DrainSegment {
+                    segment: x,
+                    sources: y,
+                },
+            ) => same_segment(a, x) && b.is(y),
+            _ => false,
+        }
+    }
+}

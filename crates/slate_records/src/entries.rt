@@ -1,0 +1,78 @@
+//! Compactions by their ids.
+ghost use Rattle.std.specs.Prelude.{◌≡◌, ℕ, None, Some, true, false, IfOk, IfSome, OnOk, OnErr, IsTrue, ◌↔◌, option_copied, if◌then◌else◌};
+ghost use Rattle.std.specs.List.{list_any};
+ghost use Rattle.slate_records.specs.Entries.{compactions_of, UnderOwnIds};
+ghost use Rattle.slate_records.specs.Records.{entry_of, first_id, inserted, is_before, same_id};
+
+use crate::compaction::Compaction;
+use slate_ids::{OutOfMemory, Ulid};
+use slate_tables::Plain;
+use std::alloc::Global;
+use std::collections::BTreeMap;
+
+/// Compactions by their ids.
+pub(crate) type Entries = BTreeMap<Ulid, Compaction>;
+
+/// The compaction of an id.
+pub(crate) fn find(entries: &Entries, id: Ulid) -> Option<&Compaction>
+    requires { UnderOwnIds entries.now.entries }
+    ensures { option_copied result ≡ entry_of id (compactions_of entries.now.entries) }
+{
+    entries.get(&id)
+}
+
+/// The least id.
+pub(crate) fn least(entries: &Entries) -> Option<Ulid>
+    requires { UnderOwnIds entries.now.entries }
+    ensures first { result ≡ first_id (compactions_of entries.now.entries) }
+    ensures least { IfSome result (λ id. list_any (λ c. is_before c.id id) (compactions_of entries.now.entries) ≡ false) }
+{
+    match entries.first_key_value() {
+        Some((id, _)) => Some(*id),
+        None => None,
+    }
+}
+
+/// Puts a compaction under its own id. Want of memory changes nothing.
+pub(crate) fn keep(entries: &mut Entries, compaction: Compaction) -> Result<(), OutOfMemory>
+    requires { UnderOwnIds entries.old.entries }
+    ensures own { UnderOwnIds entries.new.entries }
+    ensures ok { OnOk result (compactions_of entries.new.entries ≡ inserted compaction (compactions_of entries.old.entries)) }
+    ensures found { OnOk result ((id : ℕ × ℕ) → entry_of id (compactions_of entries.new.entries) ≡ (if same_id compaction.id id then Some compaction else entry_of id (compactions_of entries.old.entries))) }
+    ensures err { OnErr result (entries.new.entries ≡ entries.old.entries) }
+    ensures absent { OnErr result (entry_of compaction.id (compactions_of entries.old.entries) ≡ None) }
+{
+    entries.insert(compaction.id, compaction)?;
+    Ok(())
+}
+
+/// Equal compactions.
+pub(crate) fn copies(alloc: Global, entries: &Entries) -> Result<Entries, OutOfMemory>
+    requires { UnderOwnIds entries.now.entries }
+    ensures own { IfOk result (λ copied. UnderOwnIds copied.entries) }
+    ensures same { IfOk result (λ copied. compactions_of copied.entries ≡ compactions_of entries.now.entries) }
+{
+    let mut copied = BTreeMap::new(alloc);
+    for compaction in entries.values() {
+        keep(&mut copied, compaction.clone(alloc)?)?;
+    }
+    Ok(copied)
+}
+
+/// Whether the compactions are equal, one by one.
+pub(crate) fn are_same(a: &Entries, b: &Entries) -> bool
+    ensures { IsTrue result ↔ compactions_of a.now.entries ≡ compactions_of b.now.entries }
+{
+    let mut others = b.values();
+    for compaction in a.values() {
+        match others.next() {
+            Some(other) => {
+                if !compaction.is(other) {
+                    return false;
+                }
+            }
+            None => return false,
+        }
+    }
+    others.next().is_none()
+}

@@ -1,0 +1,27 @@
+//! A part of a compaction.
+
+use slate_ids::{BytesRange, Listed, OutOfMemory};
+use slate_tables::{Plain, SsTableHandle};
+use std::alloc::Global;
+
+/// A part of a compaction: the keys of a range.
+#[derive(Debug, Drop)]
+pub struct Subcompaction {
+    /// The keys.
+    pub range: BytesRange,
+    /// The tables that it has written so far, in order.
+    pub output_ssts: Listed<SsTableHandle>,
+}
+
+impl Plain for Subcompaction {
+    fn clone(&self, alloc: Global) -> Result<Subcompaction, OutOfMemory> {
+        Ok(Subcompaction {
+            range: self.range.clone()?,
+            output_ssts: self.output_ssts.clone(alloc)?,
+        })
+    }
+
+    fn is(&self, other: &Subcompaction) -> bool {
+        self.range == other.range && self.output_ssts.is(&other.output_ssts)
+    }
+}
