@@ -1,3 +1,0 @@
-pub mod Checkpoints
-pub mod Rules
-pub mod Writers
