@@ -1,4 +1,4 @@
-//! The values of a database: tables, their views, sorted runs, trees, segments, manifests, and moments of sequence numbers.
+//! The values of a database: tables, their views, sorted runs, trees, segments, manifests, moments of sequence numbers, and records of compactions.
 #![tactic(auto)]
 
 mod checkpoint;
@@ -31,6 +31,10 @@ pub use manifest_core::ManifestCore;
 pub use prefix_extractor::PrefixExtractor;
 pub use segment::Segment;
 pub use sequence_tracker::SequenceTracker;
+pub use slate_records::{
+    Compaction, CompactionContext, CompactionSpec, CompactionStatus, Compactions, CompactionsIter,
+    SourceId, Subcompaction, VersionedCompactions, WorkerSpec,
+};
 pub use slate_tables::{
     CompressionTag, FilterFormat, Plain, Queue, SortedRun, SsTableHandle, SsTableId, SsTableInfo,
     SsTableView, SstType, all_show_keys, max_l0_overlap,
