@@ -7,4 +7,3 @@ pub mod Openings
 pub mod Reports
 pub mod Outcomes
 pub mod Reached
-pub mod Expired

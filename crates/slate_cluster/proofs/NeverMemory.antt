@@ -3,11 +3,14 @@ use Rattle.std.proofs.Common.{◌≡◌, ℕ, ℤ, ◌==◌, nat_le, Bool, true,
 use Rattle.std.specs.Option.{ok_or}
 use Rattle.slate_ids.specs.Answers.{is_memory, OrMemory}
 use Rattle.slate_ids.specs.declared.error.SlateDBError.{SlateDBError}
-use Rattle.slate_ids.specs.declared.error.SlateDBError.TheVariants.{Corrupt, ManifestMissing}
+use Rattle.slate_ids.specs.declared.error.SlateDBError.TheVariants.{Corrupt, InvalidVersion, ManifestMissing}
 use Rattle.slate_ids.specs.declared.error.FormatName.TheVariants.{Manifest as ManifestFormat}
-use Rattle.slate_first.specs.declared.first_manifest.FirstManifest.{FirstManifest}
-use Rattle.slate_first.specs.Codec.{decoded}
-use Rattle.slate_first.specs.Decoding.{manifest_in}
+use Rattle.slate_model.specs.declared.manifest.Manifest.{Manifest}
+use Rattle.slate_layout.specs.Decoding.{decoded_manifest}
+use Rattle.slate_layout.specs.Decoding.{or_corrupt, by_version, after_version}
+use Rattle.slate_layout.specs.ManifestParts.{second_version}
+use Rattle.slate_layout.specs.OldManifests.{first_version}
+use Rattle.slate_layout.specs.Reading.{u16_in}
 use Rattle.slate_store.specs.Calls.{Told}
 use Rattle.slate_store.specs.Machines.{Goes, Stay, End, Stepped, Held}
 use Rattle.slate_store.specs.declared.store_answer.StoreAnswer.{StoreAnswer}
@@ -53,46 +56,55 @@ abbrev IsPlainResult : {R : Type 0} → Result R SlateDBError → Type 0
 IsPlainResult (Ok r) = Unit {0}
 IsPlainResult (Err e) = is_memory e ≡ false
 
-plain_listed : (n : Option ℕ) → IsPlain {P = ReadPhase FirstManifest} (listed_goes n)
+plain_listed : (n : Option ℕ) → IsPlain {P = ReadPhase Manifest} (listed_goes n)
 plain_listed None = tt
 plain_listed (Some n) = tt
 
-plain_value : (o : Option FirstManifest) → IsPlainResult (ok_or o (Corrupt ManifestFormat))
+plain_value : (o : Option Manifest) → IsPlainResult (ok_or o (Corrupt ManifestFormat))
 plain_value None = refl
 plain_value (Some m) = tt
 
-plain_decoded : (n : ℕ) (r : Result FirstManifest SlateDBError) → IsPlainResult r → IsPlain (decoded_goes n r)
+plain_one : (version : ℕ) (bytes : List ℕ) (one two : Bool) → IsPlainResult (if one then or_corrupt (first_version bytes) else if two then or_corrupt (second_version bytes) else Err (InvalidVersion ManifestFormat version))
+plain_one version bytes true two = plain_value (first_version bytes)
+plain_one version bytes false true = plain_value (second_version bytes)
+plain_one version bytes false false = refl
+
+plain_version : (p : Option (ℕ × List ℕ)) → IsPlainResult (after_version p)
+plain_version None = refl
+plain_version (Some p) = plain_one p.0 p.1 (p.0 == 1) (p.0 == 2)
+
+plain_decoded : (n : ℕ) (r : Result Manifest SlateDBError) → IsPlainResult r → IsPlain (decoded_goes n r)
 plain_decoded n (Ok m) h = tt
 plain_decoded n (Err e) h = h
 
-plain_above : (n : ℕ) (m : FirstManifest) (b : Bool) → IsPlain {P = ReadPhase FirstManifest} {R = Option (ℕ × FirstManifest)} (if b then Stay reading.Listing else End reading.Over (Ok (Some (n, m))))
+plain_above : (n : ℕ) (m : Manifest) (b : Bool) → IsPlain {P = ReadPhase Manifest} {R = Option (ℕ × Manifest)} (if b then Stay reading.Listing else End reading.Over (Ok (Some (n, m))))
 plain_above n m true = tt
 plain_above n m false = tt
 
-plain_boundary : (n : ℕ) (m : FirstManifest) (b : Option ℕ) → IsPlain (boundary_goes n m b)
+plain_boundary : (n : ℕ) (m : Manifest) (b : Option ℕ) → IsPlain (boundary_goes n m b)
 plain_boundary n m None = refl
 plain_boundary n m (Some b) = plain_above n m (nat_le n b)
 
-plain_read : (phase : ReadPhase FirstManifest) (a : StoreAnswer) → IsPlain (read_goes ManifestLog decoded phase a)
+plain_read : (phase : ReadPhase Manifest) (a : StoreAnswer) → IsPlain (read_goes ManifestLog decoded_manifest phase a)
 plain_read reading.Listing (Found ms) = plain_listed (greatest ManifestLog ms)
 plain_read (reading.Getting n) (Got None) = tt
-plain_read (reading.Getting n) (Got (Some o)) = plain_decoded n (decoded o.bytes) (plain_value (manifest_in o.bytes))
+plain_read (reading.Getting n) (Got (Some o)) = plain_decoded n (decoded_manifest o.bytes) (plain_version (u16_in o.bytes))
 plain_read (reading.Bounding n m) (Got o) = plain_boundary n m (boundary_got o)
 plain_read _ _ = refl
 
-plain_created : (n : ℕ) (m : FirstManifest) (tag : Option ℕ) → IsPlain (created_goes n m tag)
+plain_created : (n : ℕ) (m : Manifest) (tag : Option ℕ) → IsPlain (created_goes n m tag)
 plain_created n m None = refl
 plain_created n m (Some tag) = tt
 
-plain_test : (n : ℕ) (m : FirstManifest) (e : SlateDBError) → is_memory e ≡ false → (b : Bool) → IsPlain {P = CommitPhase FirstManifest} {R = ℕ × FirstManifest} (if b then End committing.Over (Err e) else End committing.Over (Ok (n, m)))
+plain_test : (n : ℕ) (m : Manifest) (e : SlateDBError) → is_memory e ≡ false → (b : Bool) → IsPlain {P = CommitPhase Manifest} {R = ℕ × Manifest} (if b then End committing.Over (Err e) else End committing.Over (Ok (n, m)))
 plain_test n m e h true = h
 plain_test n m e h false = tt
 
-plain_bounded : (n : ℕ) (m : FirstManifest) (b : Option ℕ) → IsPlain (bounded_goes n m b)
+plain_bounded : (n : ℕ) (m : Manifest) (b : Option ℕ) → IsPlain (bounded_goes n m b)
 plain_bounded n m None = refl
 plain_bounded n m (Some b) = plain_test n m _ refl (nat_le n b)
 
-plain_commit : (phase : CommitPhase FirstManifest) (a : StoreAnswer) → IsPlain (commit_goes phase a)
+plain_commit : (phase : CommitPhase Manifest) (a : StoreAnswer) → IsPlain (commit_goes phase a)
 plain_commit (committing.Putting n bytes m) (Created tag) = plain_created n m tag
 plain_commit (committing.Bounding n m) (Got o) = plain_bounded n m (boundary_got o)
 plain_commit _ _ = refl
@@ -107,13 +119,13 @@ plain_pass_list : (now : ℤ) (a : StoreAnswer) → IsPlain (gc.list_goes now a)
 plain_pass_list now (Found found) = plain_pass_listed now found (greatest ManifestLog found)
 plain_pass_list now _ = refl
 
-plain_pass_decoded : (options : PassOptions) (now : ℤ) (n : ℕ) (dates : List Dated) (r : Result FirstManifest SlateDBError) → IsPlainResult r → IsPlain (gc.decoded_goes n (gc.candidates_by options now n dates r))
+plain_pass_decoded : (options : PassOptions) (now : ℤ) (n : ℕ) (dates : List Dated) (r : Result Manifest SlateDBError) → IsPlainResult r → IsPlain (gc.decoded_goes n (gc.candidates_by options now n dates r))
 plain_pass_decoded options now n dates (Ok m) h = tt
 plain_pass_decoded options now n dates (Err e) h = h
 
-plain_pass_get : (options : PassOptions) (now : ℤ) (n : ℕ) (dates : List Dated) (a : StoreAnswer) → IsPlain (gc.get_goes decoded options now n dates a)
+plain_pass_get : (options : PassOptions) (now : ℤ) (n : ℕ) (dates : List Dated) (a : StoreAnswer) → IsPlain (gc.get_goes decoded_manifest options now n dates a)
 plain_pass_get options now n dates (Got None) = refl
-plain_pass_get options now n dates (Got (Some o)) = plain_pass_decoded options now n dates (decoded o.bytes) (plain_value (manifest_in o.bytes))
+plain_pass_get options now n dates (Got (Some o)) = plain_pass_decoded options now n dates (decoded_manifest o.bytes) (plain_version (u16_in o.bytes))
 plain_pass_get options now n dates _ = refl
 
 plain_pass_moves : (ns : List ℕ) (k : Option ℕ) → IsPlain (gc.moves_to ns k)
@@ -170,7 +182,7 @@ plain_pass_deletes (n ∷ ns) counts Deleted = plain_pass_left ns _
 plain_pass_deletes (n ∷ ns) counts Fault = plain_pass_left ns _
 plain_pass_deletes (n ∷ ns) counts _ = refl
 
-plain_pass : (options : PassOptions) (now : ℤ) (phase : PassPhase) (a : StoreAnswer) → IsPlain (gc.pass_goes decoded options now phase a)
+plain_pass : (options : PassOptions) (now : ℤ) (phase : PassPhase) (a : StoreAnswer) → IsPlain (gc.pass_goes decoded_manifest options now phase a)
 plain_pass options now passing.Listing a = plain_pass_list now a
 plain_pass options now (passing.Getting at n dates) a = plain_pass_get options at n dates a
 plain_pass options now (passing.Bounding n ns) a = plain_pass_bound n ns a
@@ -178,7 +190,7 @@ plain_pass options now (passing.Advancing phase ns) a = plain_pass_advanced opti
 plain_pass options now (passing.Deleting ns counts) a = plain_pass_deletes ns counts a
 plain_pass options now passing.Over a = refl
 
-around_read : (db : List ℕ) (g : Goes (ReadPhase FirstManifest) (Option (ℕ × FirstManifest))) → IsPlain g → IsPlain (read_on db g)
+around_read : (db : List ℕ) (g : Goes (ReadPhase Manifest) (Option (ℕ × Manifest))) → IsPlain g → IsPlain (read_on db g)
 around_read db (Stay p) h = tt
 around_read db (End p (Ok None)) h = tt
 around_read db (End p (Ok (Some v))) h = tt
@@ -189,7 +201,7 @@ around_pass db options (Stay p) h = tt
 around_pass db options (End p (Ok counts)) h = tt
 around_pass db options (End p (Err e)) h = h
 
-around_commit : (db : List ℕ) (g : Goes (CommitPhase FirstManifest) (ℕ × FirstManifest)) → IsPlain g → IsPlain (commit_on db g)
+around_commit : (db : List ℕ) (g : Goes (CommitPhase Manifest) (ℕ × Manifest)) → IsPlain g → IsPlain (commit_on db g)
 around_commit db (Stay p) h = tt
 around_commit db (End p (Ok v)) h = tt
 around_commit db (End p (Err e)) h = h

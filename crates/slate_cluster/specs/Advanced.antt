@@ -1,6 +1,6 @@
 -- What one step of a phrase does.
 use Rattle.std.specs.Prelude.{◌≡◌, ℕ, ℤ, List, Ok}
-use Rattle.slate_first.specs.declared.first_manifest.FirstManifest.{FirstManifest}
+use Rattle.slate_model.specs.declared.manifest.Manifest.{Manifest}
 use Rattle.slate_store.specs.Calls.{Told}
 use Rattle.slate_store.specs.Machines.{Steps}
 use Rattle.slate_store.specs.declared.step.Step.{Step}
@@ -16,11 +16,11 @@ use Rattle.slate_protocol.specs.declared.position.Ended.{Ended}
 use Rattle.slate_protocol.specs.declared.position.Ended.TheVariants.{Version}
 
 -- a step of a read, as one of the position
-abbrev pub ReadSteps : List ℕ → ReadPhase FirstManifest → ReadPhase FirstManifest → ℤ → Told → Told → Step Ended → Type 0
+abbrev pub ReadSteps : List ℕ → ReadPhase Manifest → ReadPhase Manifest → ℤ → Told → Told → Step Ended → Type 0
 ReadSteps db from to moment old new step = Steps old new (asks (at_read db from)) moment (goes (at_read db from) moment) (at_read db from) (at_read db to) step
 
 -- a step of a commit, as one of the position
-abbrev pub CommitSteps : List ℕ → CommitPhase FirstManifest → CommitPhase FirstManifest → ℤ → Told → Told → Step Ended → Type 0
+abbrev pub CommitSteps : List ℕ → CommitPhase Manifest → CommitPhase Manifest → ℤ → Told → Told → Step Ended → Type 0
 CommitSteps db from to moment old new step = Steps old new (asks (at_commit db from)) moment (goes (at_commit db from) moment) (at_commit db from) (at_commit db to) step
 
 -- a step of a pass, as one of the position
@@ -28,7 +28,7 @@ abbrev pub PassSteps : List ℕ → PassOptions → PassPhase → PassPhase → 
 PassSteps db options from to moment old new step = Steps old new (asks (at_pass db options from)) moment (goes (at_pass db options from) moment) (at_pass db options from) (at_pass db options to) step
 
 -- a version is given where its boundary was read
-abbrev pub ReadAtEnd : ReadPhase FirstManifest → Step Ended → Type 0
+abbrev pub ReadAtEnd : ReadPhase Manifest → Step Ended → Type 0
 ReadAtEnd from (Done (Ok (Version n m))) = from ≡ Bounding n m
 ReadAtEnd from _ = Unit {0}
 

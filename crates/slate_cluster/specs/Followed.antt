@@ -1,7 +1,7 @@
 -- What one step of a call does.
 use Rattle.std.specs.Prelude.{◌≡◌, ℕ, ℤ, List, Option, Some, None, Result, Ok, Err}
 use Rattle.slate_ids.specs.declared.out_of_memory.OutOfMemory.{OutOfMemory}
-use Rattle.slate_first.specs.declared.first_manifest.FirstManifest.{FirstManifest}
+use Rattle.slate_model.specs.declared.manifest.Manifest.{Manifest}
 use Rattle.slate_store.specs.Calls.{Told, Makes, moment_of}
 use Rattle.slate_store.specs.declared.store_answer.StoreAnswer.{StoreAnswer}
 use Rattle.slate_script.specs.declared.call.Call.{Call}
@@ -22,7 +22,7 @@ next_by purpose position None = Go purpose position
 next_by purpose position (Some reply) = Finish reply
 
 -- the read has ended with a version: the commit follows, or the call ends, or memory ran out and the read is back at its last phase
-abbrev pub Commits : Facts → Call → List ℕ → ℤ → Purpose → ℕ → FirstManifest → Purpose → Position → Result (Option Reply) OutOfMemory → Type 0
+abbrev pub Commits : Facts → Call → List ℕ → ℤ → Purpose → ℕ → Manifest → Purpose → Position → Result (Option Reply) OutOfMemory → Type 0
 Commits facts call db now from n m purpose position (Ok reply) = after_version facts call Reading now n m ≡ next_by purpose position reply
 Commits facts call db now from n m purpose position (Err e) = (purpose ≡ from) × (position ≡ at_read db (Bounding n m))
 

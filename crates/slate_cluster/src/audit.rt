@@ -1,7 +1,8 @@
 //! An audit of a run by its trail and its store: no reachable version was ever removed.
 ghost use Rattle.std.specs.Prelude.{◌<◌};
 
-use slate_first::{FirstManifest, decode_manifest, encode_manifest};
+use slate_layout::{decode_manifest, encode_manifest};
+use slate_model::{Manifest, ManifestCore};
 use slate_ids::{ByteList, DbPath, ObjectPath, SlateDBError};
 use slate_log::boundary_in;
 use slate_script::{Entry, Reply};
@@ -70,7 +71,7 @@ fn is_bounded(number: u64, reply: &Reply) -> Option<bool> {
 impl Audit {
     // As a run on a new database begins.
     fn new(alloc: Global, database: DbPath) -> Result<Audit, Fail> {
-        let bytes = encode_manifest(alloc, &FirstManifest::initial(alloc))?;
+        let bytes = encode_manifest(alloc, &Manifest::initial(alloc, ManifestCore::new(alloc)))?;
         let mut audit = Audit {
             database,
             versions: Vec::new(alloc),
@@ -130,7 +131,7 @@ impl Audit {
         })?;
         let mut reachable = Vec::new(alloc);
         reachable.push(number)?;
-        for checkpoint in manifest.checkpoints.as_slice() {
+        for checkpoint in manifest.core.checkpoints.as_slice() {
             reachable.push(checkpoint.manifest_id)?;
         }
         self.reachable = reachable;

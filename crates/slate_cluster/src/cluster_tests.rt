@@ -1,7 +1,8 @@
 //! A cluster by its own calls.
 
 use crate::{Cluster, ClusterError, NewError};
-use slate_first::{Checkpoint, FirstManifest, decode_manifest};
+use slate_layout::decode_manifest;
+use slate_model::{Checkpoint, Manifest, ManifestCore};
 use slate_ids::{CheckpointId, DbPath, GcMessage, ObjectPath, SlateDBError, StateCause};
 use slate_script::{
     Call, ClusterCause, DbSpec, Entry, Event, FilterWord, PartyKind, Reply, Script, read_script,
@@ -136,7 +137,7 @@ fn manifests_alone_have_a_pass(rt: HostRuntime) -> Result<(), Fail> {
 }
 
 // The database `db` with this manifest.
-fn database_of(alloc: Global, manifest: FirstManifest) -> Result<Vec<DbSpec>, Fail> {
+fn database_of(alloc: Global, manifest: Manifest) -> Result<Vec<DbSpec>, Fail> {
     let path = DbPath::from_text("db")?.ok_or("no path of a database")?;
     let mut specs = Vec::new(alloc);
     specs.push(DbSpec {
@@ -161,16 +162,16 @@ fn checkpoint_of(version: u64) -> Checkpoint {
 #[test]
 fn opening_checkpoints_name_the_first_version(rt: HostRuntime) -> Result<(), Fail> {
     let alloc = rt.alloc();
-    let mut manifest = FirstManifest::initial(alloc);
-    manifest.checkpoints.push(checkpoint_of(2))?;
+    let mut manifest = Manifest::initial(alloc, ManifestCore::new(alloc));
+    manifest.core.checkpoints.push(checkpoint_of(2))?;
     assert!(rt;
         matches!(
             Cluster::new(alloc, database_of(alloc, manifest)?),
             Err(NewError::BadCluster(ClusterCause::Checkpoints))
         )
     );
-    let mut manifest = FirstManifest::initial(alloc);
-    manifest.checkpoints.push(checkpoint_of(1))?;
+    let mut manifest = Manifest::initial(alloc, ManifestCore::new(alloc));
+    manifest.core.checkpoints.push(checkpoint_of(1))?;
     assert!(rt; Cluster::new(alloc, database_of(alloc, manifest)?).is_ok());
     Ok(())
 }
@@ -226,8 +227,8 @@ fn no_checkpoint_without_source_before_the_database_is_initialised(
     rt: HostRuntime,
 ) -> Result<(), Fail> {
     let alloc = rt.alloc();
-    let mut manifest = FirstManifest::initial(alloc);
-    manifest.initialized = false;
+    let mut manifest = Manifest::initial(alloc, ManifestCore::new(alloc));
+    manifest.core.initialized = false;
     let mut cluster = Cluster::new(alloc, database_of(alloc, manifest)?)?;
     let events = writes_checkpoint(alloc)?;
     cluster.run(alloc, events.as_slice())?;
@@ -246,7 +247,7 @@ fn no_checkpoint_without_source_before_the_database_is_initialised(
 #[test]
 fn a_checkpoint_stands_in_its_own_version(rt: HostRuntime) -> Result<(), Fail> {
     let alloc = rt.alloc();
-    let mut cluster = Cluster::new(alloc, database_of(alloc, FirstManifest::initial(alloc))?)?;
+    let mut cluster = Cluster::new(alloc, database_of(alloc, Manifest::initial(alloc, ManifestCore::new(alloc)))?)?;
     let events = writes_checkpoint(alloc)?;
     cluster.run(alloc, events.as_slice())?;
     let db = DbPath::from_text("db")?.ok_or("no path of a database")?;
@@ -262,6 +263,6 @@ fn a_checkpoint_stands_in_its_own_version(rt: HostRuntime) -> Result<(), Fail> {
         .ok_or("no checkpoint")?;
     assert!(rt; found.id.is(&CheckpointId::from_u64(7)) && found.manifest_id == 2);
     assert!(rt; found.expire_time == Some(4000) && found.create_time == 1000);
-    assert!(rt; manifest.checkpoints.as_slice().len() == 1);
+    assert!(rt; manifest.core.checkpoints.as_slice().len() == 1);
     Ok(())
 }

@@ -1,18 +1,19 @@
 //! The commit that a call makes of the manifest read.
 ghost use Rattle.std.specs.Prelude.{◌≡◌};
 ghost use Rattle.slate_ids.specs.Answers.{Gives};
-ghost use Rattle.slate_first.specs.Codec.{encoded};
+ghost use Rattle.slate_layout.specs.Codec.{encoded};
 ghost use Rattle.slate_txn.specs.Apply.{renewed};
 ghost use Rattle.slate_protocol.specs.Calls.{new_value as made_by, right_of as held_by, fenced, fence_of, commit_of};
-ghost use Rattle.slate_protocol.specs.Manifests.{manifest_refusal};
+ghost use Rattle.slate_state.specs.Rules.{manifest_refusal};
 
-use crate::rules::ManifestRules;
 use crate::values::new_value;
-use slate_first::{FirstManifest, FirstManifestCodec};
+use slate_layout::ManifestCodec;
+use slate_model::Manifest;
 use slate_ids::{Millis, SlateDBError, StateCause};
 use slate_log::{CommitPhase, Right, prepare};
 use slate_protocol::Facts;
 use slate_script::Call;
+use slate_state::ManifestRules;
 use slate_txn::fence;
 use std::alloc::Global;
 
@@ -34,7 +35,7 @@ fn refusal_at(own: Option<u64>, read: u64) -> Option<SlateDBError>
 }
 
 // Why the version read refuses a call: a flush alone is fenced.
-fn fence_at(facts: &Facts, call: &Call, manifest: &FirstManifest) -> Option<SlateDBError>
+fn fence_at(facts: &Facts, call: &Call, manifest: &Manifest) -> Option<SlateDBError>
     ensures { result ≡ fence_of facts.now call.now manifest.now }
 {
     match call {
@@ -49,8 +50,8 @@ fn renew(
     call: &Call,
     now: Millis,
     n: u64,
-    manifest: &FirstManifest,
-) -> Result<Option<CommitPhase<FirstManifest>>, SlateDBError>
+    manifest: &Manifest,
+) -> Result<Option<CommitPhase<Manifest>>, SlateDBError>
     ensures { Gives result (renewed (made_by call.now now) manifest_refusal encoded (held_by call.now) n manifest.now) }
 {
     match new_value(alloc, call, now, n, manifest)? {
@@ -59,7 +60,7 @@ fn renew(
             let right = right_of(call);
             Ok(Some(prepare(
                 alloc,
-                &FirstManifestCodec,
+                &ManifestCodec,
                 &ManifestRules,
                 n,
                 manifest,
@@ -78,8 +79,8 @@ pub(crate) fn commit_call(
     call: &Call,
     now: Millis,
     n: u64,
-    manifest: &FirstManifest,
-) -> Result<Option<CommitPhase<FirstManifest>>, SlateDBError>
+    manifest: &Manifest,
+) -> Result<Option<CommitPhase<Manifest>>, SlateDBError>
     ensures { Gives result (commit_of facts.now call.now now n manifest.now) }
 {
     match fence_at(facts, call, manifest) {

@@ -3,7 +3,7 @@
 use crate::Cluster;
 use crate::audit::audit_run;
 use crate::generator::generated;
-use slate_first::FirstManifest;
+use slate_model::{Manifest, ManifestCore};
 use slate_ids::DbPath;
 use slate_script::DbSpec;
 use std::alloc::Global;
@@ -19,7 +19,7 @@ fn one_new(alloc: Global, path: DbPath) -> Result<Cluster, Fail> {
     let mut specs = Vec::new(alloc);
     specs.push(DbSpec {
         path,
-        manifest: FirstManifest::initial(alloc),
+        manifest: Manifest::initial(alloc, ManifestCore::new(alloc)),
         modified: 0,
     })?;
     Ok(Cluster::new(alloc, specs)?)

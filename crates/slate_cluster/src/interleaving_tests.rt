@@ -2,7 +2,8 @@
 ghost use Rattle.std.specs.Prelude.{◌<◌};
 
 use crate::Cluster;
-use slate_first::{FirstManifest, decode_manifest};
+use slate_layout::decode_manifest;
+use slate_model::{Manifest, ManifestCore};
 use slate_ids::{DbPath, ObjectPath, SlateDBError};
 use slate_script::{Call, DbSpec, Entry, Event, PartyKind, Reply};
 use slate_store::{Mark, StoreAnswer};
@@ -18,7 +19,7 @@ fn database() -> Result<DbPath, Fail> {
 
 fn one_new(alloc: Global) -> Result<Vec<DbSpec>, Fail> {
     let path = database()?;
-    let manifest = FirstManifest::initial(alloc);
+    let manifest = Manifest::initial(alloc, ManifestCore::new(alloc));
     let mut specs = Vec::new(alloc);
     specs.push(DbSpec {
         path,
@@ -81,7 +82,7 @@ fn version(
     alloc: Global,
     cluster: &Cluster,
     number: u64,
-) -> Result<Option<(FirstManifest, usize)>, Fail> {
+) -> Result<Option<(Manifest, usize)>, Fail> {
     match cluster
         .store()
         .object(&ObjectPath::Manifest(database()?, number))

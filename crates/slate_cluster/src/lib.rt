@@ -6,7 +6,6 @@ mod audit;
 mod carried;
 #[cfg(test)]
 mod checking;
-mod checkpoints;
 mod cluster;
 #[cfg(test)]
 mod cluster_tests;
@@ -16,7 +15,6 @@ mod commits;
 mod databases_tests;
 #[cfg(test)]
 mod flush_tests;
-mod flushing;
 #[cfg(test)]
 mod generated_tests;
 #[cfg(test)]
@@ -43,7 +41,6 @@ mod progress;
 mod racing_tests;
 mod recorder;
 mod report;
-mod rules;
 #[cfg(test)]
 mod script_tests;
 mod state;
@@ -51,12 +48,10 @@ mod status;
 mod steps;
 mod tallies;
 mod top_call;
-#[cfg(test)]
-mod value_tests;
 mod values;
 
 pub use cluster::{Cluster, ClusterError, NewError, Report};
 pub use command::Command;
-pub use rules::ManifestRules;
+pub use slate_state::ManifestRules;
 pub use status::Status;
 pub use top_call::program;

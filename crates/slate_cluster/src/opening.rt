@@ -9,7 +9,8 @@ use crate::carried::{Carried, NOBODYS};
 use crate::cluster::NewError;
 use crate::state::ClusterState;
 use crate::tallies::Tallies;
-use slate_first::{Checkpoint, FirstManifest, encode_manifest, is_normal};
+use slate_layout::{encode_manifest, is_normal};
+use slate_model::{Checkpoint, Manifest};
 use slate_ids::{ByteList, Millis, ObjectPath, OutOfMemory};
 use slate_protocol::Tally;
 use slate_script::{ClusterCause, DbSpec};
@@ -68,7 +69,7 @@ fn open_carried(alloc: Global, specs: &[DbSpec]) -> Result<Option<Carried>, OutO
 {
     let mut carried = Carried::new(alloc);
     for spec in specs {
-        if !add_ids(&mut carried, spec.manifest.checkpoints.as_slice())? {
+        if !add_ids(&mut carried, spec.manifest.core.checkpoints.as_slice())? {
             return Ok(None);
         }
     }
@@ -76,7 +77,7 @@ fn open_carried(alloc: Global, specs: &[DbSpec]) -> Result<Option<Carried>, OutO
 }
 
 // The bytes of a first manifest. None where it has none, or isn't what is read back of them.
-fn first_bytes(alloc: Global, manifest: &FirstManifest) -> Result<Option<ByteList>, OutOfMemory>
+fn first_bytes(alloc: Global, manifest: &Manifest) -> Result<Option<ByteList>, OutOfMemory>
     ensures { IfOk result (λ o. o ≡ opens.first_bytes manifest.now) }
 {
     match encode_manifest(alloc, manifest) {
@@ -127,7 +128,7 @@ fn open_firsts(alloc: Global, specs: &[DbSpec]) -> Result<Option<Firsts>, OutOfM
 fn names_other(spec: &DbSpec) -> bool
     ensures { result ≡ opens.names_other spec.now }
 {
-    let checkpoints = spec.manifest.checkpoints.as_slice();
+    let checkpoints = spec.manifest.core.checkpoints.as_slice();
     checkpoints.iter().any(|c| c.manifest_id != 1)
 }
 

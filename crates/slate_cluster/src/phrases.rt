@@ -7,7 +7,8 @@ ghost use Rattle.slate_gc.specs.Pass.{pass_due};
 ghost use Rattle.slate_protocol.specs.Phrases.{asks, goes, is_due as due_at};
 ghost use Rattle.slate_cluster.specs.Advanced.{ReadSteps, ReadAtEnd, CommitSteps, PassSteps, AtEnd};
 
-use slate_first::{FirstManifest, FirstManifestCodec};
+use slate_layout::ManifestCodec;
+use slate_model::Manifest;
 use slate_gc::{PassOptions, PassPhase};
 use slate_ids::{DbPath, Millis};
 use slate_log::{CommitPhase, LogKind, ReadPhase, Sequenced};
@@ -16,17 +17,17 @@ use slate_store::{ObjectStore, Step};
 use std::alloc::Global;
 
 /// The log of manifests of a database.
-pub(crate) fn manifests(db: DbPath) -> Sequenced<FirstManifest, FirstManifestCodec>
+pub(crate) fn manifests(db: DbPath) -> Sequenced<Manifest, ManifestCodec>
     ensures db { result.db ≡ db }
     ensures log { result.log ≡ LogKind.Manifest }
 {
-    Sequenced::new(db, LogKind::Manifest, FirstManifestCodec)
+    Sequenced::new(db, LogKind::Manifest, ManifestCodec)
 }
 
 fn read_on<S: ObjectStore>(
     alloc: Global,
     db: DbPath,
-    phase: &mut ReadPhase<FirstManifest>,
+    phase: &mut ReadPhase<Manifest>,
     store: &mut S,
     moment: Millis,
 ) -> Step<Ended>
@@ -45,7 +46,7 @@ fn read_on<S: ObjectStore>(
 fn commit_on<S: ObjectStore>(
     alloc: Global,
     db: DbPath,
-    phase: &mut CommitPhase<FirstManifest>,
+    phase: &mut CommitPhase<Manifest>,
     store: &mut S,
     moment: Millis,
 ) -> Step<Ended>

@@ -1,7 +1,7 @@
 //! A pass that is raced by a second one at each of its steps.
 
 use crate::Cluster;
-use slate_first::FirstManifest;
+use slate_model::{Manifest, ManifestCore};
 use slate_ids::{DbPath, GcMessage, ObjectPath};
 use slate_script::{Call, DbSpec, Entry, Event, FilterWord, PartyKind, Reply};
 use slate_store::Mark;
@@ -70,7 +70,7 @@ fn run(alloc: Global, events: &[Event]) -> Result<Cluster, Fail> {
     let mut specs = Vec::new(alloc);
     specs.push(DbSpec {
         path: database()?,
-        manifest: FirstManifest::initial(alloc),
+        manifest: Manifest::initial(alloc, ManifestCore::new(alloc)),
         modified: 0,
     })?;
     let mut cluster = Cluster::new(alloc, specs)?;

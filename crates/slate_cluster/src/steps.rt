@@ -1,6 +1,6 @@
 //! One step of a call.
 ghost use Rattle.std.specs.Prelude.{◌≡◌, true, IfOk, OnErr};
-ghost use Rattle.slate_first.specs.Checkpoints.{checkpoint_at};
+ghost use Rattle.slate_state.specs.Checkpoints.{checkpoint_at};
 ghost use Rattle.slate_protocol.specs.Calls.{done_next, checkpoint_reply as replied, options_of as pass_options};
 ghost use Rattle.slate_protocol.specs.Phrases.{is_due};
 ghost use Rattle.slate_cluster.specs.Recorded.{told_by};
@@ -9,7 +9,8 @@ ghost use Rattle.slate_cluster.specs.Followed.{next_by, Commits, Ends, Followed,
 use crate::commits::commit_call;
 use crate::phrases::advance;
 use crate::recorder::Recorder;
-use slate_first::{FirstManifest, find_checkpoint};
+use slate_model::Manifest;
+use slate_state::find_checkpoint;
 use slate_gc::{PassOptions, PassPhase};
 use slate_ids::{CheckpointId, DbPath, Millis, OutOfMemory, SlateDBError};
 use slate_log::ReadPhase;
@@ -19,10 +20,10 @@ use slate_store::Step;
 use std::alloc::Global;
 
 // The checkpoint of an id, as a reply.
-fn checkpoint_reply(id: CheckpointId, manifest: &FirstManifest) -> Reply
-    ensures { result ≡ replied id (checkpoint_at id manifest.now.checkpoints) }
+fn checkpoint_reply(id: CheckpointId, manifest: &Manifest) -> Reply
+    ensures { result ≡ replied id (checkpoint_at id manifest.now.core.checkpoints) }
 {
-    match find_checkpoint(manifest.checkpoints.as_slice(), &id) {
+    match find_checkpoint(manifest.core.checkpoints.as_slice(), &id) {
         Some(checkpoint) => Reply::Checkpoint(checkpoint.id, checkpoint.manifest_id),
         None => Reply::Refused(SlateDBError::CheckpointMissing(id)),
     }
@@ -49,7 +50,7 @@ fn go_on(
     call: &Call,
     purpose: &mut Purpose,
     position: &mut Position,
-    manifest: &FirstManifest,
+    manifest: &Manifest,
 ) -> Option<Reply>
     ensures { done_next facts.now call.now manifest.now ≡ next_by purpose.new position.new result }
 {
@@ -86,7 +87,7 @@ fn read_version(
     purpose: &mut Purpose,
     position: &mut Position,
     n: u64,
-    value: FirstManifest,
+    value: Manifest,
 ) -> Result<Option<Reply>, OutOfMemory>
     ensures { Commits facts.now call.now db now purpose.old n value purpose.new position.new result }
 {

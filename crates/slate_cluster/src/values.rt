@@ -2,28 +2,15 @@
 ghost use Rattle.std.specs.Prelude.{◌≡◌, IfOk};
 ghost use Rattle.slate_ids.specs.Answers.{Gives};
 ghost use Rattle.slate_protocol.specs.Calls.{new_value as made_by};
-ghost use Rattle.slate_protocol.specs.Manifests.{raised_writer};
 
-use crate::checkpoints::{
-    delete_checkpoint, expire_checkpoints, refresh_checkpoint, replace_checkpoint, write_checkpoint,
-};
-use crate::flushing::flush;
-use slate_first::{CheckpointOptions, FirstManifest, FirstManifestCodec, WriterEpochs, copy_name};
 use slate_ids::{CheckpointId, Millis, OutOfMemory, SlateDBError, Text};
+use slate_model::{CheckpointOptions, Manifest, Plain};
 use slate_script::Call;
-use slate_txn::next_epoch;
+use slate_state::{
+    delete_checkpoint, expire_checkpoints, flush, raise_writer, refresh_checkpoint, replace_checkpoint,
+    write_checkpoint,
+};
 use std::alloc::Global;
-
-// The manifest with its writer epoch plus one.
-fn raise_writer(
-    alloc: Global,
-    n: u64,
-    manifest: &FirstManifest,
-) -> Result<Option<FirstManifest>, SlateDBError>
-    ensures { Gives result (raised_writer n manifest.now) }
-{
-    next_epoch(alloc, &FirstManifestCodec, &WriterEpochs, n, manifest)
-}
 
 // The options of a new checkpoint, as a call names them.
 fn options_of(
@@ -37,7 +24,7 @@ fn options_of(
     Ok(CheckpointOptions {
         lifetime,
         source,
-        name: copy_name(alloc, name)?,
+        name: Plain::clone(name, alloc)?,
     })
 }
 
@@ -47,8 +34,8 @@ pub(crate) fn new_value(
     call: &Call,
     now: Millis,
     n: u64,
-    manifest: &FirstManifest,
-) -> Result<Option<FirstManifest>, SlateDBError>
+    manifest: &Manifest,
+) -> Result<Option<Manifest>, SlateDBError>
     ensures { Gives result (made_by call.now now n manifest.now) }
 {
     match call {

@@ -20,7 +20,7 @@ use Rattle.slate_log.specs.LogPaths.{version_path, boundary_path, folder}
 use Rattle.slate_log.specs.declared.advance.AdvancePhase.{AdvancePhase}
 use Rattle.slate_log.specs.declared.advance.AdvancePhase.TheVariants as advancing
 use Rattle.slate_log.specs.declared.log_kind.LogKind.TheVariants as logs
-use Rattle.slate_first.specs.declared.first_manifest.FirstManifest.{FirstManifest}
+use Rattle.slate_model.specs.declared.manifest.Manifest.{Manifest}
 use Rattle.slate_store.specs.Calls.{IsAnswerTo}
 use Rattle.slate_store.specs.Machines.{Stay, End, IsEnd}
 use Rattle.slate_store.specs.declared.object.ObjectMetadata.{ObjectMetadata}
@@ -37,7 +37,7 @@ fine_listed : (now : ℤ) (found : List ObjectMetadata) (n : Option ℕ) → Fin
 fine_listed now found None = fine_err pass_due Over LatestTransactionalObjectVersionMissing (λ same. absurd cc)
 fine_listed now found (Some n) = fine_stay pass_due _ refl
 
-no_fault : (options : PassOptions) (now : ℤ) (n : ℕ) (listed : List Dated) (m : Result FirstManifest SlateDBError) → m ≢ Err StoreFault → candidates_by options now n listed m ≢ Err StoreFault
+no_fault : (options : PassOptions) (now : ℤ) (n : ℕ) (listed : List Dated) (m : Result Manifest SlateDBError) → m ≢ Err StoreFault → candidates_by options now n listed m ≢ Err StoreFault
 no_fault options now n listed (Ok m) h = λ same. absurd cc
 no_fault options now n listed (Err e) h = λ same. (let is : e ≡ StoreFault = cc in h (ap (λ (k : SlateDBError). Err k) is))
 
@@ -45,7 +45,7 @@ fine_decoded : (n : ℕ) (numbers : Result (List ℕ) SlateDBError) → numbers 
 fine_decoded n (Ok numbers) h = fine_stay pass_due (Bounding n numbers) refl
 fine_decoded n (Err e) h = fine_err pass_due Over e (λ same. h (ap (λ (k : SlateDBError). Err k) same))
 
-fine_got : (decoded : List ℕ → Result FirstManifest SlateDBError) → NoFault decoded → (options : PassOptions) (now : ℤ) (n : ℕ) (listed : List Dated) (object : Option StoredObject) → FinePass (got_goes decoded options now n listed object)
+fine_got : (decoded : List ℕ → Result Manifest SlateDBError) → NoFault decoded → (options : PassOptions) (now : ℤ) (n : ℕ) (listed : List Dated) (object : Option StoredObject) → FinePass (got_goes decoded options now n listed object)
 fine_got decoded good options now n listed None = fine_err pass_due Over (ManifestMissing n) (λ same. absurd cc)
 fine_got decoded good options now n listed (Some object) =
     fine_decoded n (candidates_by options now n listed (decoded object.bytes)) (no_fault options now n listed (decoded object.bytes) (good object.bytes))
@@ -83,7 +83,7 @@ sound_advance options numbers advance answer (inl f) = inl (f.0, subst (λ (a : 
 sound_advance options numbers advance answer (inr fine) = inr (fine_advanced options numbers (advance_goes advance answer) fine)
 
 -- a delete that faults is counted
-fine_deleted : (decoded : List ℕ → Result FirstManifest SlateDBError) (options : PassOptions) (now : ℤ) (db : List ℕ) (n : ℕ) (ns : List ℕ) (counts : PassCounts) (answer : StoreAnswer)
+fine_deleted : (decoded : List ℕ → Result Manifest SlateDBError) (options : PassOptions) (now : ℤ) (db : List ℕ) (n : ℕ) (ns : List ℕ) (counts : PassCounts) (answer : StoreAnswer)
     → IsAnswerTo (pass_asks db (Deleting (n ∷ ns) counts)) answer → FinePass (pass_goes decoded options now (Deleting (n ∷ ns) counts) answer)
 fine_deleted decoded options now db n ns counts (Found found) kind = absurd kind
 fine_deleted decoded options now db n ns counts (Got object) kind = absurd kind
@@ -93,7 +93,7 @@ fine_deleted decoded options now db n ns counts (Written tag) kind = absurd kind
 fine_deleted decoded options now db n ns counts Deleted kind = fine_deletes ns (one_deleted counts)
 fine_deleted decoded options now db n ns counts Fault kind = fine_deletes ns (one_failed counts)
 
-by_phase : (db : List ℕ) (decoded : List ℕ → Result FirstManifest SlateDBError) → NoFault decoded → (options : PassOptions) (now : ℤ) (p : PassPhase) (answer : StoreAnswer) → pass_due p ≡ true → IsAnswerTo (pass_asks db p) answer
+by_phase : (db : List ℕ) (decoded : List ℕ → Result Manifest SlateDBError) → NoFault decoded → (options : PassOptions) (now : ℤ) (p : PassPhase) (answer : StoreAnswer) → pass_due p ≡ true → IsAnswerTo (pass_asks db p) answer
     → ((answer ≡ Fault) × IsEnd (pass_goes decoded options now p answer)) ⊎ FinePass (pass_goes decoded options now p answer)
 by_phase db decoded good options now Listing answer due kind =
     sound_at pass_due (pass_goes decoded options now Listing) Found answer (list_answers (folder logs.Manifest db) answer kind) tt (λ found. fine_listed now found (greatest logs.Manifest found))
@@ -109,7 +109,7 @@ by_phase db decoded good options now (Deleting (n ∷ ns) counts) answer due kin
 by_phase db decoded good options now Over answer due kind = absurd cc
 
 -- a pass ends in a fault only where the store faults before its deletes
-pub pass_faults : (db : List ℕ) (decoded : List ℕ → Result FirstManifest SlateDBError) → NoFault decoded → (options : PassOptions) (now : ℤ) → OnlyFaults pass_due (pass_asks db) (pass_goes decoded options now)
+pub pass_faults : (db : List ℕ) (decoded : List ℕ → Result Manifest SlateDBError) → NoFault decoded → (options : PassOptions) (now : ℤ) → OnlyFaults pass_due (pass_asks db) (pass_goes decoded options now)
 pass_faults db decoded good options now = record { sound = λ p answer. by_phase db decoded good options now p answer }
 
 reads_there : (db : List ℕ) (p : PassPhase) → is_reading_phase p ≡ true → is_reading (pass_asks db p) ≡ true

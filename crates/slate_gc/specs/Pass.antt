@@ -14,7 +14,7 @@ use Rattle.slate_log.specs.Boundary.{boundary_got, greatest}
 use Rattle.slate_log.specs.LogPaths.{version_path, boundary_path, folder}
 use Rattle.slate_log.specs.declared.advance.AdvancePhase.TheVariants as advancing
 use Rattle.slate_log.specs.declared.log_kind.LogKind.TheVariants as logs
-use Rattle.slate_first.specs.declared.first_manifest.FirstManifest.{FirstManifest}
+use Rattle.slate_model.specs.declared.manifest.Manifest.{Manifest}
 use Rattle.slate_store.specs.Machines.{Goes, Stay, End}
 use Rattle.slate_store.specs.declared.object.ObjectMetadata.{ObjectMetadata}
 use Rattle.slate_store.specs.declared.object.StoredObject.{StoredObject}
@@ -70,8 +70,8 @@ list_goes now (Found found) = listed_goes now found (greatest logs.Manifest foun
 list_goes now answer = End Over (Err StoreFault)
 
 -- the candidates by the greatest manifest, or why it can't be read
-abbrev pub candidates_by : PassOptions → ℤ → ℕ → List Dated → Result FirstManifest SlateDBError → Result (List ℕ) SlateDBError
-candidates_by options now n listed (Ok m) = Ok (candidates options.min_age now n m.checkpoints listed)
+abbrev pub candidates_by : PassOptions → ℤ → ℕ → List Dated → Result Manifest SlateDBError → Result (List ℕ) SlateDBError
+candidates_by options now n listed (Ok m) = Ok (candidates options.min_age now n m.core.checkpoints listed)
 candidates_by options now n listed (Err e) = Err e
 
 -- with the candidates the boundary is got
@@ -80,12 +80,12 @@ decoded_goes n (Ok numbers) = Stay (Bounding n numbers)
 decoded_goes n (Err e) = End Over (Err e)
 
 -- a greatest manifest that is gone ends the pass
-abbrev pub got_goes : (List ℕ → Result FirstManifest SlateDBError) → PassOptions → ℤ → ℕ → List Dated → Option StoredObject → PassGoes
+abbrev pub got_goes : (List ℕ → Result Manifest SlateDBError) → PassOptions → ℤ → ℕ → List Dated → Option StoredObject → PassGoes
 got_goes decoded options now n listed None = End Over (Err (ManifestMissing n))
 got_goes decoded options now n listed (Some object) = decoded_goes n (candidates_by options now n listed (decoded object.bytes))
 
 -- after the get of the greatest manifest; now is the moment of the list
-abbrev pub get_goes : (List ℕ → Result FirstManifest SlateDBError) → PassOptions → ℤ → ℕ → List Dated → StoreAnswer → PassGoes
+abbrev pub get_goes : (List ℕ → Result Manifest SlateDBError) → PassOptions → ℤ → ℕ → List Dated → StoreAnswer → PassGoes
 get_goes decoded options now n listed (Got object) = got_goes decoded options now n listed object
 get_goes decoded options now n listed answer = End Over (Err StoreFault)
 
@@ -145,7 +145,7 @@ abbrev pub delete_goes : List ℕ → PassCounts → StoreAnswer → PassGoes
 delete_goes left counts answer = if has_number left then deleted_goes (drop 1 left) counts answer else End Over (Err StoreFault)
 
 -- how the pass goes on from the answer at this moment; an answer to another call ends as a fault does
-abbrev pub pass_goes : (List ℕ → Result FirstManifest SlateDBError) → PassOptions → ℤ → PassPhase → StoreAnswer → PassGoes
+abbrev pub pass_goes : (List ℕ → Result Manifest SlateDBError) → PassOptions → ℤ → PassPhase → StoreAnswer → PassGoes
 pass_goes decoded options now Listing answer = list_goes now answer
 pass_goes decoded options now (Getting listed_at n listed) answer = get_goes decoded options listed_at n listed answer
 pass_goes decoded options now (Bounding n numbers) answer = bound_goes n numbers answer

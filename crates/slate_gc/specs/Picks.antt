@@ -5,8 +5,8 @@ use Rattle.slate_gc.specs.declared.pass_options.PassOptions.{PassOptions}
 use Rattle.slate_log.specs.Boundary.{greater}
 use Rattle.slate_log.specs.LogPaths.{number_of}
 use Rattle.slate_log.specs.declared.log_kind.LogKind.{LogKind}
-use Rattle.slate_first.specs.Checkpoints.{is_named}
-use Rattle.slate_first.specs.declared.checkpoint.Checkpoint.{Checkpoint}
+use Rattle.slate_state.specs.Checkpoints.{is_named}
+use Rattle.slate_model.specs.declared.checkpoint.Checkpoint.{Checkpoint}
 use Rattle.slate_store.specs.declared.object.ObjectMetadata.{ObjectMetadata}
 
 -- the age at a moment, which saturates at 64 bits, is strictly above the least one, in milliseconds

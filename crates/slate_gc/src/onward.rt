@@ -16,7 +16,7 @@ use crate::numbers::Numbers;
 use crate::pass_counts::PassCounts;
 use crate::pass_options::PassOptions;
 use crate::pass_phase::PassPhase;
-use slate_first::FirstManifest;
+use slate_model::Manifest;
 use slate_ids::{FormatName, Listed, Millis, ObjectCodec, SlateDBError};
 use slate_log::{AdvancePhase, LogKind, boundary_in, greatest};
 use slate_store::{ObjectMetadata, Step, StoreAnswer, StoredObject};
@@ -64,7 +64,7 @@ pub(crate) fn after_list(alloc: Global, now: Millis, answer: &StoreAnswer) -> On
 }
 
 // The candidates by the bytes of the greatest manifest.
-fn candidates_by<C: ObjectCodec<FirstManifest>>(
+fn candidates_by<C: ObjectCodec<Manifest>>(
     alloc: Global,
     codec: &C,
     options: &PassOptions,
@@ -76,12 +76,12 @@ fn candidates_by<C: ObjectCodec<FirstManifest>>(
     ensures { Gives result (pass.candidates_by options.now now n listed.now (C.decoded codec.now bytes.now)) }
 {
     let manifest = codec.decode(alloc, bytes)?;
-    let checkpoints = manifest.checkpoints.as_slice();
+    let checkpoints = manifest.core.checkpoints.as_slice();
     Ok(candidates_of(alloc, options.min_age, now, n, checkpoints, listed)?)
 }
 
 /// After the get of the greatest manifest. Want of memory leaves the phase as it was.
-pub(crate) fn after_get<C: ObjectCodec<FirstManifest>>(
+pub(crate) fn after_get<C: ObjectCodec<Manifest>>(
     alloc: Global,
     codec: &C,
     options: &PassOptions,

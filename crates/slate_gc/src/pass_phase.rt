@@ -9,7 +9,7 @@ use crate::numbers::Numbers;
 use crate::onward::{after_advance, after_bound, after_delete, after_get, after_list};
 use crate::pass_counts::PassCounts;
 use crate::pass_options::PassOptions;
-use slate_first::FirstManifest;
+use slate_model::Manifest;
 use slate_ids::{DbPath, Listed, Millis, ObjectCodec, OutOfMemory, SlateDBError};
 use slate_log::{AdvancePhase, LogKind, Sequenced};
 use slate_store::{ObjectStore, Step, StoreAnswer, StoreCall, perform};
@@ -48,7 +48,7 @@ impl PassPhase {
     pub fn asks<C>(
         &self,
         alloc: Global,
-        sequenced: &Sequenced<FirstManifest, C>,
+        sequenced: &Sequenced<Manifest, C>,
     ) -> Result<StoreCall, OutOfMemory>
         ensures { IfOk result (λ call. call ≡ pass_asks sequenced.now.db self.now) }
     {
@@ -60,7 +60,7 @@ impl PassPhase {
             }
             PassPhase::Bounding(_, _) => { Ok(StoreCall::Get(LogKind::Manifest.boundary_path(db))) }
             PassPhase::Advancing(advance, _) => {
-                let manifests: Sequenced<FirstManifest, ()> = Sequenced::new(
+                let manifests: Sequenced<Manifest, ()> = Sequenced::new(
                     db,
                     LogKind::Manifest,
                     (),
@@ -85,7 +85,7 @@ impl PassPhase {
     }
 
     // The phase after the answer to the call of this one, and the step.
-    fn after<C: ObjectCodec<FirstManifest>>(
+    fn after<C: ObjectCodec<Manifest>>(
         self,
         alloc: Global,
         codec: &C,
@@ -114,7 +114,7 @@ impl PassPhase {
 
     /// Goes on from the answer to that call, at the moment of the call. Want of memory comes only after a list or the get
     /// of the greatest manifest, never after a write, and leaves the phase as it was.
-    pub fn goes_on<C: ObjectCodec<FirstManifest>>(
+    pub fn goes_on<C: ObjectCodec<Manifest>>(
         &mut self,
         alloc: Global,
         codec: &C,
@@ -136,10 +136,10 @@ impl PassPhase {
 
     /// Makes the one call that is due. Want of memory leaves the phase as it was, and any other end leaves none due. A delete
     /// that faults is counted, and doesn't end the pass.
-    pub fn next<C: ObjectCodec<FirstManifest>, S: ObjectStore>(
+    pub fn next<C: ObjectCodec<Manifest>, S: ObjectStore>(
         &mut self,
         alloc: Global,
-        sequenced: &Sequenced<FirstManifest, C>,
+        sequenced: &Sequenced<Manifest, C>,
         options: &PassOptions,
         store: &mut S,
         moment: Millis,

@@ -2,7 +2,8 @@
 ghost use Rattle.std.specs.Prelude.{◌≡◌, true, OnOk};
 
 use crate::{Numbers, PassCounts, PassOptions, PassPhase, is_aged, picks};
-use slate_first::{Checkpoint, FirstManifest, FirstManifestCodec, encode_manifest};
+use slate_layout::{ManifestCodec, encode_manifest};
+use slate_model::{Checkpoint, Manifest, ManifestCore};
 use slate_ids::{CheckpointId, DbPath, ObjectPath, SlateDBError};
 use slate_log::{LogKind, Sequenced};
 use slate_store::{Mark, MemoryStore, ObjectStore, Step, StoreAnswer};
@@ -10,7 +11,7 @@ use std::alloc::Global;
 use std::process::Abort;
 use std::test::Fail;
 
-type Manifests = Sequenced<FirstManifest, FirstManifestCodec>;
+type Manifests = Sequenced<Manifest, ManifestCodec>;
 
 /// The moment of the passes.
 const NOW: i64 = 3_601_000;
@@ -24,14 +25,14 @@ const OPTIONS: PassOptions = PassOptions {
 
 fn manifests() -> Result<Manifests, Fail> {
     let db = DbPath::from_text("db")?.ok_or("no path of a database")?;
-    Ok(Sequenced::new(db, LogKind::Manifest, FirstManifestCodec))
+    Ok(Sequenced::new(db, LogKind::Manifest, ManifestCodec))
 }
 
 // The bytes of a manifest whose checkpoints name these versions.
 fn naming(alloc: Global, versions: &[u64]) -> Result<Vec<u8>, Fail> {
-    let mut manifest = FirstManifest::initial(alloc);
+    let mut manifest = Manifest::initial(alloc, ManifestCore::new(alloc));
     for version in versions {
-        manifest.checkpoints.push(Checkpoint {
+        manifest.core.checkpoints.push(Checkpoint {
             id: CheckpointId::from_u64(*version),
             manifest_id: *version,
             expire_time: None,
@@ -380,7 +381,7 @@ fn other_answers_end_the_pass(rt: HostRuntime) -> Result<(), Fail> {
     let mut pass = PassPhase::Listing;
     match pass.goes_on(
         alloc,
-        &FirstManifestCodec,
+        &ManifestCodec,
         &OPTIONS,
         NOW,
         &StoreAnswer::Deleted,

@@ -4,8 +4,8 @@ use Rattle.std.specs.Prelude.{if◌then◌else◌, ◌++◌, ◌&&◌, not}
 use Rattle.slate_ids.specs.Ids.{is_db_path}
 use Rattle.slate_ids.specs.declared.error.SlateDBError.{SlateDBError}
 use Rattle.slate_ids.specs.declared.error.SlateDBError.TheVariants.{ManifestMissing}
-use Rattle.slate_first.specs.Codec.{decoded}
-use Rattle.slate_first.specs.declared.first_manifest.FirstManifest.{FirstManifest}
+use Rattle.slate_layout.specs.Decoding.{decoded_manifest}
+use Rattle.slate_model.specs.declared.manifest.Manifest.{Manifest}
 use Rattle.slate_store.specs.Machines.{Stay, End}
 use Rattle.slate_store.specs.Store.{Store, Outcome, object_at, removed, listed, effect}
 use Rattle.slate_store.specs.declared.list_dir.ListDir.TheVariants.{Manifests}
@@ -69,17 +69,17 @@ module _ (db : List ℕ) (options : PassOptions) (now : ℤ) (s0 : Store) where
   picked = picks_in options now db s0
 
   -- the greatest manifest listed, with its value
-  pub record IsGreatest (n : ℕ) (m : FirstManifest) : Type 0 where
+  pub record IsGreatest (n : ℕ) (m : Manifest) : Type 0 where
     pub greatest : greatest ManifestLog found ≡ Some n
     pub object : StoredObject
     pub at : object_at (version_path ManifestLog db n) s0 ≡ Some object
-    pub value : decoded object.bytes ≡ Ok m
+    pub value : decoded_manifest object.bytes ≡ Ok m
 
   -- the candidates by it
   pub record IsBounding (n : ℕ) (ns : List ℕ) : Type 0 where
-    pub value : FirstManifest
+    pub value : Manifest
     pub is : IsGreatest n value
-    pub candidates : ns ≡ candidates options.min_age now n value.checkpoints (dated ManifestLog found)
+    pub candidates : ns ≡ candidates options.min_age now n value.core.checkpoints (dated ManifestLog found)
 
   -- some of the picks are deleted, and these are left
   pub record IsDeleting (s : Store) (left : List ℕ) : Type 0 where
@@ -112,21 +112,21 @@ module _ (db : List ℕ) (options : PassOptions) (now : ℤ) (s0 : Store) where
   listed_brings None is = tt
   listed_brings (Some n) is = (refl, refl, is, refl)
 
-  pub list_brings : AloneBrings s0 (pass_goes decoded options now Listing (effect Good (pass_asks db Listing) now s0).answer)
+  pub list_brings : AloneBrings s0 (pass_goes decoded_manifest options now Listing (effect Good (pass_asks db Listing) now s0).answer)
   list_brings = listed_brings (greatest ManifestLog found) refl
 
   -- ---- the get of the greatest
 
-  decoded_brings : (n : ℕ) (object : StoredObject) (r : Result FirstManifest SlateDBError)
-      → greatest ManifestLog found ≡ Some n → object_at (version_path ManifestLog db n) s0 ≡ Some object → decoded object.bytes ≡ r
+  decoded_brings : (n : ℕ) (object : StoredObject) (r : Result Manifest SlateDBError)
+      → greatest ManifestLog found ≡ Some n → object_at (version_path ManifestLog db n) s0 ≡ Some object → decoded_manifest object.bytes ≡ r
       → AloneBrings s0 (decoded_goes n (candidates_by options now n (dated ManifestLog found) r))
   decoded_brings n object (Ok m) top at is = (refl, record { value = m; is = record { greatest = top; object = object; at = at; value = is }; candidates = refl })
   decoded_brings n object (Err e) top at is = tt
 
   got_brings : (n : ℕ) (o : Option StoredObject) → greatest ManifestLog found ≡ Some n → object_at (version_path ManifestLog db n) s0 ≡ o
-      → AloneBrings s0 (got_goes decoded options now n (dated ManifestLog found) o)
+      → AloneBrings s0 (got_goes decoded_manifest options now n (dated ManifestLog found) o)
   got_brings n None top at = tt
-  got_brings n (Some object) top at = decoded_brings n object (decoded object.bytes) top at refl
+  got_brings n (Some object) top at = decoded_brings n object (decoded_manifest object.bytes) top at refl
 
   -- ---- the get of the boundary
 
@@ -136,10 +136,10 @@ module _ (db : List ℕ) (options : PassOptions) (now : ℤ) (s0 : Store) where
       let g = h.is in
       ap (λ (o : Option ℕ). numbers_or_none (picks_of options (Found found, now) (Got (greatest_object db s0 o), now) (Got (object_at (boundary_path ManifestLog db) s0), now))) g.greatest
       ∙ (ap (λ (o : Option StoredObject). numbers_or_none (picks_of options (Found found, now) (Got o, now) (Got (object_at (boundary_path ManifestLog db) s0), now))) g.at
-      ∙ (ap (λ (o : Option ℕ). numbers_or_none (picks_at options now found o (decoded g.object.bytes) (boundary_got (object_at (boundary_path ManifestLog db) s0)))) g.greatest
-      ∙ (ap (λ (r : Result FirstManifest SlateDBError). numbers_or_none (picks_at options now found (Some n) r (boundary_got (object_at (boundary_path ManifestLog db) s0)))) g.value
+      ∙ (ap (λ (o : Option ℕ). numbers_or_none (picks_at options now found o (decoded_manifest g.object.bytes) (boundary_got (object_at (boundary_path ManifestLog db) s0)))) g.greatest
+      ∙ (ap (λ (r : Result Manifest SlateDBError). numbers_or_none (picks_at options now found (Some n) r (boundary_got (object_at (boundary_path ManifestLog db) s0)))) g.value
       ∙ (ap (λ (o : Option ℕ). numbers_or_none (picks_at options now found (Some n) (Ok h.value) o)) read
-      ∙ (ap (λ (t : Bool). numbers_or_none (if t then None else Some (picks options (candidates options.min_age now n h.value.checkpoints (dated ManifestLog found))))) above
+      ∙ (ap (λ (t : Bool). numbers_or_none (if t then None else Some (picks options (candidates options.min_age now n h.value.core.checkpoints (dated ManifestLog found))))) above
       ∙ ap (picks options) (sym h.candidates))))))
 
   -- where nothing is picked the list stays
@@ -180,10 +180,10 @@ module _ (db : List ℕ) (options : PassOptions) (now : ℤ) (s0 : Store) where
 
     -- a step without a fault
     pub alone_brings : (phase : PassPhase) (moment : ℤ) → IsNextSmall phase → AloneKnows s phase
-        → AloneBrings (effect Good (pass_asks db phase) moment s).store (pass_goes decoded options moment phase (effect Good (pass_asks db phase) moment s).answer)
+        → AloneBrings (effect Good (pass_asks db phase) moment s).store (pass_goes decoded_manifest options moment phase (effect Good (pass_asks db phase) moment s).answer)
     alone_brings Listing moment small h = absurd h
     alone_brings (Getting at n dates) moment small h =
-        let by = λ (t : Store) (m : ℤ) (ds : List Dated). AloneBrings t (got_goes decoded options m n ds (object_at (version_path ManifestLog db n) t)) in
+        let by = λ (t : Store) (m : ℤ) (ds : List Dated). AloneBrings t (got_goes decoded_manifest options m n ds (object_at (version_path ManifestLog db n) t)) in
         let went : by s0 now (dated ManifestLog found) = got_brings n (object_at (version_path ManifestLog db n) s0) h.2 refl in
         let of_store : by s now (dated ManifestLog found) = subst (λ (t : Store). by t now (dated ManifestLog found)) (sym h.0) went in
         let of_moment : by s at (dated ManifestLog found) = subst (λ (m : ℤ). by s m (dated ManifestLog found)) (sym h.1) of_store in

@@ -2,7 +2,7 @@
 use Rattle.std.proofs.Common.{◌≡◌, ℕ, ℤ, ◌+◌, ◌-◌, ◌<◌, ◌≤◌, ◌^◌, ◌==◌, false, Option, Some, None, Result, Ok, Err, refl, sym, ap, ◌∙◌, subst, arith}
 use Rattle.std.proofs.lemmas.Bool.Decides.{nat_tests}
 use Rattle.slate_ids.specs.declared.error.SlateDBError.{SlateDBError}
-use Rattle.slate_first.specs.declared.first_manifest.FirstManifest.{FirstManifest}
+use Rattle.slate_model.specs.declared.manifest.Manifest.{Manifest}
 use Rattle.slate_store.specs.Machines.{Goes, Stay, End}
 use Rattle.slate_store.specs.Store.{Store}
 use Rattle.slate_script.specs.declared.call.Call.{Call}
@@ -12,7 +12,7 @@ use Rattle.slate_log.specs.declared.commit.CommitPhase.{CommitPhase}
 use Rattle.slate_protocol.specs.Calls.{Next, Go, Finish, new_value, right_of, fence_of, commit_of, done_next, commit_next, after_version, after_commit, after_pass, after_phrase, follow, read_next, once_open, begin}
 use Rattle.slate_protocol.specs.Chains.{link_at, top}
 use Rattle.slate_protocol.specs.Logs.{Chain, author_of, manifests}
-use Rattle.slate_protocol.specs.Manifests.{manifest_refusal}
+use Rattle.slate_state.specs.Rules.{manifest_refusal}
 use Rattle.slate_protocol.specs.declared.party.Facts.{Facts}
 use Rattle.slate_protocol.specs.declared.party.Purpose.{Purpose}
 use Rattle.slate_protocol.specs.declared.party.Purpose.TheVariants.{Reading, Committing, Passing}
@@ -34,7 +34,7 @@ room_for n top le small room = grind (arith, nat_tests)
 
 module _ (s : Store) (c : Chain) (n : ℕ) (facts : Facts) (call : Call) (i : IsSound manifests facts.db s c) where
   -- the commit of what the call makes of a committed version
-  made_next : (now : ℤ) (k : ℕ) (m : FirstManifest) (commit : CommitPhase FirstManifest) → IsValue c k m → commit_of facts call now k m ≡ Ok (Some commit) → CommitKnows manifests facts.db s c (author_of n facts call (Committing now)) commit
+  made_next : (now : ℤ) (k : ℕ) (m : Manifest) (commit : CommitPhase Manifest) → IsValue c k m → commit_of facts call now k m ≡ Ok (Some commit) → CommitKnows manifests facts.db s c (author_of n facts call (Committing now)) commit
   made_next now k m commit v h =
       let made = call_made facts call now k m commit h in
       let p = made.prepared in
@@ -47,13 +47,13 @@ module _ (s : Store) (c : Chain) (n : ℕ) (facts : Facts) (call : Call) (i : Is
         small = room_for k (top c) le i.small p.room;
         made = ap (λ (j : ℕ). new_value call now j v.link.value) same ∙ (ap (new_value call now k) v.value ∙ made.makes);
         encodes = p.encodes;
-        lawful = ap (λ (j : ℕ). manifest_refusal j v.link.value made.new (right_of call)) same ∙ (ap (λ (o : FirstManifest). manifest_refusal k o made.new (right_of call)) v.value ∙ p.lawful);
+        lawful = ap (λ (j : ℕ). manifest_refusal j v.link.value made.new (right_of call)) same ∙ (ap (λ (o : Manifest). manifest_refusal k o made.new (right_of call)) v.value ∙ p.lawful);
         passed = ap (fence_of facts call) v.value ∙ made.passed;
       } in
-      subst (λ (x : CommitPhase FirstManifest). CommitKnows manifests facts.db s c (author_of n facts call (Committing now)) x) (sym p.is) next
+      subst (λ (x : CommitPhase Manifest). CommitKnows manifests facts.db s c (author_of n facts call (Committing now)) x) (sym p.is) next
 
   -- what follows a commit, or a read after which none is needed
-  done_reaches : (m : FirstManifest) (by : Call) → NextKnows s c n facts by (done_next facts by m)
+  done_reaches : (m : Manifest) (by : Call) → NextKnows s c n facts by (done_next facts by m)
   done_reaches m OpenWriter = tt
   done_reaches m (Flush seq tick) = tt
   done_reaches m (WriteCheckpoint id lifetime source name) = tt
@@ -62,17 +62,17 @@ module _ (s : Store) (c : Chain) (n : ℕ) (facts : Facts) (call : Call) (i : Is
   done_reaches m (DeleteCheckpoint id) = tt
   done_reaches m (Pass pass min_age dry_run filter) = (refl, tt)
 
-  commit_reaches : (now : ℤ) (k : ℕ) (m : FirstManifest) (r : Result (Option (CommitPhase FirstManifest)) SlateDBError) → IsValue c k m → commit_of facts call now k m ≡ r → NextKnows s c n facts call (commit_next facts call now m r)
+  commit_reaches : (now : ℤ) (k : ℕ) (m : Manifest) (r : Result (Option (CommitPhase Manifest)) SlateDBError) → IsValue c k m → commit_of facts call now k m ≡ r → NextKnows s c n facts call (commit_next facts call now m r)
   commit_reaches now k m (Ok (Some commit)) v h = (refl, made_next now k m commit v h)
   commit_reaches now k m (Ok None) v h = done_reaches m call
   commit_reaches now k m (Err e) v h = tt
 
-  version_reaches : (purpose : Purpose) (now : ℤ) (k : ℕ) (m : FirstManifest) → IsValue c k m → NextKnows s c n facts call (after_version facts call purpose now k m)
+  version_reaches : (purpose : Purpose) (now : ℤ) (k : ℕ) (m : Manifest) → IsValue c k m → NextKnows s c n facts call (after_version facts call purpose now k m)
   version_reaches Reading now k m v = commit_reaches now k m (commit_of facts call now k m) v refl
   version_reaches (Committing made) now k m v = tt
   version_reaches Passing now k m v = tt
 
-  commit_ends : (purpose : Purpose) (k : ℕ) (m : FirstManifest) → NextKnows s c n facts call (after_commit facts call purpose k m)
+  commit_ends : (purpose : Purpose) (k : ℕ) (m : Manifest) → NextKnows s c n facts call (after_commit facts call purpose k m)
   commit_ends Reading k m = tt
   commit_ends (Committing made) k m = done_reaches m call
   commit_ends Passing k m = tt

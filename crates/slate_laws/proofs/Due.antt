@@ -3,8 +3,8 @@ use Rattle.std.proofs.Common.{◌≡◌, ℕ, ℤ, ◌==◌, nat_le, Bool, true,
 use Rattle.std.specs.Prelude.{if◌then◌else◌}
 use Rattle.slate_ids.specs.declared.error.SlateDBError.{SlateDBError}
 use Rattle.slate_ids.specs.declared.error.SlateDBError.TheVariants.{TransactionalObjectVersionExists, ManifestMissing}
-use Rattle.slate_first.specs.Codec.{decoded}
-use Rattle.slate_first.specs.declared.first_manifest.FirstManifest.{FirstManifest}
+use Rattle.slate_layout.specs.Decoding.{decoded_manifest}
+use Rattle.slate_model.specs.declared.manifest.Manifest.{Manifest}
 use Rattle.slate_store.specs.Machines.{Goes, Stay, End}
 use Rattle.slate_store.specs.declared.object.ObjectMetadata.{ObjectMetadata}
 use Rattle.slate_store.specs.declared.object.StoredObject.{StoredObject}
@@ -47,51 +47,51 @@ abbrev DueAt : {P R : Type 0} → (P → Bool) → Goes P R → Type 0
 DueAt due (Stay p) = due p ≡ true
 DueAt due (End p r) = Unit {0}
 
-abbrev ReadAt : Goes (ReadPhase FirstManifest) (Option (ℕ × FirstManifest)) → Type 0
-ReadAt g = DueAt (λ (p : ReadPhase FirstManifest). read_due p) g
+abbrev ReadAt : Goes (ReadPhase Manifest) (Option (ℕ × Manifest)) → Type 0
+ReadAt g = DueAt (λ (p : ReadPhase Manifest). read_due p) g
 
-abbrev CommitAt : Goes (CommitPhase FirstManifest) (ℕ × FirstManifest) → Type 0
-CommitAt g = DueAt (λ (p : CommitPhase FirstManifest). commit_due p) g
+abbrev CommitAt : Goes (CommitPhase Manifest) (ℕ × Manifest) → Type 0
+CommitAt g = DueAt (λ (p : CommitPhase Manifest). commit_due p) g
 
 listed_due : (n : Option ℕ) → ReadAt (listed_goes n)
 listed_due None = tt
 listed_due (Some n) = refl
 
-decoded_due : (n : ℕ) (r : Result FirstManifest SlateDBError) → ReadAt (decoded_goes n r)
+decoded_due : (n : ℕ) (r : Result Manifest SlateDBError) → ReadAt (decoded_goes n r)
 decoded_due n (Ok m) = refl
 decoded_due n (Err e) = tt
 
-got_due : (n : ℕ) (o : Option StoredObject) → ReadAt (got_goes decoded n o)
+got_due : (n : ℕ) (o : Option StoredObject) → ReadAt (got_goes decoded_manifest n o)
 got_due n None = refl
-got_due n (Some object) = decoded_due n (decoded object.bytes)
+got_due n (Some object) = decoded_due n (decoded_manifest object.bytes)
 
-above_due : (n : ℕ) (m : FirstManifest) (b : Bool) → ReadAt (if b then Stay reading.Listing else End reading.Over (Ok (Some (n, m))))
+above_due : (n : ℕ) (m : Manifest) (b : Bool) → ReadAt (if b then Stay reading.Listing else End reading.Over (Ok (Some (n, m))))
 above_due n m true = refl
 above_due n m false = tt
 
-boundary_due : (n : ℕ) (m : FirstManifest) (b : Option ℕ) → ReadAt (boundary_goes n m b)
+boundary_due : (n : ℕ) (m : Manifest) (b : Option ℕ) → ReadAt (boundary_goes n m b)
 boundary_due n m None = tt
 boundary_due n m (Some b) = above_due n m (nat_le n b)
 
-reads_due : (phase : ReadPhase FirstManifest) (answer : StoreAnswer) → ReadAt (read_goes ManifestLog decoded phase answer)
+reads_due : (phase : ReadPhase Manifest) (answer : StoreAnswer) → ReadAt (read_goes ManifestLog decoded_manifest phase answer)
 reads_due reading.Listing (Found found) = listed_due (greatest ManifestLog found)
 reads_due (reading.Getting n) (Got o) = got_due n o
 reads_due (reading.Bounding n m) (Got o) = boundary_due n m (boundary_got o)
 reads_due _ _ = tt
 
-created_due : (n : ℕ) (m : FirstManifest) (tag : Option ℕ) → CommitAt (created_goes n m tag)
+created_due : (n : ℕ) (m : Manifest) (tag : Option ℕ) → CommitAt (created_goes n m tag)
 created_due n m None = tt
 created_due n m (Some tag) = refl
 
-ended_due : (n b : ℕ) (m : FirstManifest) (t : Bool) → CommitAt (if t then End committing.Over (Err (TransactionalObjectVersionExists n (Some b))) else End committing.Over (Ok (n, m)))
+ended_due : (n b : ℕ) (m : Manifest) (t : Bool) → CommitAt (if t then End committing.Over (Err (TransactionalObjectVersionExists n (Some b))) else End committing.Over (Ok (n, m)))
 ended_due n b m true = tt
 ended_due n b m false = tt
 
-bounded_due : (n : ℕ) (m : FirstManifest) (b : Option ℕ) → CommitAt (bounded_goes n m b)
+bounded_due : (n : ℕ) (m : Manifest) (b : Option ℕ) → CommitAt (bounded_goes n m b)
 bounded_due n m None = tt
 bounded_due n m (Some b) = ended_due n b m (nat_le n b)
 
-commits_due : (phase : CommitPhase FirstManifest) (answer : StoreAnswer) → CommitAt (commit_goes phase answer)
+commits_due : (phase : CommitPhase Manifest) (answer : StoreAnswer) → CommitAt (commit_goes phase answer)
 commits_due (committing.Putting n bytes m) (Created tag) = created_due n m tag
 commits_due (committing.Bounding n m) (Got o) = bounded_due n m (boundary_got o)
 commits_due _ _ = tt
@@ -138,13 +138,13 @@ pass_list_due : (now : ℤ) (answer : StoreAnswer) → PassAt (gc.list_goes now 
 pass_list_due now (Found found) = pass_listed_due now found (greatest ManifestLog found)
 pass_list_due now _ = tt
 
-pass_decoded_due : (options : PassOptions) (now : ℤ) (n : ℕ) (dates : List Dated) (r : Result FirstManifest SlateDBError) → PassAt (gc.decoded_goes n (gc.candidates_by options now n dates r))
+pass_decoded_due : (options : PassOptions) (now : ℤ) (n : ℕ) (dates : List Dated) (r : Result Manifest SlateDBError) → PassAt (gc.decoded_goes n (gc.candidates_by options now n dates r))
 pass_decoded_due options now n dates (Ok m) = refl
 pass_decoded_due options now n dates (Err e) = tt
 
-pass_get_due : (options : PassOptions) (now : ℤ) (n : ℕ) (dates : List Dated) (answer : StoreAnswer) → PassAt (gc.get_goes decoded options now n dates answer)
+pass_get_due : (options : PassOptions) (now : ℤ) (n : ℕ) (dates : List Dated) (answer : StoreAnswer) → PassAt (gc.get_goes decoded_manifest options now n dates answer)
 pass_get_due options now n dates (Got None) = tt
-pass_get_due options now n dates (Got (Some object)) = pass_decoded_due options now n dates (decoded object.bytes)
+pass_get_due options now n dates (Got (Some object)) = pass_decoded_due options now n dates (decoded_manifest object.bytes)
 pass_get_due options now n dates _ = tt
 
 next_due : (ns : List ℕ) (k : Option ℕ) → PassAt (gc.moves_to ns k)
@@ -178,7 +178,7 @@ deletes_due (n ∷ ns) counts Deleted = left_due ns _
 deletes_due (n ∷ ns) counts Fault = left_due ns _
 deletes_due (n ∷ ns) counts _ = tt
 
-passes_due : (options : PassOptions) (now : ℤ) (phase : PassPhase) (answer : StoreAnswer) → PassAt (pass_goes decoded options now phase answer)
+passes_due : (options : PassOptions) (now : ℤ) (phase : PassPhase) (answer : StoreAnswer) → PassAt (pass_goes decoded_manifest options now phase answer)
 passes_due options now passing.Listing answer = pass_list_due now answer
 passes_due options now (passing.Getting at n dates) answer = pass_get_due options at n dates answer
 passes_due options now (passing.Bounding n ns) answer = pass_bound_due n ns answer
@@ -191,11 +191,11 @@ passes_due options now passing.Over answer = tt
 abbrev PositionAt : Goes Position Ended → Type 0
 PositionAt g = DueAt is_due g
 
-read_around : (db : List ℕ) (g : Goes (ReadPhase FirstManifest) (Option (ℕ × FirstManifest))) → ReadAt g → PositionAt (read_on db g)
+read_around : (db : List ℕ) (g : Goes (ReadPhase Manifest) (Option (ℕ × Manifest))) → ReadAt g → PositionAt (read_on db g)
 read_around db (Stay phase) h = h
 read_around db (End phase r) h = tt
 
-commit_around : (db : List ℕ) (g : Goes (CommitPhase FirstManifest) (ℕ × FirstManifest)) → CommitAt g → PositionAt (commit_on db g)
+commit_around : (db : List ℕ) (g : Goes (CommitPhase Manifest) (ℕ × Manifest)) → CommitAt g → PositionAt (commit_on db g)
 commit_around db (Stay phase) h = h
 commit_around db (End phase r) h = tt
 
@@ -204,16 +204,16 @@ pass_around db options (Stay phase) h = h
 pass_around db options (End phase r) h = tt
 
 phrase_at : (db : List ℕ) (phrase : Phrase) (now : ℤ) (answer : StoreAnswer) → PositionAt (phrase_goes db phrase now answer)
-phrase_at db (Read phase) now answer = read_around db (read_goes ManifestLog decoded phase answer) (reads_due phase answer)
+phrase_at db (Read phase) now answer = read_around db (read_goes ManifestLog decoded_manifest phase answer) (reads_due phase answer)
 phrase_at db (Commit phase) now answer = commit_around db (commit_goes phase answer) (commits_due phase answer)
-phrase_at db (Pass options phase) now answer = pass_around db options (pass_goes decoded options now phase answer) (passes_due options now phase answer)
+phrase_at db (Pass options phase) now answer = pass_around db options (pass_goes decoded_manifest options now phase answer) (passes_due options now phase answer)
 
 -- where a call goes on, a store call is due
 abbrev pub DueNext : Next → Type 0
 DueNext (Go purpose position) = is_due position ≡ true
 DueNext (Finish reply) = Unit {0}
 
-done_due : (facts : Facts) (m : FirstManifest) (call : Call) → DueNext (done_next facts call m)
+done_due : (facts : Facts) (m : Manifest) (call : Call) → DueNext (done_next facts call m)
 done_due facts m OpenWriter = tt
 done_due facts m (Flush seq tick) = tt
 done_due facts m (WriteCheckpoint id lifetime source name) = tt
@@ -222,8 +222,8 @@ done_due facts m (RefreshCheckpoint id lifetime) = tt
 done_due facts m (DeleteCheckpoint id) = tt
 done_due facts m (Pass pass min_age dry_run filter) = refl
 
-commit_at : (facts : Facts) (call : Call) (now : ℤ) (n : ℕ) (m : FirstManifest) (r : Result (Option (CommitPhase FirstManifest)) SlateDBError) → commit_of facts call now n m ≡ r → DueNext (commit_next facts call now m r)
-commit_at facts call now n m (Ok (Some commit)) h = ap (λ (c : CommitPhase FirstManifest). commit_due c) (call_made facts call now n m commit h).prepared.is
+commit_at : (facts : Facts) (call : Call) (now : ℤ) (n : ℕ) (m : Manifest) (r : Result (Option (CommitPhase Manifest)) SlateDBError) → commit_of facts call now n m ≡ r → DueNext (commit_next facts call now m r)
+commit_at facts call now n m (Ok (Some commit)) h = ap (λ (c : CommitPhase Manifest). commit_due c) (call_made facts call now n m commit h).prepared.is
 commit_at facts call now n m (Ok None) h = done_due facts m call
 commit_at facts call now n m (Err e) h = tt
 

@@ -3,7 +3,7 @@ use Rattle.std.proofs.Common.{◌≡◌, ◌≢◌, ℕ, ◌≤◌, nat_lt, Bool
 use Rattle.std.proofs.lemmas.Bool.Decides.{nat_tests}
 use Rattle.std.specs.Prelude.{if◌then◌else◌}
 use Rattle.slate_ids.specs.declared.error.SlateDBError.TheVariants.{Fenced}
-use Rattle.slate_first.specs.declared.first_manifest.FirstManifest.{FirstManifest}
+use Rattle.slate_model.specs.declared.manifest.Manifest.{Manifest}
 use Rattle.slate_script.specs.declared.call.Call.{Call}
 use Rattle.slate_script.specs.declared.call.Call.TheVariants.{OpenWriter, Flush, WriteCheckpoint, ReplaceCheckpoint, RefreshCheckpoint, DeleteCheckpoint, Pass}
 use Rattle.slate_txn.specs.Fencing.{fence}
@@ -27,21 +27,21 @@ passes own read h = test (nat_lt own read) refl h
     test false is h = above own read is
 
 -- writer epochs never fall along a chain
-epochs_rise : (n : ℕ) (u l : Link FirstManifest Author) (c : Chain) → IsChain manifests (l ∷ c) → link_at n (l ∷ c) ≡ Some u → u.value.writer_epoch ≤ l.value.writer_epoch
+epochs_rise : (n : ℕ) (u l : Link Manifest Author) (c : Chain) → IsChain manifests (l ∷ c) → link_at n (l ∷ c) ≡ Some u → u.value.writer_epoch ≤ l.value.writer_epoch
 epochs_rise n u l [] h at =
     ⊎_elim
-    (λ (e : l.number ≡ n). let same : l ≡ u = cc (link_here n l [] e, at) in let v = ap (λ (k : Link FirstManifest Author). k.value.writer_epoch) same in omega arith)
+    (λ (e : l.number ≡ n). let same : l ≡ u = cc (link_here n l [] e, at) in let v = ap (λ (k : Link Manifest Author). k.value.writer_epoch) same in omega arith)
     (λ (ne : l.number ≢ n). absurd (cc (link_there n l [] ne, at)))
     (same_or_not l.number n)
 epochs_rise n u l (m ∷ c) h at =
     let up = epoch_rises m.value l.value m.number (right_of h.0.author.call) h.0.lawful in
     ⊎_elim
-    (λ (e : l.number ≡ n). let same : l ≡ u = cc (link_here n l (m ∷ c) e, at) in let v = ap (λ (k : Link FirstManifest Author). k.value.writer_epoch) same in omega arith)
+    (λ (e : l.number ≡ n). let same : l ≡ u = cc (link_here n l (m ∷ c) e, at) in let v = ap (λ (k : Link Manifest Author). k.value.writer_epoch) same in omega arith)
     (λ (ne : l.number ≢ n). let below = epochs_rise n u m c h.1 (sym (link_there n l (m ∷ c) ne) ∙ at) in omega arith)
     (same_or_not l.number n)
 
 -- the epoch of the author is not below the epoch of the version before
-author_above : (facts : Facts) (call : Call) (old new : FirstManifest) (epoch : ℕ) → fence_of facts call old ≡ None → old.writer_epoch ≤ new.writer_epoch → epoch_in facts call new ≡ Some epoch → old.writer_epoch ≤ epoch
+author_above : (facts : Facts) (call : Call) (old new : Manifest) (epoch : ℕ) → fence_of facts call old ≡ None → old.writer_epoch ≤ new.writer_epoch → epoch_in facts call new ≡ Some epoch → old.writer_epoch ≤ epoch
 author_above facts (WriteCheckpoint id lifetime source name) old new epoch passed up h = absurd cc
 author_above facts (ReplaceCheckpoint replaced id lifetime source name) old new epoch passed up h = absurd cc
 author_above facts (RefreshCheckpoint id lifetime) old new epoch passed up h = absurd cc
@@ -54,14 +54,14 @@ author_above facts (Flush seq tick) old new epoch passed up h = by_epoch facts.e
     by_epoch None p e = absurd cc
     by_epoch (Some own) p e = let same : own ≡ epoch = cc in let le = passes own old.writer_epoch p in omega arith
 
-not_below : (new old : Link FirstManifest Author) (c : Chain) (f : Follows manifests old new) → IsChain manifests (old ∷ c) → NotBelow new.by new.value (old ∷ c)
+not_below : (new old : Link Manifest Author) (c : Chain) (f : Follows manifests old new) → IsChain manifests (old ∷ c) → NotBelow new.by new.value (old ∷ c)
 not_below new old c f h = subst (λ (by : Option Author). NotBelow by new.value (old ∷ c)) (sym f.by)
     (λ epoch is n u at.
     let up = epoch_rises old.value new.value old.number (right_of f.author.call) f.lawful in
     let above = author_above f.author.facts f.author.call old.value new.value epoch f.passed up is in
     let below = epochs_rise n u old c h at in omega arith)
 
-first_not_below : (by : Option Author) (m : FirstManifest) → NotBelow by m []
+first_not_below : (by : Option Author) (m : Manifest) → NotBelow by m []
 first_not_below None m = tt
 first_not_below (Some author) m = λ epoch is n u at. absurd cc
 

@@ -5,8 +5,8 @@ use Rattle.std.specs.Prelude.{if◌then◌else◌, ◌&&◌, not}
 use Rattle.slate_ids.specs.declared.error.SlateDBError.{SlateDBError}
 use Rattle.slate_ids.specs.declared.error.SlateDBError.TheVariants.{ManifestMissing}
 use Rattle.slate_ids.specs.declared.gc_message.GcMessage.{GcMessage}
-use Rattle.slate_first.specs.Codec.{decoded}
-use Rattle.slate_first.specs.declared.first_manifest.FirstManifest.{FirstManifest}
+use Rattle.slate_layout.specs.Decoding.{decoded_manifest}
+use Rattle.slate_model.specs.declared.manifest.Manifest.{Manifest}
 use Rattle.slate_store.specs.Machines.{Goes, Stay, End}
 use Rattle.slate_store.specs.Store.{Store}
 use Rattle.slate_store.specs.declared.object.ObjectMetadata.{ObjectMetadata}
@@ -58,12 +58,12 @@ module _ (options : PassOptions) where
   bound_picks n ns ((Got boundary, at) ∷ answers) = bounded_picks n ns (boundary_got boundary)
   bound_picks n ns _ = []
 
-  abbrev decoded_picks : ℤ → ℕ → List Dated → Result FirstManifest SlateDBError → List Answered → List ℕ
-  decoded_picks now n dates (Ok m) answers = bound_picks n (candidates options.min_age now n m.checkpoints dates) answers
+  abbrev decoded_picks : ℤ → ℕ → List Dated → Result Manifest SlateDBError → List Answered → List ℕ
+  decoded_picks now n dates (Ok m) answers = bound_picks n (candidates options.min_age now n m.core.checkpoints dates) answers
   decoded_picks now n dates (Err e) answers = []
 
   abbrev get_picks : ℤ → ℕ → List Dated → List Answered → List ℕ
-  get_picks now n dates ((Got (Some object), at) ∷ answers) = decoded_picks now n dates (decoded object.bytes) answers
+  get_picks now n dates ((Got (Some object), at) ∷ answers) = decoded_picks now n dates (decoded_manifest object.bytes) answers
   get_picks now n dates _ = []
 
   abbrev listed_picks : ℤ → List ObjectMetadata → Option ℕ → List Answered → List ℕ
@@ -78,26 +78,26 @@ module _ (options : PassOptions) where
   above_picks ns true = refl
   above_picks ns false = refl
 
-  bounded_same : (now : ℤ) (found : List ObjectMetadata) (n : ℕ) (m : FirstManifest) (bound : Option ℕ)
-      → numbers_or_none (picks_at options now found (Some n) (Ok m) bound) ≡ bounded_picks n (candidates options.min_age now n m.checkpoints (dated ManifestLog found)) bound
+  bounded_same : (now : ℤ) (found : List ObjectMetadata) (n : ℕ) (m : Manifest) (bound : Option ℕ)
+      → numbers_or_none (picks_at options now found (Some n) (Ok m) bound) ≡ bounded_picks n (candidates options.min_age now n m.core.checkpoints (dated ManifestLog found)) bound
   bounded_same now found n m None = refl
-  bounded_same now found n m (Some bound) = above_picks (candidates options.min_age now n m.checkpoints (dated ManifestLog found)) (nat_le n bound)
+  bounded_same now found n m (Some bound) = above_picks (candidates options.min_age now n m.core.checkpoints (dated ManifestLog found)) (nat_le n bound)
 
-  decoded_same : (now : ℤ) (found : List ObjectMetadata) (n : ℕ) (r : Result FirstManifest SlateDBError) (boundary : Option StoredObject) (by : ℤ) (answers : List Answered)
+  decoded_same : (now : ℤ) (found : List ObjectMetadata) (n : ℕ) (r : Result Manifest SlateDBError) (boundary : Option StoredObject) (by : ℤ) (answers : List Answered)
       → numbers_or_none (picks_at options now found (Some n) r (boundary_got boundary)) ≡ decoded_picks now n (dated ManifestLog found) r ((Got boundary, by) ∷ answers)
   decoded_same now found n (Ok m) boundary by answers = bounded_same now found n m (boundary_got boundary)
   decoded_same now found n (Err e) boundary by answers = refl
 
   -- of three answers that have what they are to have
   listed_same : (now : ℤ) (found : List ObjectMetadata) (n : Option ℕ) (object : StoredObject) (at : ℤ) (boundary : Option StoredObject) (by : ℤ) (answers : List Answered)
-      → numbers_or_none (picks_at options now found n (decoded object.bytes) (boundary_got boundary)) ≡ listed_picks now found n ((Got (Some object), at) ∷ (Got boundary, by) ∷ answers)
+      → numbers_or_none (picks_at options now found n (decoded_manifest object.bytes) (boundary_got boundary)) ≡ listed_picks now found n ((Got (Some object), at) ∷ (Got boundary, by) ∷ answers)
   listed_same now found None object at boundary by answers = refl
-  listed_same now found (Some n) object at boundary by answers = decoded_same now found n (decoded object.bytes) boundary by answers
+  listed_same now found (Some n) object at boundary by answers = decoded_same now found n (decoded_manifest object.bytes) boundary by answers
 
   -- of other answers, or fewer
-  none_decoded : (now : ℤ) (n : ℕ) (dates : List Dated) (r : Result FirstManifest SlateDBError) (answers : List Answered) → ((ns : List ℕ) → [] ≡ bound_picks n ns answers)
+  none_decoded : (now : ℤ) (n : ℕ) (dates : List Dated) (r : Result Manifest SlateDBError) (answers : List Answered) → ((ns : List ℕ) → [] ≡ bound_picks n ns answers)
       → [] ≡ decoded_picks now n dates r answers
-  none_decoded now n dates (Ok m) answers h = h (candidates options.min_age now n m.checkpoints dates)
+  none_decoded now n dates (Ok m) answers h = h (candidates options.min_age now n m.core.checkpoints dates)
   none_decoded now n dates (Err e) answers h = refl
 
   none_listed : (now : ℤ) (found : List ObjectMetadata) (o : Option ℕ) (answers : List Answered) → ((n : ℕ) (dates : List Dated) → [] ≡ get_picks now n dates answers)
@@ -108,7 +108,7 @@ module _ (options : PassOptions) where
   two_same : (now : ℤ) (found : List ObjectMetadata) (object : StoredObject) (at : ℤ) (answers : List Answered) → ((n : ℕ) (ns : List ℕ) → [] ≡ bound_picks n ns answers)
       → [] ≡ listed_picks now found (greatest ManifestLog found) ((Got (Some object), at) ∷ answers)
   two_same now found object at answers h =
-      none_listed now found (greatest ManifestLog found) ((Got (Some object), at) ∷ answers) (λ n dates. none_decoded now n dates (decoded object.bytes) answers (h n))
+      none_listed now found (greatest ManifestLog found) ((Got (Some object), at) ∷ answers) (λ n dates. none_decoded now n dates (decoded_manifest object.bytes) answers (h n))
 
   third_same : (now : ℤ) (found : List ObjectMetadata) (object : StoredObject) (at : ℤ) (boundary : Answered) (answers : List Answered)
       → numbers_or_none (picks_of options (Found found, now) (Got (Some object), at) boundary) ≡ listed_picks now found (greatest ManifestLog found) ((Got (Some object), at) ∷ boundary ∷ answers)
@@ -158,7 +158,7 @@ module _ (facts : Facts) (call : Call) (options : PassOptions) where
 
   -- a call of the pass that is no delete
   quiet : (ns : List ℕ) (phase : PassPhase) (answer : StoreAnswer) (at : ℤ) (answers : List Answered) → is_delete (pass_asks facts.db phase) ≡ false
-      → ExactFrom ns (pass_next facts call options at (pass_goes decoded options at phase answer)) answers → ExactFrom ns (in_phase phase) ((answer, at) ∷ answers)
+      → ExactFrom ns (pass_next facts call options at (pass_goes decoded_manifest options at phase answer)) answers → ExactFrom ns (in_phase phase) ((answer, at) ∷ answers)
   quiet ns phase answer at answers h d = quiet_call facts.db ns (counts_of (length ns)) _ _ (pass_asks facts.db phase) answer h d
 
   moved_exact : (now : ℤ) (ns : List ℕ) (k : Option ℕ) (answers : List Answered) → greatest_number ns ≡ k → ExactFrom (picks options ns) (pass_next facts call options now (moves_to ns k)) answers
@@ -181,14 +181,14 @@ module _ (facts : Facts) (call : Call) (options : PassOptions) where
   bound_exact n ns ((Got boundary, at) ∷ answers) = quiet _ (passing.Bounding n ns) _ at answers refl (bounded_exact at n ns (boundary_got boundary) answers)
   bound_exact n ns ((_, at) ∷ answers) = quiet _ (passing.Bounding n ns) _ at answers refl (refused [] _ answers)
 
-  decoded_exact : (at now : ℤ) (n : ℕ) (dates : List Dated) (r : Result FirstManifest SlateDBError) (answers : List Answered)
+  decoded_exact : (at now : ℤ) (n : ℕ) (dates : List Dated) (r : Result Manifest SlateDBError) (answers : List Answered)
       → ExactFrom (decoded_picks options now n dates r answers) (pass_next facts call options at (decoded_goes n (candidates_by options now n dates r))) answers
-  decoded_exact at now n dates (Ok m) answers = bound_exact n (candidates options.min_age now n m.checkpoints dates) answers
+  decoded_exact at now n dates (Ok m) answers = bound_exact n (candidates options.min_age now n m.core.checkpoints dates) answers
   decoded_exact at now n dates (Err e) answers = refused [] e answers
 
   get_exact : (now : ℤ) (n : ℕ) (dates : List Dated) (answers : List Answered) → ExactFrom (get_picks options now n dates answers) (in_phase (passing.Getting now n dates)) answers
   get_exact now n dates [] = waits [] (passing.Getting now n dates)
-  get_exact now n dates ((Got (Some object), at) ∷ answers) = quiet _ (passing.Getting now n dates) _ at answers refl (decoded_exact at now n dates (decoded object.bytes) answers)
+  get_exact now n dates ((Got (Some object), at) ∷ answers) = quiet _ (passing.Getting now n dates) _ at answers refl (decoded_exact at now n dates (decoded_manifest object.bytes) answers)
   get_exact now n dates ((_, at) ∷ answers) = quiet _ (passing.Getting now n dates) _ at answers refl (refused [] _ answers)
 
   listed_exact : (now : ℤ) (found : List ObjectMetadata) (n : Option ℕ) (answers : List Answered)
@@ -225,13 +225,13 @@ Before facts options (Go Passing position) = position ≡ at_pass facts.db optio
 Before facts options (Finish (Refused e)) = Unit {0}
 Before facts options (Finish _) = ⊥
 
-read_quiet : (db : List ℕ) (phase : ReadPhase FirstManifest) → is_delete (read_asks db ManifestLog phase) ≡ false
+read_quiet : (db : List ℕ) (phase : ReadPhase Manifest) → is_delete (read_asks db ManifestLog phase) ≡ false
 read_quiet db reading.Listing = refl
 read_quiet db (reading.Getting n) = refl
 read_quiet db (reading.Bounding n m) = refl
 read_quiet db reading.Over = refl
 
-commit_quiet : (db : List ℕ) (phase : CommitPhase FirstManifest) → is_delete (commit_asks db ManifestLog phase) ≡ false
+commit_quiet : (db : List ℕ) (phase : CommitPhase Manifest) → is_delete (commit_asks db ManifestLog phase) ≡ false
 commit_quiet db (committing.Putting n bytes m) = refl
 commit_quiet db (committing.Bounding n m) = refl
 commit_quiet db committing.Over = refl
@@ -243,18 +243,18 @@ module _ (facts : Facts) (pass : GcMessage) (min_age : ℕ) (dry_run : Bool) (fi
   abbrev options : PassOptions
   options = options_of min_age dry_run filter
 
-  commit_before : (now : ℤ) (m : FirstManifest) (r : Result (Option (CommitPhase FirstManifest)) SlateDBError) → Before facts options (commit_next facts the_call now m r)
+  commit_before : (now : ℤ) (m : Manifest) (r : Result (Option (CommitPhase Manifest)) SlateDBError) → Before facts options (commit_next facts the_call now m r)
   commit_before now m (Ok (Some commit)) = tt
   commit_before now m (Ok None) = refl
   commit_before now m (Err e) = tt
 
-  read_before : (db : List ℕ) (now : ℤ) (g : Goes (ReadPhase FirstManifest) (Option (ℕ × FirstManifest))) → Before facts options (follow facts the_call Reading now (read_on db g))
+  read_before : (db : List ℕ) (now : ℤ) (g : Goes (ReadPhase Manifest) (Option (ℕ × Manifest))) → Before facts options (follow facts the_call Reading now (read_on db g))
   read_before db now (Stay phase) = tt
   read_before db now (End phase (Ok None)) = tt
   read_before db now (End phase (Ok (Some version))) = commit_before now version.1 (commit_of facts the_call now version.0 version.1)
   read_before db now (End phase (Err e)) = tt
 
-  committed_before : (db : List ℕ) (made now : ℤ) (g : Goes (CommitPhase FirstManifest) (ℕ × FirstManifest)) → Before facts options (follow facts the_call (Committing made) now (commit_on db g))
+  committed_before : (db : List ℕ) (made now : ℤ) (g : Goes (CommitPhase Manifest) (ℕ × Manifest)) → Before facts options (follow facts the_call (Committing made) now (commit_on db g))
   committed_before db made now (Stay phase) = tt
   committed_before db made now (End phase (Ok version)) = refl
   committed_before db made now (End phase (Err e)) = tt
@@ -278,9 +278,9 @@ module _ (facts : Facts) (pass : GcMessage) (min_age : ℕ) (dry_run : Bool) (fi
   reads : (db : List ℕ) (phrase : Phrase) (a : Answered) (answers : List Answered) → IsReadOf phrase → ((next : Next) → Before facts options next → IsExactFrom next answers)
       → IsExactFrom (Go Reading (record { db = db; phrase = phrase })) (a ∷ answers)
   reads db (Read phase) a answers h rest =
-      let next = follow facts the_call Reading a.1 (read_on db (read_goes ManifestLog decoded phase a.0)) in
+      let next = follow facts the_call Reading a.1 (read_on db (read_goes ManifestLog decoded_manifest phase a.0)) in
       quiet_call facts.db (picks_from next answers) (counts_of (length (picks_from next answers))) _ _ (read_asks db ManifestLog phase) a.0 (read_quiet db phase)
-      (rest next (read_before db a.1 (read_goes ManifestLog decoded phase a.0)))
+      (rest next (read_before db a.1 (read_goes ManifestLog decoded_manifest phase a.0)))
   reads db (Commit phase) a answers h rest = absurd h
   reads db (Pass by phase) a answers h rest = absurd h
 

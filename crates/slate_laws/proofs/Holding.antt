@@ -1,6 +1,6 @@
 -- What the parties of a run hold.
 use Rattle.std.proofs.Common.{◌≡◌, ℕ, ◌<◌, ◌≤◌, ◌^◌, ℤ, List, [], ◌∷◌, Option, Some, None, Result, Ok, Err, refl, sym, ap, ◌∙◌, subst}
-use Rattle.slate_first.specs.declared.first_manifest.FirstManifest.{FirstManifest}
+use Rattle.slate_model.specs.declared.manifest.Manifest.{Manifest}
 use Rattle.slate_store.specs.Machines.{Goes, Stay, End}
 use Rattle.slate_store.specs.Store.{Store, effect}
 use Rattle.slate_store.specs.declared.mark.Mark.{Mark}
@@ -56,10 +56,10 @@ module _ (specs : List DbSpec) (events : List Event) (n : ℕ) (p : Party) (call
   knows : (purpose : Purpose) (position : Position) → p.state ≡ Busy call purpose position → StateKnows w.store (chains_at_end specs events) n p.facts (Busy call purpose position)
   knows purpose position is = subst (λ s. StateKnows w.store (chains_at_end specs events) n p.facts s) is (i.parties n p at).knows
 
-  made_of : (now : ℤ) (number : ℕ) (bytes : List ℕ) (m : FirstManifest) → IsNext manifests c (author_of n p.facts call (Committing now)) number bytes m → IsMadeOf c call now number m
+  made_of : (now : ℤ) (number : ℕ) (bytes : List ℕ) (m : Manifest) → IsNext manifests c (author_of n p.facts call (Committing now)) number bytes m → IsMadeOf c call now number m
   made_of now number bytes m h = record { old = h.old; at = h.at; number = h.number; made = h.made }
 
-  pub commit_holds : (now : ℤ) (number : ℕ) (bytes : List ℕ) (m : FirstManifest) → p.state ≡ Busy call (Committing now) (at_commit p.facts.db (Putting number bytes m)) → IsMadeOf c call now number m
+  pub commit_holds : (now : ℤ) (number : ℕ) (bytes : List ℕ) (m : Manifest) → p.state ≡ Busy call (Committing now) (at_commit p.facts.db (Putting number bytes m)) → IsMadeOf c call now number m
   commit_holds now number bytes m is = made_of now number bytes m (knows (Committing now) (at_commit p.facts.db (Putting number bytes m)) is).1
 
   pass_knows : (options : PassOptions) (phase : PassPhase) → p.state ≡ Busy call Passing (at_pass p.facts.db options phase) → PassKnows w.store c p.facts.db phase
@@ -88,17 +88,17 @@ module _ (specs : List DbSpec) (events : List Event) (n : ℕ) (p : Party) (call
   bounded_due options phase bound is read = all_bounded bound read phase (pass_knows options phase is)
 
   -- a read's end answers a committed version
-  module _ (phase : ReadPhase FirstManifest) (mark : Mark) (moment : ℤ) (is : p.state ≡ Busy call Reading (at_read p.facts.db phase)) where
+  module _ (phase : ReadPhase Manifest) (mark : Mark) (moment : ℤ) (is : p.state ≡ Busy call Reading (at_read p.facts.db phase)) where
     has : HasDb w p.facts.db
     has = (i.parties n p at).has
 
     after : AfterPhrase w.store (chains_at_end specs events) p.facts.db (author_of n p.facts call Reading) Reading (Read phase) mark moment
     after = phrase_step w.store (chains_at_end specs events) p.facts.db (author_of n p.facts call Reading) (i.named p.facts.db has) i.tidy (i.logs p.facts.db has) mark moment Reading (Read phase) (knows Reading (at_read p.facts.db phase) is).1
 
-    answered : (g : Goes Position Ended) (s : Store) (d : Chain) (to : Position) (number : ℕ) (m : FirstManifest) → d ≡ c → g ≡ End to (Ok (Version number m)) → PhraseBrings s d p.facts.db (author_of n p.facts call Reading) Reading g → IsVersion c number m
+    answered : (g : Goes Position Ended) (s : Store) (d : Chain) (to : Position) (number : ℕ) (m : Manifest) → d ≡ c → g ≡ End to (Ok (Version number m)) → PhraseBrings s d p.facts.db (author_of n p.facts call Reading) Reading g → IsVersion c number m
     answered g s d to number m same e b =
         let v = subst (λ (x : Goes Position Ended). PhraseBrings s d p.facts.db (author_of n p.facts call Reading) Reading x) e b in
         subst (λ (x : Chain). IsVersion x number m) same (record { link = v.link; at = v.at; value = v.value })
 
-    pub read_answers : (to : Position) (number : ℕ) (m : FirstManifest) → goes (at_read p.facts.db phase) moment (effect mark (asks (at_read p.facts.db phase)) moment w.store).answer ≡ End to (Ok (Version number m)) → IsVersion c number m
+    pub read_answers : (to : Position) (number : ℕ) (m : Manifest) → goes (at_read p.facts.db phase) moment (effect mark (asks (at_read p.facts.db phase)) moment w.store).answer ≡ End to (Ok (Version number m)) → IsVersion c number m
     read_answers to number m e = answered _ _ _ to number m (none_put _ p.facts.db (chains_at_end specs events) p.facts.db) e after.brings

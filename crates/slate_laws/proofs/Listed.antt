@@ -115,7 +115,7 @@ module _ (db : List ℕ) (named : is_db_path db ≡ true) where
         (λ (lt : i.bound < n). by_object (object_at (paths.Manifest db n) s) refl h (i.above n lt small))
         (le_or_lt n i.bound)
       where
-        by_link : (o : Option (Link Rattle.slate_first.specs.declared.first_manifest.FirstManifest.FirstManifest Author)) (bytes : List ℕ) → link_at n c ≡ o → Some bytes ≡ link_bytes o → n ≤ top c
+        by_link : (o : Option (Link Rattle.slate_model.specs.declared.manifest.Manifest.Manifest Author)) (bytes : List ℕ) → link_at n c ≡ o → Some bytes ≡ link_bytes o → n ≤ top c
         by_link None bytes e h = absurd cc
         by_link (Some l) bytes e h = at_most manifests n l c i.chain e
 
@@ -155,7 +155,7 @@ module _ (db : List ℕ) (named : is_db_path db ≡ true) where
         by_object None bytes e h = absurd cc
         by_object (Some object) bytes e h = found_listed (top c) object s.objects i.small tidy e
 
-        by_link : (o : Option (Link Rattle.slate_first.specs.declared.first_manifest.FirstManifest.FirstManifest Author)) → link_at (top c) c ≡ o → bytes_of (object_at (paths.Manifest db (top c)) s) ≡ link_bytes (link_at (top c) c) → Has (top c) (numbers db s.objects)
+        by_link : (o : Option (Link Rattle.slate_model.specs.declared.manifest.Manifest.Manifest Author)) → link_at (top c) c ≡ o → bytes_of (object_at (paths.Manifest db (top c)) s) ≡ link_bytes (link_at (top c) c) → Has (top c) (numbers db s.objects)
         by_link None e stands = absurd (some_below manifests (top c) c i.chain i.some (omega arith) e)
         by_link (Some l) e stands = by_object (object_at (paths.Manifest db (top c)) s) l.bytes refl (stands ∙ ap link_bytes e)
 

@@ -6,13 +6,13 @@ use Rattle.std.specs.List.{list_all}
 use Rattle.slate_ids.specs.declared.error.SlateDBError.{SlateDBError}
 use Rattle.slate_ids.specs.declared.error.SlateDBError.TheVariants.{Exhausted}
 use Rattle.slate_ids.specs.declared.error.UpdateRule.TheVariants.{U1, U2}
-use Rattle.slate_first.specs.Codec.{encoded}
-use Rattle.slate_first.specs.Checkpoints.{is_named}
-use Rattle.slate_first.specs.Laws.{round_trip}
-use Rattle.slate_first.specs.Lawful.{falls, names_known}
-use Rattle.slate_first.specs.Normal.{normal, normal_checkpoint}
-use Rattle.slate_first.specs.declared.checkpoint.Checkpoint.{Checkpoint}
-use Rattle.slate_first.specs.declared.first_manifest.FirstManifest.{FirstManifest}
+use Rattle.slate_layout.specs.Codec.{encoded}
+use Rattle.slate_state.specs.Checkpoints.{is_named}
+use Rattle.slate_layout.specs.Codec.{codec_round_trip}
+use Rattle.slate_state.specs.Rules.{falls, names_known}
+use Rattle.slate_layout.specs.Normal.{normal_manifest, normal_checkpoint}
+use Rattle.slate_model.specs.declared.checkpoint.Checkpoint.{Checkpoint}
+use Rattle.slate_model.specs.declared.manifest.Manifest.{Manifest}
 use Rattle.slate_script.specs.declared.call.Call.{Call}
 use Rattle.slate_log.specs.Commit.{prepared, checked_commit, encoded_commit}
 use Rattle.slate_log.specs.declared.commit.CommitPhase.{CommitPhase}
@@ -22,7 +22,7 @@ use Rattle.slate_txn.specs.Apply.{renewed, wanted, some_commit}
 use Rattle.slate_txn.specs.FencedUpdating.{unless}
 use Rattle.slate_protocol.specs.Calls.{new_value, right_of, fence_of, commit_of}
 use Rattle.slate_protocol.specs.Logs.{manifests}
-use Rattle.slate_protocol.specs.Manifests.{refused_by, manifest_refusal}
+use Rattle.slate_state.specs.Rules.{refused_by, manifest_refusal}
 use Rattle.slate_protocol.specs.declared.party.Facts.{Facts}
 use Rattle.slate_laws.proofs.Facts.{IsLog}
 
@@ -32,48 +32,48 @@ all_true true b h = (refl, h)
 all_true false b h = absurd cc
 
 -- the rules look at no moment, so what is read back keeps them
-names_normal : (n : ℕ) (old : FirstManifest) (cs : List Checkpoint)
-    → list_all (λ c. c.manifest_id == n + 1 || is_named c.manifest_id old.checkpoints) (map normal_checkpoint cs) ≡ list_all (λ c. c.manifest_id == n + 1 || is_named c.manifest_id old.checkpoints) cs
+names_normal : (n : ℕ) (old : Manifest) (cs : List Checkpoint)
+    → list_all (λ c. c.manifest_id == n + 1 || is_named c.manifest_id old.core.checkpoints) (map normal_checkpoint cs) ≡ list_all (λ c. c.manifest_id == n + 1 || is_named c.manifest_id old.core.checkpoints) cs
 names_normal n old [] = refl
-names_normal n old (c ∷ cs) = ap (λ (b : Bool). (c.manifest_id == n + 1 || is_named c.manifest_id old.checkpoints) && b) (names_normal n old cs)
+names_normal n old (c ∷ cs) = ap (λ (b : Bool). (c.manifest_id == n + 1 || is_named c.manifest_id old.core.checkpoints) && b) (names_normal n old cs)
 
-refusal_normal : (n : ℕ) (old m : FirstManifest) (right : Right) → manifest_refusal n old (normal m) right ≡ manifest_refusal n old m right
-refusal_normal n old m right = ap (λ (b : Bool). refused_by (if falls old m then Some U1 else (if b then None else Some U2))) (names_normal n old m.checkpoints)
+refusal_normal : (n : ℕ) (old m : Manifest) (right : Right) → manifest_refusal n old (normal_manifest m) right ≡ manifest_refusal n old m right
+refusal_normal n old m right = ap (λ (b : Bool). refused_by (if falls old m then Some U1 else (if b then None else Some U2))) (names_normal n old m.core.checkpoints)
 
 -- a number that checkpoints name is one that all of them may name
-named_known : (n k : ℕ) (old : FirstManifest) (cs : List Checkpoint) → list_all (λ c. c.manifest_id == n + 1 || is_named c.manifest_id old.checkpoints) cs ≡ true → is_named k cs ≡ true → (k ≡ n + 1) ⊎ (is_named k old.checkpoints ≡ true)
+named_known : (n k : ℕ) (old : Manifest) (cs : List Checkpoint) → list_all (λ c. c.manifest_id == n + 1 || is_named c.manifest_id old.core.checkpoints) cs ≡ true → is_named k cs ≡ true → (k ≡ n + 1) ⊎ (is_named k old.core.checkpoints ≡ true)
 named_known n k old [] all h = absurd cc
-named_known n k old (c ∷ cs) all h = by_first (c.manifest_id == k) refl h (all_true (c.manifest_id == n + 1 || is_named c.manifest_id old.checkpoints) _ all)
+named_known n k old (c ∷ cs) all h = by_first (c.manifest_id == k) refl h (all_true (c.manifest_id == n + 1 || is_named c.manifest_id old.core.checkpoints) _ all)
     (λ rest more. named_known n k old cs rest more)
   where
     same : (a b : ℕ) → (a == b) ≡ true → a ≡ b
     same a b e = grind (arith, nat_tests)
 
-    either : (t : Bool) → (c.manifest_id == n + 1) ≡ t → c.manifest_id ≡ k → (t || is_named c.manifest_id old.checkpoints) ≡ true → (k ≡ n + 1) ⊎ (is_named k old.checkpoints ≡ true)
+    either : (t : Bool) → (c.manifest_id == n + 1) ≡ t → c.manifest_id ≡ k → (t || is_named c.manifest_id old.core.checkpoints) ≡ true → (k ≡ n + 1) ⊎ (is_named k old.core.checkpoints ≡ true)
     either true is e own = inl (sym e ∙ same c.manifest_id (n + 1) is)
-    either false is e own = inr (subst (λ j. is_named j old.checkpoints ≡ true) e own)
+    either false is e own = inr (subst (λ j. is_named j old.core.checkpoints ≡ true) e own)
 
     by_first : (t : Bool) → (c.manifest_id == k) ≡ t → (t || is_named k cs) ≡ true
-        → ((c.manifest_id == n + 1 || is_named c.manifest_id old.checkpoints) ≡ true) × (list_all (λ c. c.manifest_id == n + 1 || is_named c.manifest_id old.checkpoints) cs ≡ true)
-        → (list_all (λ c. c.manifest_id == n + 1 || is_named c.manifest_id old.checkpoints) cs ≡ true → is_named k cs ≡ true → (k ≡ n + 1) ⊎ (is_named k old.checkpoints ≡ true))
-        → (k ≡ n + 1) ⊎ (is_named k old.checkpoints ≡ true)
+        → ((c.manifest_id == n + 1 || is_named c.manifest_id old.core.checkpoints) ≡ true) × (list_all (λ c. c.manifest_id == n + 1 || is_named c.manifest_id old.core.checkpoints) cs ≡ true)
+        → (list_all (λ c. c.manifest_id == n + 1 || is_named c.manifest_id old.core.checkpoints) cs ≡ true → is_named k cs ≡ true → (k ≡ n + 1) ⊎ (is_named k old.core.checkpoints ≡ true))
+        → (k ≡ n + 1) ⊎ (is_named k old.core.checkpoints ≡ true)
     by_first true is h both rest = either (c.manifest_id == n + 1) refl (same c.manifest_id k is) both.0
     by_first false is h both rest = rest both.1 h
 
 -- the rules let a version name no number that the one before doesn't name, but its own
-manifest_known : (n : ℕ) (old m : FirstManifest) (right : Right) (k : ℕ) → manifest_refusal n old m right ≡ None → is_named k m.checkpoints ≡ true → (k ≡ n + 1) ⊎ (is_named k old.checkpoints ≡ true)
+manifest_known : (n : ℕ) (old m : Manifest) (right : Right) (k : ℕ) → manifest_refusal n old m right ≡ None → is_named k m.core.checkpoints ≡ true → (k ≡ n + 1) ⊎ (is_named k old.core.checkpoints ≡ true)
 manifest_known n old m right k h named = by_falls (falls old m) h
   where
-    by_names : (b : Bool) → names_known n old m ≡ b → refused_by (if b then None else Some U2) ≡ None → (k ≡ n + 1) ⊎ (is_named k old.checkpoints ≡ true)
-    by_names true is h = named_known n k old m.checkpoints is named
+    by_names : (b : Bool) → names_known n old m ≡ b → refused_by (if b then None else Some U2) ≡ None → (k ≡ n + 1) ⊎ (is_named k old.core.checkpoints ≡ true)
+    by_names true is h = named_known n k old m.core.checkpoints is named
     by_names false is h = absurd cc
 
-    by_falls : (b : Bool) → refused_by (if b then Some U1 else (if names_known n old m then None else Some U2)) ≡ None → (k ≡ n + 1) ⊎ (is_named k old.checkpoints ≡ true)
+    by_falls : (b : Bool) → refused_by (if b then Some U1 else (if names_known n old m then None else Some U2)) ≡ None → (k ≡ n + 1) ⊎ (is_named k old.core.checkpoints ≡ true)
     by_falls true h = absurd cc
     by_falls false h = by_names (names_known n old m) refl h
 
 pub manifests_log : IsLog manifests
-manifests_log = record { round = λ m bytes h. round_trip m bytes h; plain = λ n old m right h. refusal_normal n old m right ∙ h; known = manifest_known }
+manifests_log = record { round = λ m bytes h. codec_round_trip m bytes h; plain = λ n old m right h. refusal_normal n old m right ∙ h; known = manifest_known }
 
 -- what a prepared commit puts
 pub record IsPrepared {V : Type 0} (refusal : ℕ → V → V → Right → Option SlateDBError) (encoded : V → Result (List ℕ) SlateDBError) (n : ℕ) (old new : V) (right : Right) (commit : CommitPhase V) : Type 0 where
@@ -100,21 +100,21 @@ module _ {V : Type 0} (refusal : ℕ → V → V → Right → Option SlateDBErr
   is_prepared h = by_room (n == 2 ^ 64 - 1) refl h
 
 -- what a call commits: what it makes of the version read, where its fence lets it
-pub record IsMade (facts : Facts) (call : Call) (now : ℤ) (n : ℕ) (m : FirstManifest) (commit : CommitPhase FirstManifest) : Type 0 where
-  pub new : FirstManifest
+pub record IsMade (facts : Facts) (call : Call) (now : ℤ) (n : ℕ) (m : Manifest) (commit : CommitPhase Manifest) : Type 0 where
+  pub new : Manifest
   pub makes : new_value call now n m ≡ Ok (Some new)
   pub prepared : IsPrepared manifest_refusal encoded n m new (right_of call) commit
   pub passed : fence_of facts call m ≡ None
 
-module _ (facts : Facts) (call : Call) (now : ℤ) (n : ℕ) (m : FirstManifest) (commit : CommitPhase FirstManifest) where
-  made_of : (new : FirstManifest) → new_value call now n m ≡ Ok (Some new) → fence_of facts call m ≡ None → (r : Result (CommitPhase FirstManifest) SlateDBError) → prepared manifest_refusal encoded n m new (right_of call) ≡ r
+module _ (facts : Facts) (call : Call) (now : ℤ) (n : ℕ) (m : Manifest) (commit : CommitPhase Manifest) where
+  made_of : (new : Manifest) → new_value call now n m ≡ Ok (Some new) → fence_of facts call m ≡ None → (r : Result (CommitPhase Manifest) SlateDBError) → prepared manifest_refusal encoded n m new (right_of call) ≡ r
       → some_commit r ≡ Ok (Some commit) → IsMade facts call now n m commit
   made_of new makes passed (Ok c) is h =
       let same : c ≡ commit = cc in
-      record { new = new; makes = makes; prepared = is_prepared manifest_refusal encoded n m new (right_of call) commit (is ∙ ap (λ (x : CommitPhase FirstManifest). Ok x) same); passed = passed }
+      record { new = new; makes = makes; prepared = is_prepared manifest_refusal encoded n m new (right_of call) commit (is ∙ ap (λ (x : CommitPhase Manifest). Ok x) same); passed = passed }
   made_of new makes passed (Err e) is h = absurd cc
 
-  by_value : (r : Result (Option FirstManifest) SlateDBError) → new_value call now n m ≡ r → fence_of facts call m ≡ None → wanted (λ (new : FirstManifest). prepared manifest_refusal encoded n m new (right_of call)) r ≡ Ok (Some commit)
+  by_value : (r : Result (Option Manifest) SlateDBError) → new_value call now n m ≡ r → fence_of facts call m ≡ None → wanted (λ (new : Manifest). prepared manifest_refusal encoded n m new (right_of call)) r ≡ Ok (Some commit)
       → IsMade facts call now n m commit
   by_value (Ok (Some new)) is passed h = made_of new is passed (prepared manifest_refusal encoded n m new (right_of call)) refl h
   by_value (Ok None) is passed h = absurd cc
@@ -128,7 +128,7 @@ module _ (facts : Facts) (call : Call) (now : ℤ) (n : ℕ) (m : FirstManifest)
   call_made h = by_fence (fence_of facts call m) refl h
 
 -- the rules let no writer epoch fall
-pub epoch_rises : (old new : FirstManifest) (n : ℕ) (right : Right) → manifest_refusal n old new right ≡ None → old.writer_epoch ≤ new.writer_epoch
+pub epoch_rises : (old new : Manifest) (n : ℕ) (right : Right) → manifest_refusal n old new right ≡ None → old.writer_epoch ≤ new.writer_epoch
 epoch_rises old new n right h = by_rule (falls old new) refl h
   where
     no_fall : (x y : ℕ) (a b : Bool) → (nat_lt x y || a || b) ≡ false → y ≤ x
@@ -136,4 +136,4 @@ epoch_rises old new n right h = by_rule (falls old new) refl h
 
     by_rule : (b : Bool) → falls old new ≡ b → refused_by (if b then Some U1 else (if names_known n old new then None else Some U2)) ≡ None → old.writer_epoch ≤ new.writer_epoch
     by_rule true is h = absurd cc
-    by_rule false is h = no_fall new.writer_epoch old.writer_epoch (nat_lt new.compactor_epoch old.compactor_epoch) (nat_lt new.floor old.floor) is
+    by_rule false is h = no_fall new.writer_epoch old.writer_epoch (nat_lt new.compactor_epoch old.compactor_epoch) (nat_lt new.core.floor old.core.floor) is

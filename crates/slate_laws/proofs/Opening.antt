@@ -10,13 +10,14 @@ use Rattle.slate_ids.specs.declared.object_path.ObjectPath.{ObjectPath}
 use Rattle.slate_log.specs.Boundary.{boundary_got}
 use Rattle.slate_log.specs.LogPaths.{version_path, boundary_path}
 use Rattle.slate_log.specs.declared.log_kind.LogKind.TheVariants.{Manifest as ManifestLog}
-use Rattle.slate_first.specs.Checkpoints.{is_named}
-use Rattle.slate_first.specs.Codec.{encoded, decoded}
-use Rattle.slate_first.specs.Laws.{round_trip}
-use Rattle.slate_first.specs.Normals.{is_normal_only}
-use Rattle.slate_first.specs.Normal.{is_normal}
-use Rattle.slate_first.specs.declared.checkpoint.Checkpoint.{Checkpoint}
-use Rattle.slate_first.specs.declared.first_manifest.FirstManifest.{FirstManifest}
+use Rattle.slate_state.specs.Checkpoints.{is_named}
+use Rattle.slate_layout.specs.Codec.{encoded}
+use Rattle.slate_layout.specs.Decoding.{decoded_manifest}
+use Rattle.slate_layout.specs.Codec.{codec_round_trip}
+use Rattle.slate_layout.specs.NormalLaws.{normal_only}
+use Rattle.slate_layout.specs.Normal.{is_normal}
+use Rattle.slate_model.specs.declared.checkpoint.Checkpoint.{Checkpoint}
+use Rattle.slate_model.specs.declared.manifest.Manifest.{Manifest}
 use Rattle.slate_script.specs.declared.cluster_cause.ClusterCause.TheVariants as cause
 use Rattle.slate_script.specs.declared.db_spec.DbSpec.{DbSpec}
 use Rattle.slate_store.specs.Store.{Store, object_at}
@@ -92,13 +93,13 @@ names_first k (c ∷ cs) h named = test (c.manifest_id == k) refl named (neither
     test false e h both rest = rest both.1 h
 
 -- the bytes of a first manifest are read back
-first_read : (m : FirstManifest) (bytes : List ℕ) → first_bytes m ≡ Some bytes → decoded bytes ≡ Ok m
+first_read : (m : Manifest) (bytes : List ℕ) → first_bytes m ≡ Some bytes → decoded_manifest bytes ≡ Ok m
 first_read m bytes h = by_bytes (encoded m) refl (is_normal m) refl h
   where
-    by_bytes : (r : Result (List ℕ) SlateDBError) → encoded m ≡ r → (b : Bool) → is_normal m ≡ b → bytes_where b r ≡ Some bytes → decoded bytes ≡ Ok m
+    by_bytes : (r : Result (List ℕ) SlateDBError) → encoded m ≡ r → (b : Bool) → is_normal m ≡ b → bytes_where b r ≡ Some bytes → decoded_manifest bytes ≡ Ok m
     by_bytes (Ok l) is true normal_m h =
         let same : l ≡ bytes = cc in
-        round_trip m bytes (is ∙ ap (λ (x : List ℕ). Ok x) same) ∙ ap (λ (x : FirstManifest). Ok x) (is_normal_only m normal_m)
+        codec_round_trip m bytes (is ∙ ap (λ (x : List ℕ). Ok x) same) ∙ ap (λ (x : Manifest). Ok x) (normal_only m normal_m)
     by_bytes (Ok l) is false normal_m h = absurd cc
     by_bytes (Err e) is b normal_m h = absurd cc
 
@@ -201,11 +202,11 @@ module _ (specs : List DbSpec) (accepted : IsAccepted specs) where
 
     needed : (k : ℕ) → IsNeeded manifests chain k → IsCommitted manifests d w.store chain k
     needed k (Greatest e) = first_committed k e
-    needed k (Named named) = first_committed k (names_first k it.spec.manifest.checkpoints (own_names d it.spec specs parts.own it.at) named)
+    needed k (Named named) = first_committed k (names_first k it.spec.manifest.core.checkpoints (own_names d it.spec specs parts.own it.at) named)
 
     sound : IsSound manifests d w.store chain
     sound = record {
-      chain = record { number = refl; value = ap (λ (o : Option (List ℕ)). decoded (listed_or_none o)) it.found.is ∙ first_read it.spec.manifest it.found.bytes it.found.is };
+      chain = record { number = refl; value = ap (λ (o : Option (List ℕ)). decoded_manifest (listed_or_none o)) it.found.is ∙ first_read it.spec.manifest it.found.bytes it.found.is };
       some = omega arith;
       small = omega arith;
       bound = 0;

@@ -5,10 +5,10 @@ use Rattle.std.specs.Prelude.{if◌then◌else◌, ◌&&◌, ◌||◌, not}
 use Rattle.slate_ids.specs.Ids.{is_db_path}
 use Rattle.slate_ids.specs.declared.error.SlateDBError.{SlateDBError}
 use Rattle.slate_ids.specs.declared.error.SlateDBError.TheVariants.{ManifestMissing}
-use Rattle.slate_first.specs.Checkpoints.{is_named}
-use Rattle.slate_first.specs.Codec.{decoded}
-use Rattle.slate_first.specs.declared.checkpoint.Checkpoint.{Checkpoint}
-use Rattle.slate_first.specs.declared.first_manifest.FirstManifest.{FirstManifest}
+use Rattle.slate_state.specs.Checkpoints.{is_named}
+use Rattle.slate_layout.specs.Decoding.{decoded_manifest}
+use Rattle.slate_model.specs.declared.checkpoint.Checkpoint.{Checkpoint}
+use Rattle.slate_model.specs.declared.manifest.Manifest.{Manifest}
 use Rattle.slate_store.specs.Machines.{Goes, Stay, End}
 use Rattle.slate_store.specs.Store.{Store, Outcome, object_at, removed, listed, effect}
 use Rattle.slate_store.specs.declared.mark.Mark.{Mark}
@@ -124,9 +124,9 @@ picks_have P options ns h = test (options.allows && not options.dry_run)
 
 -- the greatest listed version was read, and the candidates are below it
 pub record IsRead (s : Store) (c : Chain) (db : List ℕ) (n : ℕ) (ns : List ℕ) : Type 0 where
-  pub value : FirstManifest
+  pub value : Manifest
   pub holds : Holds manifests db s c n value
-  pub below : Each (λ k. (k < n) × (is_named k value.checkpoints ≡ false)) ns
+  pub below : Each (λ k. (k < n) × (is_named k value.core.checkpoints ≡ false)) ns
 
 -- what a pass knows in each phase: what is left to be deleted is spare, and at or below the boundary
 abbrev pub PassKnows : Store → Chain → List ℕ → PassPhase → Type 0
@@ -158,27 +158,27 @@ module _ (db : List ℕ) (named : is_db_path db ≡ true) (author : Author) (opt
   -- what a step of a pass leaves and brings
   pub record AfterPass (phase : PassPhase) (moment : ℤ) (o : Outcome) : Type 0 where
     pub leaves : Leaves manifests db author s c o.store c
-    pub brings : PassBrings o.store c db (pass_goes decoded options moment phase o.answer)
+    pub brings : PassBrings o.store c db (pass_goes decoded_manifest options moment phase o.answer)
 
-  quiet : (phase : PassPhase) (moment : ℤ) (answer : StoreAnswer) → PassBrings s c db (pass_goes decoded options moment phase answer) → AfterPass phase moment (record { store = s; answer = answer })
+  quiet : (phase : PassPhase) (moment : ℤ) (answer : StoreAnswer) → PassBrings s c db (pass_goes decoded_manifest options moment phase answer) → AfterPass phase moment (record { store = s; answer = answer })
   quiet phase moment answer b = record { leaves = leaves_not manifests db author s c i; brings = b }
 
   listed_brings : (now : ℤ) (found : List ObjectMetadata) (n : Option ℕ) → IfSome n (λ k. k < 2 ^ 64) → PassBrings s c db (listed_goes now found n)
   listed_brings now found None h = tt
   listed_brings now found (Some n) h = h
 
-  decoded_brings : (now : ℤ) (n : ℕ) (dates : List Dated) (object : StoredObject) (r : Result FirstManifest SlateDBError) → n < 2 ^ 64 → object_at (version_path ManifestLog db n) s ≡ Some object → decoded object.bytes ≡ r
+  decoded_brings : (now : ℤ) (n : ℕ) (dates : List Dated) (object : StoredObject) (r : Result Manifest SlateDBError) → n < 2 ^ 64 → object_at (version_path ManifestLog db n) s ≡ Some object → decoded_manifest object.bytes ≡ r
       → PassBrings s c db (decoded_goes n (candidates_by options now n dates r))
   decoded_brings now n dates object (Ok m) small at is = record {
     value = m;
     holds = got_holds manifests manifests_log db s c i n object m small at is;
-    below = candidates_below options.min_age now n m.checkpoints dates;
+    below = candidates_below options.min_age now n m.core.checkpoints dates;
   }
   decoded_brings now n dates object (Err e) small at is = tt
 
-  got_brings : (now : ℤ) (n : ℕ) (dates : List Dated) (o : Option StoredObject) → n < 2 ^ 64 → object_at (version_path ManifestLog db n) s ≡ o → PassBrings s c db (got_goes decoded options now n dates o)
+  got_brings : (now : ℤ) (n : ℕ) (dates : List Dated) (o : Option StoredObject) → n < 2 ^ 64 → object_at (version_path ManifestLog db n) s ≡ o → PassBrings s c db (got_goes decoded_manifest options now n dates o)
   got_brings now n dates None small at = tt
-  got_brings now n dates (Some object) small at = decoded_brings now n dates object (decoded object.bytes) small at refl
+  got_brings now n dates (Some object) small at = decoded_brings now n dates object (decoded_manifest object.bytes) small at refl
 
   -- the greatest candidate is below the greatest committed number
   next_brings : (n : ℕ) (ns : List ℕ) (k : Option ℕ) → greatest_number ns ≡ k → n ≤ top c → Each (λ j. j < n) ns → Each (IsSpare manifests c) ns → PassBrings s c db (moves_to ns k)
@@ -186,16 +186,16 @@ module _ (db : List ℕ) (named : is_db_path db ≡ true) (author : Author) (opt
   next_brings n ns (Some k) e le below spare = let lt = greatest_is n k ns below e in (omega arith, each_both (λ j. j ≤ k) (IsSpare manifests c) ns (greatest_most k ns e) spare)
 
   -- what the version that was read doesn't name is spare, where it is committed
-  all_spare : (n : ℕ) (m : FirstManifest) (ns : List ℕ) → IsValue c n m → Each (λ k. (k < n) × (is_named k m.checkpoints ≡ false)) ns → Each (IsSpare manifests c) ns
-  all_spare n m ns v h = each_map (λ k. (k < n) × (is_named k m.checkpoints ≡ false)) (IsSpare manifests c)
-      (λ k w. spare_below manifests manifests_log c n k v.link i.chain v.at w.0 (ap (λ (x : FirstManifest). is_named k x.checkpoints) v.value ∙ w.1)) ns h
+  all_spare : (n : ℕ) (m : Manifest) (ns : List ℕ) → IsValue c n m → Each (λ k. (k < n) × (is_named k m.core.checkpoints ≡ false)) ns → Each (IsSpare manifests c) ns
+  all_spare n m ns v h = each_map (λ k. (k < n) × (is_named k m.core.checkpoints ≡ false)) (IsSpare manifests c)
+      (λ k w. spare_below manifests manifests_log c n k v.link i.chain v.at w.0 (ap (λ (x : Manifest). is_named k x.core.checkpoints) v.value ∙ w.1)) ns h
 
   test_brings : (n : ℕ) (ns : List ℕ) (b : ℕ) (t : Bool) → nat_le n b ≡ t → bound_in manifests db s ≡ Some b → IsRead s c db n ns
       → PassBrings s c db (if t then End Over (Err (ManifestMissing n)) else bounded_next ns)
   test_brings n ns b true is read h = tt
   test_brings n ns b false is read h =
       let value = h.holds.same b read (above_test n b is) in
-      next_brings n ns (greatest_number ns) refl (at_most manifests n value.link c i.chain value.at) (each_map (λ k. (k < n) × (is_named k h.value.checkpoints ≡ false)) (λ k. k < n) (λ k w. w.0) ns h.below) (all_spare n h.value ns value h.below)
+      next_brings n ns (greatest_number ns) refl (at_most manifests n value.link c i.chain value.at) (each_map (λ k. (k < n) × (is_named k h.value.core.checkpoints ≡ false)) (λ k. k < n) (λ k w. w.0) ns h.below) (all_spare n h.value ns value h.below)
 
   bound_brings : (n : ℕ) (ns : List ℕ) (b : Option ℕ) → bound_in manifests db s ≡ b → IsRead s c db n ns → PassBrings s c db (bounded_goes n ns b)
   bound_brings n ns None read h = tt

@@ -2,9 +2,9 @@
 use Rattle.std.proofs.Common.{◌≡◌, ◌≢◌, ℕ, ℤ, Bool, true, false, List, Option, Some, None, Ok, Err, refl, sym, ap, ◌∙◌, subst}
 use Rattle.std.specs.Prelude.{if◌then◌else◌, bytes_eq}
 use Rattle.slate_ids.specs.Ids.{is_db_path}
-use Rattle.slate_first.specs.Codec.{decoded}
-use Rattle.slate_first.specs.Normal.{normal}
-use Rattle.slate_first.specs.declared.first_manifest.FirstManifest.{FirstManifest}
+use Rattle.slate_layout.specs.Decoding.{decoded_manifest}
+use Rattle.slate_layout.specs.Normal.{normal_manifest}
+use Rattle.slate_model.specs.declared.manifest.Manifest.{Manifest}
 use Rattle.slate_store.specs.Machines.{Goes, Stay, End}
 use Rattle.slate_store.specs.Store.{Store, effect}
 use Rattle.slate_store.specs.declared.mark.Mark.{Mark}
@@ -46,7 +46,7 @@ PhraseKnows s c db author _ _ = ⊥
 abbrev pub EndBrings : Chain → Ended → Type 0
 EndBrings c NoVersion = Unit {0}
 EndBrings c (Version n m) = IsValue c n m
-EndBrings c (Committed n m) = IsValue c n (normal m)
+EndBrings c (Committed n m) = IsValue c n (normal_manifest m)
 EndBrings c (Passed counts) = Unit {0}
 
 -- what a phrase's answer brings
@@ -55,13 +55,13 @@ PhraseBrings s c db author purpose (Stay position) = (position.db ≡ db) × Phr
 PhraseBrings s c db author purpose (End position (Ok ended)) = EndBrings c ended
 PhraseBrings s c db author purpose (End position (Err e)) = Unit {0}
 
-read_around : (s : Store) (c : Chain) (db : List ℕ) (author : Author) (g : Goes (ReadPhase FirstManifest) (Option (ℕ × FirstManifest))) → ReadBrings manifests db s c g → PhraseBrings s c db author Reading (read_on db g)
+read_around : (s : Store) (c : Chain) (db : List ℕ) (author : Author) (g : Goes (ReadPhase Manifest) (Option (ℕ × Manifest))) → ReadBrings manifests db s c g → PhraseBrings s c db author Reading (read_on db g)
 read_around s c db author (Stay phase) h = (refl, h)
 read_around s c db author (End phase (Ok (Some version))) h = h
 read_around s c db author (End phase (Ok None)) h = tt
 read_around s c db author (End phase (Err e)) h = tt
 
-commit_around : (s : Store) (c : Chain) (db : List ℕ) (author : Author) (now : ℤ) (g : Goes (CommitPhase FirstManifest) (ℕ × FirstManifest)) → CommitBrings manifests db s c author g → PhraseBrings s c db author (Committing now) (commit_on db g)
+commit_around : (s : Store) (c : Chain) (db : List ℕ) (author : Author) (now : ℤ) (g : Goes (CommitPhase Manifest) (ℕ × Manifest)) → CommitBrings manifests db s c author g → PhraseBrings s c db author (Committing now) (commit_on db g)
 commit_around s c db author now (Stay phase) h = (refl, h)
 commit_around s c db author now (End phase (Ok version)) h = h
 commit_around s c db author now (End phase (Err e)) h = tt
@@ -81,11 +81,11 @@ none_put true db chains d = test (bytes_eq d db)
     test true = refl
     test false = refl
 
-pub own_put : (b : Bool) (db : List ℕ) (l : Link FirstManifest Author) (chains : Chains) → chains_put b db (Some l) chains db ≡ chain_if b l (chains db)
+pub own_put : (b : Bool) (db : List ℕ) (l : Link Manifest Author) (chains : Chains) → chains_put b db (Some l) chains db ≡ chain_if b l (chains db)
 own_put false db l chains = refl
 own_put true db l chains = ap (λ (b : Bool). if b then with_link l (chains db) else chains db) (bytes_same db)
 
-pub other_put : (b : Bool) (db : List ℕ) (l : Option (Link FirstManifest Author)) (chains : Chains) (d : List ℕ) → d ≢ db → chains_put b db l chains d ≡ chains d
+pub other_put : (b : Bool) (db : List ℕ) (l : Option (Link Manifest Author)) (chains : Chains) (d : List ℕ) → d ≢ db → chains_put b db l chains d ≡ chains d
 other_put false db l chains d ne = refl
 other_put true db l chains d ne = ap (λ (b : Bool). if b then with_put l (chains d) else chains d) (no_bytes d db ne)
 
@@ -100,7 +100,7 @@ module _ (s : Store) (chains : Chains) (db : List ℕ) (author : Author) (named 
       → PhraseBrings (effect mark (phrase_asks db phrase) moment s).store (chains db) db author purpose (phrase_goes db phrase moment (effect mark (phrase_asks db phrase) moment s).answer) → AfterPhrase s chains db author purpose phrase mark moment
   quiet purpose phrase none leaves brings =
       let o = effect mark (phrase_asks db phrase) moment s in
-      let chain : chains_put (wrote s o.store) db (put_by author phrase) chains db ≡ chains db = ap (λ (l : Option (Link FirstManifest Author)). chains_put (wrote s o.store) db l chains db) none ∙ none_put (wrote s o.store) db chains db in
+      let chain : chains_put (wrote s o.store) db (put_by author phrase) chains db ≡ chains db = ap (λ (l : Option (Link Manifest Author)). chains_put (wrote s o.store) db l chains db) none ∙ none_put (wrote s o.store) db chains db in
       record {
         leaves = subst (λ (c : Chain). Leaves manifests db author s (chains db) o.store c) (sym chain) leaves;
         brings = subst (λ (c : Chain). PhraseBrings o.store c db author purpose (phrase_goes db phrase moment o.answer)) (sym chain) brings;
@@ -123,7 +123,7 @@ module _ (s : Store) (chains : Chains) (db : List ℕ) (author : Author) (named 
       still (Committing now) (Commit (Bounding n m)) refl r.same (commit_around s (chains db) db author now (commit_goes (Bounding n m) (effect mark (commit_asks db ManifestLog (Bounding n m)) moment s).answer) r.brings)
   phrase_step (Committing now) (Commit (Putting n bytes m)) h =
       let o = effect mark (commit_asks db ManifestLog (Putting n bytes m)) moment s in
-      let l : Link FirstManifest Author = record { number = n; bytes = bytes; value = normal m; by = Some author } in
+      let l : Link Manifest Author = record { number = n; bytes = bytes; value = normal_manifest m; by = Some author } in
       let r = put_step manifests manifests_log db s (chains db) i author named n bytes m moment h mark in
       let chain = own_put (wrote s o.store) db l chains in
       record {
@@ -134,7 +134,7 @@ module _ (s : Store) (chains : Chains) (db : List ℕ) (author : Author) (named 
   phrase_step (Committing now) (Commit Over) h = absurd h
   phrase_step Passing (Pass options phase) h =
       let r = pass_step db named author options s (chains db) i tidy phase mark moment h in
-      quiet Passing (Pass options phase) refl r.leaves (pass_around (effect mark (pass_asks db phase) moment s).store (chains db) db author options (pass_goes decoded options moment phase (effect mark (pass_asks db phase) moment s).answer) r.brings)
+      quiet Passing (Pass options phase) refl r.leaves (pass_around (effect mark (pass_asks db phase) moment s).store (chains db) db author options (pass_goes decoded_manifest options moment phase (effect mark (pass_asks db phase) moment s).answer) r.brings)
   phrase_step Reading (Commit phase) h = absurd h
   phrase_step Reading (Pass options phase) h = absurd h
   phrase_step (Committing now) (Read phase) h = absurd h

@@ -3,8 +3,8 @@ use Rattle.std.proofs.Common.{◌≡◌, ◌≢◌, ℕ, ℤ, ◌+◌, ◌<◌, 
 use Rattle.std.specs.Prelude.{bytes_eq, decimal}
 use Rattle.slate_ids.specs.Ids.{is_db_path}
 use Rattle.slate_ids.specs.declared.object_path.ObjectPath.{ObjectPath}
-use Rattle.slate_first.specs.Normal.{normal}
-use Rattle.slate_first.specs.declared.first_manifest.FirstManifest.{FirstManifest}
+use Rattle.slate_layout.specs.Normal.{normal_manifest}
+use Rattle.slate_model.specs.declared.manifest.Manifest.{Manifest}
 use Rattle.slate_store.specs.Store.{Store, object_at, stored, removed, has_tag, put_new, replace, under, taken, effect}
 use Rattle.slate_store.specs.declared.mark.Mark.{Mark}
 use Rattle.slate_store.specs.declared.mark.Mark.TheVariants.{Good, Fail, Lost}
@@ -153,11 +153,11 @@ old_top n a b e f = grind arith
 
 module _ (s : Store) (chains : Chains) (db : List ℕ) (author : Author) (tallies : Tallies) (told : (d : List ℕ) → Told tallies chains d) (i : IsSound manifests db s (chains db)) where
   -- a put that wrote: the greater of the tally and its number is the top again
-  module _ (n : ℕ) (bytes : List ℕ) (m : FirstManifest) (h : IsNext manifests (chains db) author n bytes m) where
-    abbrev put : Link FirstManifest Author
-    put = record { number = n; bytes = bytes; value = normal m; by = Some author }
+  module _ (n : ℕ) (bytes : List ℕ) (m : Manifest) (h : IsNext manifests (chains db) author n bytes m) where
+    abbrev put : Link Manifest Author
+    put = record { number = n; bytes = bytes; value = normal_manifest m; by = Some author }
 
-    put_top : (b : ℕ) (o : Option (Link FirstManifest Author)) → link_at n (chains db) ≡ o → b ≡ top (chains db) → max b n ≡ top (if_new o put (chains db))
+    put_top : (b : ℕ) (o : Option (Link Manifest Author)) → link_at n (chains db) ≡ o → b ≡ top (chains db) → max b n ≡ top (if_new o put (chains db))
     put_top b None e same =
         let at = next_is_top manifests h.old.number h.old (chains db) i.chain h.at (subst (λ k. link_at k (chains db) ≡ None) h.number e) in
         new_top n (top (chains db)) b (h.number ∙ ap (λ k. k + 1) at) same

@@ -1,8 +1,8 @@
 -- The trail alone tells the store and what is committed.
 use Rattle.std.proofs.Common.{◌≡◌, ℕ, ℤ, ◌+◌, ◌==◌, Bool, true, false, List, [], ◌∷◌, map, Option, Some, None, is_some, refl, sym, ap, ◌∙◌, subst}
 use Rattle.std.specs.Prelude.{if◌then◌else◌, bytes_eq}
-use Rattle.slate_first.specs.Normal.{normal}
-use Rattle.slate_first.specs.declared.first_manifest.FirstManifest.{FirstManifest}
+use Rattle.slate_layout.specs.Normal.{normal_manifest}
+use Rattle.slate_model.specs.declared.manifest.Manifest.{Manifest}
 use Rattle.slate_store.specs.Store.{Store, effect}
 use Rattle.slate_store.specs.declared.mark.Mark.{Mark}
 use Rattle.slate_script.specs.declared.call.Call.{Call}
@@ -47,15 +47,15 @@ number_there n (l ∷ c) = test (l.number == n) (number_there n c)
     test true h = refl
     test false h = h
 
-first_link : (l : Link FirstManifest Author) (c : Chain) → first_put l.number l.bytes (map numbered c) ≡ map numbered (with_link l c)
+first_link : (l : Link Manifest Author) (c : Chain) → first_put l.number l.bytes (map numbered c) ≡ map numbered (with_link l c)
 first_link l c = ap (λ (b : Bool). if b then map numbered c else (l.number, l.bytes) ∷ map numbered c) (number_there l.number c) ∙ by_link (link_at l.number c)
   where
-    by_link : (o : Option (Link FirstManifest Author)) → (if is_some o then map numbered c else (l.number, l.bytes) ∷ map numbered c) ≡ map numbered (if_new o l c)
+    by_link : (o : Option (Link Manifest Author)) → (if is_some o then map numbered c else (l.number, l.bytes) ∷ map numbered c) ≡ map numbered (if_new o l c)
     by_link None = refl
     by_link (Some old) = refl
 
 -- a put of a manifest
-put_told : (firsts : Firsts) (chains : Chains) (db : List ℕ) (l : Link FirstManifest Author) → Tells firsts chains → (d : List ℕ) (b : Bool)
+put_told : (firsts : Firsts) (chains : Chains) (db : List ℕ) (l : Link Manifest Author) → Tells firsts chains → (d : List ℕ) (b : Bool)
     → (if b then first_put l.number l.bytes (firsts d) else firsts d) ≡ map numbered (if b then with_put (Some l) (chains d) else chains d)
 put_told firsts chains db l h d true = ap (first_put l.number l.bytes) (h d) ∙ first_link l (chains d)
 put_told firsts chains db l h d false = h d
@@ -83,7 +83,7 @@ phrase_told firsts chains db author h (Read reading.Listing) true = silent first
 phrase_told firsts chains db author h (Read (reading.Getting n)) true = silent firsts chains db h true
 phrase_told firsts chains db author h (Read (reading.Bounding n m)) true = silent firsts chains db h true
 phrase_told firsts chains db author h (Read reading.Over) true = silent firsts chains db h true
-phrase_told firsts chains db author h (Commit (committing.Putting n bytes m)) true = λ d. put_told firsts chains db (record { number = n; bytes = bytes; value = normal m; by = Some author }) h d (bytes_eq d db)
+phrase_told firsts chains db author h (Commit (committing.Putting n bytes m)) true = λ d. put_told firsts chains db (record { number = n; bytes = bytes; value = normal_manifest m; by = Some author }) h d (bytes_eq d db)
 phrase_told firsts chains db author h (Commit (committing.Bounding n m)) true = silent firsts chains db h true
 phrase_told firsts chains db author h (Commit committing.Over) true = silent firsts chains db h true
 phrase_told firsts chains db author h (Pass options phase) true = pass_told firsts chains db h phase

@@ -3,7 +3,7 @@ use Rattle.std.proofs.Common.{◌≡◌, ℕ, ℤ, Bool, true, false, List, [], 
 use Rattle.std.specs.Prelude.{if◌then◌else◌}
 use Rattle.std.specs.Ordering.{nat_cmp}
 use Rattle.slate_ids.specs.Ids.{is_db_path}
-use Rattle.slate_first.specs.Codec.{decoded}
+use Rattle.slate_layout.specs.Decoding.{decoded_manifest}
 use Rattle.slate_store.specs.Machines.{Stay, End}
 use Rattle.slate_store.specs.Store.{Store, effect}
 use Rattle.slate_store.specs.declared.mark.Mark.TheVariants.{Good}
@@ -78,11 +78,11 @@ module _ (db : List ℕ) (named : is_db_path db ≡ true) (options : PassOptions
     leaves_then (End phase (Err error)) b picked deleted failed e = absurd cc
 
   pass_stepped : (w : World) (p : Party) → party_of n w.parties ≡ Some p → (call : Call) (phase : PassPhase) (moment : ℤ)
-      → AloneBrings db options now s0 (effect Good (pass_asks db phase) moment w.store).store (pass_goes decoded options moment phase (effect Good (pass_asks db phase) moment w.store).answer)
+      → AloneBrings db options now s0 (effect Good (pass_asks db phase) moment w.store).store (pass_goes decoded_manifest options moment phase (effect Good (pass_asks db phase) moment w.store).answer)
       → AfterAlone (stepped w n p.facts call Passing (at_pass db options phase) moment Good)
   pass_stepped w p at call phase moment b =
       let s = (effect Good (pass_asks db phase) moment w.store).store in
-      let g = pass_goes decoded options moment phase (effect Good (pass_asks db phase) moment w.store).answer in
+      let g = pass_goes decoded_manifest options moment phase (effect Good (pass_asks db phase) moment w.store).answer in
       let q = settled p.facts call (follow p.facts call Passing moment (pass_on db options g)) in
       record {
         party = q;
@@ -145,7 +145,7 @@ module _ (db : List ℕ) (named : is_db_path db ≡ true) (options : PassOptions
       let d = step_state w n p.facts p.state now Good in
       let happened : happens w (Step n now Good) ≡ Some d = ap (step_at w n now Good) at in
       let b = subst (λ (s : Store).
-      AloneBrings db options now s0 s (pass_goes decoded options now Listing (effect Good (pass_asks db Listing) now s).answer)) (sym begins) (list_brings db options now s0) in
+      AloneBrings db options now s0 s (pass_goes decoded_manifest options now Listing (effect Good (pass_asks db Listing) now s).answer)) (sym begins) (list_brings db options now s0) in
       let after = subst (λ (st : State). AfterAlone (step_state w n p.facts st now Good)) (sym is) (pass_stepped w p at call Listing now b) in
       walk moments d.world (chains_after w (Step n now Good) chains) (event_inv w chains (Step n now Good) d happened i) (event_ordered w (Step n now Good) d happened ordered)
       after.party after.at after.stands

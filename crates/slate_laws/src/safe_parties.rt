@@ -1,6 +1,6 @@
 //! Safety: what stands behind the promise that nothing reachable is deleted.
 ghost use Rattle.std.specs.Prelude.{◌≡◌, ℕ, ◌<◌, ◌≤◌, ◌^◌, ℤ, List, Some, Ok};
-ghost use Rattle.slate_first.specs.declared.first_manifest.FirstManifest.{FirstManifest};
+ghost use Rattle.slate_model.specs.declared.manifest.Manifest.{Manifest};
 ghost use Rattle.slate_store.specs.Machines.{End};
 ghost use Rattle.slate_store.specs.Store.{effect};
 ghost use Rattle.slate_store.specs.declared.mark.Mark.{Mark};
@@ -35,7 +35,7 @@ pub fn above_boundary()
 
 /// A party that is about to commit a version holds what its call makes of the committed version before.
 pub fn commits_hold()
-    ensures { (specs : List DbSpec) (events : List Event) (n : ℕ) (p : Party) (call : Call) (now : ℤ) (number : ℕ) (bytes : List ℕ) (m : FirstManifest)
+    ensures { (specs : List DbSpec) (events : List Event) (n : ℕ) (p : Party) (call : Call) (now : ℤ) (number : ℕ) (bytes : List ℕ) (m : Manifest)
         → IsAccepted specs → party_of n (world_after events (opening_world specs)).parties ≡ Some p
         → p.state ≡ Busy call (Committing now) (at_commit p.facts.db (Putting number bytes m))
         → IsMadeOf (chains_at_end specs events p.facts.db) call now number m }
@@ -43,7 +43,7 @@ pub fn commits_hold()
 
 /// A version that the end of a read answers is a committed one, whatever its party's step was marked.
 pub fn reads_answer()
-    ensures { (specs : List DbSpec) (events : List Event) (n : ℕ) (p : Party) (call : Call) (phase : ReadPhase FirstManifest) (mark : Mark) (moment : ℤ) (to : Position) (number : ℕ) (m : FirstManifest)
+    ensures { (specs : List DbSpec) (events : List Event) (n : ℕ) (p : Party) (call : Call) (phase : ReadPhase Manifest) (mark : Mark) (moment : ℤ) (to : Position) (number : ℕ) (m : Manifest)
         → IsAccepted specs → party_of n (world_after events (opening_world specs)).parties ≡ Some p
         → p.state ≡ Busy call Reading (at_read p.facts.db phase)
         → goes (at_read p.facts.db phase) moment (effect mark (asks (at_read p.facts.db phase)) moment (world_after events (opening_world specs)).store).answer ≡ End to (Ok (Version number m))

@@ -50,14 +50,14 @@ format_number format.Legacy = 0
 format_number format.Composite = 1
 
 -- one number more of a tag
-numbered : {C : Type 0} (number : C → ℕ) (k : ℕ) (x : C) (n : ℕ) (t : Bool) (rest : Option C) (c : C) → number x ≡ k → n == k ≡ t → (rest ≡ Some c → number c ≡ n) → (if t then Some x else rest) ≡ Some c → number c ≡ n
+pub numbered : {C : Type 0} (number : C → ℕ) (k : ℕ) (x : C) (n : ℕ) (t : Bool) (rest : Option C) (c : C) → number x ≡ k → n == k ≡ t → (rest ≡ Some c → number c ≡ n) → (if t then Some x else rest) ≡ Some c → number c ≡ n
 numbered number k x n true rest c is e more h =
     let same : x ≡ c = cc in
     let there : n ≡ k = grind (arith, nat_tests) in
     sym (ap number same) ∙ is ∙ sym there
 numbered number k x n false rest c is e more h = more h
 
-no_number : {C : Type 0} (number : C → ℕ) (n : ℕ) (c : C) → (let o : Option C = None in o) ≡ Some c → number c ≡ n
+pub no_number : {C : Type 0} (number : C → ℕ) (n : ℕ) (c : C) → (let o : Option C = None in o) ≡ Some c → number c ≡ n
 no_number number n c h = absurd cc
 
 codec_back : (n : ℕ) (c : CompressionTag) → codec_of n ≡ Some c → codec_number c ≡ n
@@ -77,7 +77,7 @@ tag_in tag = made_in tag byte_in
 abbrev pub TagFits : {C : Type 0} → (ℕ → Option C) → (C → ℕ) → C → Type 0
 TagFits tag number = MadeFits tag number (λ n. Unit {0})
 
-tag_reads : {C : Type 0} (tag : ℕ → Option C) (number : C → ℕ) → ((n : ℕ) (c : C) → tag n ≡ Some c → number c ≡ n) → Reads (tag_in tag) (λ c. byte_bytes (number c)) (TagFits tag number) 1
+pub tag_reads : {C : Type 0} (tag : ℕ → Option C) (number : C → ℕ) → ((n : ℕ) (c : C) → tag n ≡ Some c → number c ≡ n) → Reads (tag_in tag) (λ c. byte_bytes (number c)) (TagFits tag number) 1
 tag_reads tag number back = made_reads byte_in byte_bytes (λ n. Unit {0}) 1 byte_reads tag number (λ x y fits e. back x y e)
 
 pub codec_reads : Reads (tag_in codec_of) (λ c. byte_bytes (codec_number c)) (TagFits codec_of codec_number) 1

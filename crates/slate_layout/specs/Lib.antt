@@ -27,4 +27,12 @@ pub mod Kept
 pub mod RoundTrip
 pub mod Codec
 pub mod NormalLaws
+pub mod RecordParts
+pub mod Records
+pub mod RecordNormal
+pub mod RecordFields
+pub mod RecordFitting
+pub mod RecordTrip
 pub mod BoundaryCodec
+pub mod RecordCodec
+pub mod RecordKept

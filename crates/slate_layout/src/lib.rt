@@ -3,6 +3,7 @@
 
 mod boundary;
 mod codec;
+mod compaction_parts;
 mod decode;
 mod encode;
 mod first_version;
@@ -18,7 +19,13 @@ mod numbers;
 mod part;
 mod ranges;
 mod reader;
+mod record_codec;
+mod record_fields;
+mod record_normal;
+mod record_reading;
+mod record_writing;
 mod second_version;
+mod sources;
 mod tables;
 mod tags;
 mod texts;
@@ -34,6 +41,10 @@ pub use info_codec::{decode_info, encode_info};
 pub use laws::normal_laws;
 pub use normal::normal_form_manifest;
 pub use normal_test::is_normal;
+pub use record_codec::CompactionsCodec;
+pub use record_normal::normal_form_compactions;
+pub use record_reading::decode_compactions;
+pub use record_writing::encode_compactions;
 
 #[cfg(test)]
 mod boundary_tests;
@@ -49,5 +60,7 @@ mod info_tests;
 mod manifest_tests;
 #[cfg(test)]
 mod part_tests;
+#[cfg(test)]
+mod record_tests;
 #[cfg(test)]
 mod tree_tests;

@@ -53,8 +53,8 @@ fn have_creations(checkpoints: &[Checkpoint]) -> bool
     checkpoints.iter().all(|c| has_second(c.create_time))
 }
 
-// Whether a table isn't of the write-ahead log.
-fn is_compacted(id: &SsTableId) -> bool
+/// Whether a table isn't of the write-ahead log.
+pub(crate) fn is_compacted(id: &SsTableId) -> bool
     ensures { result ≡ known.is_compacted id.now }
 {
     match id {
@@ -176,7 +176,7 @@ fn few(length: usize) -> bool
 }
 
 // Whether the key of a bound is short.
-fn short_bound(bound: Bound<&Bytes>) -> bool
+pub(crate) fn short_bound(bound: Bound<&Bytes>) -> bool
     ensures { result ≡ fields.short_bound (pointed bound.entry) }
 {
     match bound {

@@ -4,10 +4,10 @@ use Rattle.slate_ids.specs.declared.gc_message.GcMessage.TheVariants as of
 use Rattle.slate_ids.specs.declared.error.SlateDBError.{SlateDBError}
 use Rattle.slate_ids.specs.declared.error.SlateDBError.TheVariants.{LatestTransactionalObjectVersionMissing, CheckpointMissing, InvalidDBState, StoreFault}
 use Rattle.slate_ids.specs.declared.error.StateCause.TheVariants.{NotOpen}
-use Rattle.slate_first.specs.declared.first_manifest.FirstManifest.{FirstManifest}
-use Rattle.slate_first.specs.declared.checkpoint.Checkpoint.{Checkpoint}
-use Rattle.slate_first.specs.Checkpoints.{checkpoint_at, written, replaced, refreshed, deleted, unexpired}
-use Rattle.slate_first.specs.Codec.{encoded}
+use Rattle.slate_model.specs.declared.manifest.Manifest.{Manifest}
+use Rattle.slate_model.specs.declared.checkpoint.Checkpoint.{Checkpoint}
+use Rattle.slate_state.specs.Checkpoints.{checkpoint_at, written, replaced, refreshed, deleted, unexpired}
+use Rattle.slate_layout.specs.Codec.{encoded}
 use Rattle.slate_store.specs.Machines.{Goes, Stay, End}
 use Rattle.slate_script.specs.declared.call.Call.{Call}
 use Rattle.slate_script.specs.declared.call.Call.TheVariants.{OpenWriter, Flush, WriteCheckpoint, ReplaceCheckpoint, RefreshCheckpoint, DeleteCheckpoint, Pass}
@@ -28,7 +28,8 @@ use Rattle.slate_log.specs.declared.read.ReadPhase.TheVariants.{Listing}
 use Rattle.slate_log.specs.declared.commit.CommitPhase.{CommitPhase}
 use Rattle.slate_log.specs.declared.right.Right.{Right}
 use Rattle.slate_log.specs.declared.right.Right.TheVariants.{Plain}
-use Rattle.slate_protocol.specs.Manifests.{manifest_refusal, raised_writer, flushed}
+use Rattle.slate_state.specs.Rules.{manifest_refusal}
+use Rattle.slate_state.specs.Writers.{raised_writer, flushed}
 use Rattle.slate_protocol.specs.Phrases.{at_read, at_commit, at_pass}
 use Rattle.slate_protocol.specs.declared.party.Facts.{Facts}
 use Rattle.slate_protocol.specs.declared.party.Purpose.{Purpose}
@@ -63,7 +64,7 @@ has_call Holder call = holder_has call
 has_call Collector call = collector_has call
 
 -- what each call makes at a moment of version n, read as the latest: nothing, where nothing is to be committed
-abbrev pub new_value : Call → ℤ → ℕ → FirstManifest → Result (Option FirstManifest) SlateDBError
+abbrev pub new_value : Call → ℤ → ℕ → Manifest → Result (Option Manifest) SlateDBError
 new_value OpenWriter now n m = raised_writer n m
 new_value (Flush seq tick) now n m = Ok (Some (flushed seq tick m))
 new_value (WriteCheckpoint id lifetime source name) now n m = written id (record { lifetime = lifetime; source = source; name = name }) now n m
@@ -82,13 +83,13 @@ fenced None read = Some (InvalidDBState NotOpen)
 fenced (Some own) read = fence own read
 
 -- the fence of a call at a manifest read: a flush alone has one
-abbrev pub fence_of : Facts → Call → FirstManifest → Option SlateDBError
+abbrev pub fence_of : Facts → Call → Manifest → Option SlateDBError
 fence_of facts (Flush seq tick) m = fenced facts.epoch m.writer_epoch
 fence_of facts _ m = None
 
 -- the commit of what a call makes at a moment of the version read; or none, where nothing is to be committed; or why there is
 -- none
-abbrev pub commit_of : Facts → Call → ℤ → ℕ → FirstManifest → Result (Option (CommitPhase FirstManifest)) SlateDBError
+abbrev pub commit_of : Facts → Call → ℤ → ℕ → Manifest → Result (Option (CommitPhase Manifest)) SlateDBError
 commit_of facts call now n m = unless (fence_of facts call m) (renewed (new_value call now) manifest_refusal encoded (right_of call) n m)
 
 -- the checkpoint of an id, as a reply
@@ -111,29 +112,29 @@ abbrev pub options_of : ℕ → Bool → FilterWord → PassOptions
 options_of min_age dry_run filter = record { min_age = min_age; dry_run = dry_run; allows = allows filter }
 
 -- a call goes on once a manifest was committed, or needed no commit: a pass to its list, and every other call to its reply
-abbrev pub done_next : Facts → Call → FirstManifest → Next
+abbrev pub done_next : Facts → Call → Manifest → Next
 done_next facts OpenWriter m = Finish (Epoch m.writer_epoch)
 done_next facts (Flush seq tick) m = Finish Done
-done_next facts (WriteCheckpoint id lifetime source name) m = Finish (checkpoint_reply id (checkpoint_at id m.checkpoints))
-done_next facts (ReplaceCheckpoint old id lifetime source name) m = Finish (checkpoint_reply id (checkpoint_at id m.checkpoints))
-done_next facts (RefreshCheckpoint id lifetime) m = Finish (checkpoint_reply id (checkpoint_at id m.checkpoints))
+done_next facts (WriteCheckpoint id lifetime source name) m = Finish (checkpoint_reply id (checkpoint_at id m.core.checkpoints))
+done_next facts (ReplaceCheckpoint old id lifetime source name) m = Finish (checkpoint_reply id (checkpoint_at id m.core.checkpoints))
+done_next facts (RefreshCheckpoint id lifetime) m = Finish (checkpoint_reply id (checkpoint_at id m.core.checkpoints))
 done_next facts (DeleteCheckpoint id) m = Finish Done
 done_next facts (Pass pass min_age dry_run filter) m = Go Passing (at_pass facts.db (options_of min_age dry_run filter) passing.Listing)
 
 -- after a read: the commit of what the call makes of it, or what follows where nothing is to be committed
-abbrev pub commit_next : Facts → Call → ℤ → FirstManifest → Result (Option (CommitPhase FirstManifest)) SlateDBError → Next
+abbrev pub commit_next : Facts → Call → ℤ → Manifest → Result (Option (CommitPhase Manifest)) SlateDBError → Next
 commit_next facts call now m (Ok (Some commit)) = Go (Committing now) (at_commit facts.db commit)
 commit_next facts call now m (Ok None) = done_next facts call m
 commit_next facts call now m (Err e) = Finish (Refused e)
 
 -- what follows a read that found a version
-abbrev pub after_version : Facts → Call → Purpose → ℤ → ℕ → FirstManifest → Next
+abbrev pub after_version : Facts → Call → Purpose → ℤ → ℕ → Manifest → Next
 after_version facts call Reading now n m = commit_next facts call now m (commit_of facts call now n m)
 after_version facts call (Committing made) now n m = Finish (Refused StoreFault)
 after_version facts call Passing now n m = Finish (Refused StoreFault)
 
 -- what follows a commit that stood
-abbrev pub after_commit : Facts → Call → Purpose → ℕ → FirstManifest → Next
+abbrev pub after_commit : Facts → Call → Purpose → ℕ → Manifest → Next
 after_commit facts call (Committing made) n m = done_next facts call m
 after_commit facts call Reading n m = Finish (Refused StoreFault)
 after_commit facts call Passing n m = Finish (Refused StoreFault)

@@ -1,7 +1,7 @@
 -- What a party holds while it is in a call.
 use Rattle.std.specs.Prelude.{◌≡◌, ℕ, ◌+◌, ℤ, List, [], ◌∷◌, Some, Ok}
-use Rattle.slate_first.specs.Normal.{normal}
-use Rattle.slate_first.specs.declared.first_manifest.FirstManifest.{FirstManifest}
+use Rattle.slate_layout.specs.Normal.{normal_manifest}
+use Rattle.slate_model.specs.declared.manifest.Manifest.{Manifest}
 use Rattle.slate_script.specs.declared.call.Call.{Call}
 use Rattle.slate_gc.specs.declared.pass_phase.PassPhase.{PassPhase}
 use Rattle.slate_gc.specs.declared.pass_phase.PassPhase.TheVariants as passing
@@ -10,14 +10,14 @@ use Rattle.slate_protocol.specs.Chains.{Link, link_at}
 use Rattle.slate_protocol.specs.Logs.{Author, Chain}
 
 -- a manifest that is the committed one of its number
-pub record IsVersion (c : Chain) (n : ℕ) (m : FirstManifest) : Type 0 where
-  pub link : Link FirstManifest Author
+pub record IsVersion (c : Chain) (n : ℕ) (m : Manifest) : Type 0 where
+  pub link : Link Manifest Author
   pub at : link_at n c ≡ Some link
   pub value : link.value ≡ m
 
 -- what a call commits at a number is what it makes of the committed version before
-pub record IsMadeOf (c : Chain) (call : Call) (now : ℤ) (n : ℕ) (m : FirstManifest) : Type 0 where
-  pub old : Link FirstManifest Author
+pub record IsMadeOf (c : Chain) (call : Call) (now : ℤ) (n : ℕ) (m : Manifest) : Type 0 where
+  pub old : Link Manifest Author
   pub at : link_at old.number c ≡ Some old
   pub number : n ≡ old.number + 1
   pub made : new_value call now old.number old.value ≡ Ok (Some m)

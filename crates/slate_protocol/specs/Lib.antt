@@ -1,4 +1,3 @@
-pub mod Manifests
 pub mod Phrases
 pub mod Calls
 pub mod Rows

@@ -1,9 +1,10 @@
 -- What a run committed, by database: kept beside the state, event by event.
 use Rattle.std.specs.Prelude.{ℕ, Bool, true, false, List, [], ◌∷◌, Option, Some, None, ℤ, pos, bytes_eq, if◌then◌else◌}
-use Rattle.slate_first.specs.declared.first_manifest.FirstManifest.{FirstManifest}
-use Rattle.slate_first.specs.Checkpoints.{is_named}
-use Rattle.slate_first.specs.Codec.{encoded, decoded}
-use Rattle.slate_first.specs.Normal.{normal}
+use Rattle.slate_model.specs.declared.manifest.Manifest.{Manifest}
+use Rattle.slate_state.specs.Checkpoints.{is_named}
+use Rattle.slate_layout.specs.Codec.{encoded}
+use Rattle.slate_layout.specs.Decoding.{decoded_manifest}
+use Rattle.slate_layout.specs.Normal.{normal_manifest}
 use Rattle.slate_store.specs.Store.{effect}
 use Rattle.slate_store.specs.declared.mark.Mark.{Mark}
 use Rattle.slate_script.specs.declared.call.Call.{Call}
@@ -14,7 +15,7 @@ use Rattle.slate_log.specs.declared.commit.CommitPhase.TheVariants.{Putting}
 use Rattle.slate_log.specs.declared.log_kind.LogKind.TheVariants.{Manifest as ManifestLog}
 use Rattle.slate_protocol.specs.Calls.{new_value, right_of, fence_of}
 use Rattle.slate_protocol.specs.Chains.{Link, Log, with_link}
-use Rattle.slate_protocol.specs.Manifests.{manifest_refusal}
+use Rattle.slate_state.specs.Rules.{manifest_refusal}
 use Rattle.slate_protocol.specs.Phrases.{asks, is_due}
 use Rattle.slate_protocol.specs.Specs.{first_bytes, listed_or_none}
 use Rattle.slate_protocol.specs.World.{World, party_of, wrote, happens}
@@ -46,14 +47,14 @@ abbrev pub author_of : ℕ → Facts → Call → Purpose → Author
 author_of n facts call purpose = record { party = n; facts = facts; call = call; now = made_at purpose }
 
 -- the log of manifests
-abbrev pub manifests : Log FirstManifest Author
+abbrev pub manifests : Log Manifest Author
 manifests = record {
   kind = ManifestLog;
   encoded = encoded;
-  decoded = decoded;
-  normal = normal;
+  decoded = decoded_manifest;
+  normal = normal_manifest;
   refusal = manifest_refusal;
-  names = λ m n. is_named n m.checkpoints;
+  names = λ m n. is_named n m.core.checkpoints;
   makes = λ a n m. new_value a.call a.now n m;
   right = λ a. right_of a.call;
   fence = λ a m. fence_of a.facts a.call m;
@@ -61,24 +62,24 @@ manifests = record {
 
 -- the chain of a log of manifests
 abbrev pub Chain : Type 0
-Chain = List (Link FirstManifest Author)
+Chain = List (Link Manifest Author)
 
 -- the chain of each database, by its path
 abbrev pub Chains : Type 0
 Chains = List ℕ → Chain
 
 -- what the phrase puts, where it puts a version
-abbrev pub put_by : Author → Phrase → Option (Link FirstManifest Author)
+abbrev pub put_by : Author → Phrase → Option (Link Manifest Author)
 put_by author (Commit (Putting n bytes m)) = Some (record { number = n; bytes = bytes; value = manifests.normal m; by = Some author })
 put_by author _ = None
 
 -- the chain after a put, where there was one
-abbrev pub with_put : Option (Link FirstManifest Author) → Chain → Chain
+abbrev pub with_put : Option (Link Manifest Author) → Chain → Chain
 with_put None c = c
 with_put (Some l) c = with_link l c
 
 -- the chains after a put of this database, where it wrote
-abbrev pub chains_put : Bool → List ℕ → Option (Link FirstManifest Author) → Chains → Chains
+abbrev pub chains_put : Bool → List ℕ → Option (Link Manifest Author) → Chains → Chains
 chains_put false db link chains = chains
 chains_put true db link chains = λ d. if bytes_eq d db then with_put link (chains d) else chains d
 
@@ -116,7 +117,7 @@ chains_of [] w chains = chains
 chains_of (e ∷ es) w chains = elim (happens w e) [ None ↦ chains | Some done ↦ chains_of es done.world (chains_after w e chains) ]
 
 -- the first version of a database
-abbrev pub opening_link : DbSpec → Link FirstManifest Author
+abbrev pub opening_link : DbSpec → Link Manifest Author
 opening_link spec = record { number = 1; bytes = listed_or_none (first_bytes spec.manifest); value = spec.manifest; by = None }
 
 -- the chains as a run begins: the first manifest of each database

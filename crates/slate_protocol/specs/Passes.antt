@@ -1,8 +1,8 @@
 -- What a pass picks of what it read, and the deletes that it makes: one for each pick, in their order.
 use Rattle.std.specs.Prelude.{◌≡◌, ℕ, ℤ, nat_le, Bool, true, false, List, [], ◌∷◌, ◌++◌, map, filter, length, Option, Some, None, Result, Ok, Err, if◌then◌else◌}
 use Rattle.slate_ids.specs.declared.error.SlateDBError.{SlateDBError}
-use Rattle.slate_first.specs.Codec.{decoded}
-use Rattle.slate_first.specs.declared.first_manifest.FirstManifest.{FirstManifest}
+use Rattle.slate_layout.specs.Decoding.{decoded_manifest}
+use Rattle.slate_model.specs.declared.manifest.Manifest.{Manifest}
 use Rattle.slate_store.specs.declared.made.Made.{Made}
 use Rattle.slate_store.specs.declared.object.ObjectMetadata.{ObjectMetadata}
 use Rattle.slate_store.specs.declared.store_answer.StoreAnswer.{StoreAnswer}
@@ -34,13 +34,13 @@ use Rattle.slate_store.specs.Store.{Store}
 -- ---- what is picked of what was read
 
 -- of a list at a moment, the value of the greatest number listed, and a boundary that is below that number
-abbrev pub picks_at : PassOptions → ℤ → List ObjectMetadata → Option ℕ → Result FirstManifest SlateDBError → Option ℕ → Option (List ℕ)
-picks_at options now found (Some n) (Ok m) (Some bound) = if nat_le n bound then None else Some (picks options (candidates options.min_age now n m.checkpoints (dated ManifestLog found)))
+abbrev pub picks_at : PassOptions → ℤ → List ObjectMetadata → Option ℕ → Result Manifest SlateDBError → Option ℕ → Option (List ℕ)
+picks_at options now found (Some n) (Ok m) (Some bound) = if nat_le n bound then None else Some (picks options (candidates options.min_age now n m.core.checkpoints (dated ManifestLog found)))
 picks_at options now found _ _ _ = None
 
 -- of the answers to the list, to the get of the greatest, and to the get of the boundary
 abbrev pub picks_of : PassOptions → Answered → Answered → Answered → Option (List ℕ)
-picks_of options (Found found, now) (Got (Some object), at) (Got boundary, by) = picks_at options now found (greatest ManifestLog found) (decoded object.bytes) (boundary_got boundary)
+picks_of options (Found found, now) (Got (Some object), at) (Got boundary, by) = picks_at options now found (greatest ManifestLog found) (decoded_manifest object.bytes) (boundary_got boundary)
 picks_of options _ _ _ = None
 
 -- of the answers of a pass from its list on; nothing, before it has read all

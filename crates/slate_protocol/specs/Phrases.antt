@@ -1,8 +1,8 @@
 -- The phrase under way: which store call is due, and how it goes on after the answer.
 use Rattle.std.specs.Prelude.{ℕ, ℤ, Bool, List, Option, Some, None, Result, Ok, Err}
 use Rattle.slate_ids.specs.declared.error.SlateDBError.{SlateDBError}
-use Rattle.slate_first.specs.declared.first_manifest.FirstManifest.{FirstManifest}
-use Rattle.slate_first.specs.Codec.{decoded}
+use Rattle.slate_model.specs.declared.manifest.Manifest.{Manifest}
+use Rattle.slate_layout.specs.Decoding.{decoded_manifest}
 use Rattle.slate_store.specs.declared.store_call.StoreCall.{StoreCall}
 use Rattle.slate_store.specs.declared.store_answer.StoreAnswer.{StoreAnswer}
 use Rattle.slate_store.specs.Machines.{Goes, Stay, End}
@@ -42,11 +42,11 @@ abbrev pub is_due : Position → Bool
 is_due position = phrase_due position.phrase
 
 -- a read at a database
-abbrev pub at_read : List ℕ → ReadPhase FirstManifest → Position
+abbrev pub at_read : List ℕ → ReadPhase Manifest → Position
 at_read db phase = record { db = db; phrase = Read phase }
 
 -- a commit at a database
-abbrev pub at_commit : List ℕ → CommitPhase FirstManifest → Position
+abbrev pub at_commit : List ℕ → CommitPhase Manifest → Position
 at_commit db phase = record { db = db; phrase = Commit phase }
 
 -- a pass at a database
@@ -54,13 +54,13 @@ abbrev pub at_pass : List ℕ → PassOptions → PassPhase → Position
 at_pass db options phase = record { db = db; phrase = Pass options phase }
 
 -- what a read ends with
-abbrev pub read_ended : Result (Option (ℕ × FirstManifest)) SlateDBError → Result Ended SlateDBError
+abbrev pub read_ended : Result (Option (ℕ × Manifest)) SlateDBError → Result Ended SlateDBError
 read_ended (Ok None) = Ok NoVersion
 read_ended (Ok (Some version)) = Ok (Version version.0 version.1)
 read_ended (Err e) = Err e
 
 -- what a commit ends with
-abbrev pub commit_ended : Result (ℕ × FirstManifest) SlateDBError → Result Ended SlateDBError
+abbrev pub commit_ended : Result (ℕ × Manifest) SlateDBError → Result Ended SlateDBError
 commit_ended (Ok version) = Ok (Committed version.0 version.1)
 commit_ended (Err e) = Err e
 
@@ -70,12 +70,12 @@ pass_ended (Ok counts) = Ok (Passed counts)
 pass_ended (Err e) = Err e
 
 -- how a position goes on with its read
-abbrev pub read_on : List ℕ → Goes (ReadPhase FirstManifest) (Option (ℕ × FirstManifest)) → Goes Position Ended
+abbrev pub read_on : List ℕ → Goes (ReadPhase Manifest) (Option (ℕ × Manifest)) → Goes Position Ended
 read_on db (Stay phase) = Stay (at_read db phase)
 read_on db (End phase result) = End (at_read db phase) (read_ended result)
 
 -- how a position goes on with its commit
-abbrev pub commit_on : List ℕ → Goes (CommitPhase FirstManifest) (ℕ × FirstManifest) → Goes Position Ended
+abbrev pub commit_on : List ℕ → Goes (CommitPhase Manifest) (ℕ × Manifest) → Goes Position Ended
 commit_on db (Stay phase) = Stay (at_commit db phase)
 commit_on db (End phase result) = End (at_commit db phase) (commit_ended result)
 
@@ -86,9 +86,9 @@ pass_on db options (End phase result) = End (at_pass db options phase) (pass_end
 
 -- how a phrase at a database goes on after the answer, which came at a moment
 abbrev pub phrase_goes : List ℕ → Phrase → ℤ → StoreAnswer → Goes Position Ended
-phrase_goes db (Read phase) now answer = read_on db (read_goes ManifestLog decoded phase answer)
+phrase_goes db (Read phase) now answer = read_on db (read_goes ManifestLog decoded_manifest phase answer)
 phrase_goes db (Commit phase) now answer = commit_on db (commit_goes phase answer)
-phrase_goes db (Pass options phase) now answer = pass_on db options (pass_goes decoded options now phase answer)
+phrase_goes db (Pass options phase) now answer = pass_on db options (pass_goes decoded_manifest options now phase answer)
 
 -- how the phrase goes on after the answer, which came at a moment
 abbrev pub goes : Position → ℤ → StoreAnswer → Goes Position Ended

@@ -6,10 +6,10 @@ use Rattle.slate_ids.specs.PathText.{path_cmp}
 use Rattle.slate_ids.specs.declared.error.SlateDBError.{SlateDBError}
 use Rattle.slate_ids.specs.declared.object_path.ObjectPath.{ObjectPath}
 use Rattle.slate_ids.specs.declared.object_path.ObjectPath.TheVariants as paths
-use Rattle.slate_first.specs.Codec.{encoded}
-use Rattle.slate_first.specs.Normal.{is_normal}
-use Rattle.slate_first.specs.declared.checkpoint.Checkpoint.{Checkpoint}
-use Rattle.slate_first.specs.declared.first_manifest.FirstManifest.{FirstManifest}
+use Rattle.slate_layout.specs.Codec.{encoded}
+use Rattle.slate_layout.specs.Normal.{is_normal}
+use Rattle.slate_model.specs.declared.checkpoint.Checkpoint.{Checkpoint}
+use Rattle.slate_model.specs.declared.manifest.Manifest.{Manifest}
 use Rattle.slate_store.specs.Store.{Store, stored}
 use Rattle.slate_script.specs.declared.cluster_cause.ClusterCause.{ClusterCause}
 use Rattle.slate_script.specs.declared.cluster_cause.ClusterCause.TheVariants as cause
@@ -44,7 +44,7 @@ and_more (Some x) f = f x
 -- the ids of all checkpoints: none where one comes twice
 abbrev pub carried_from : Carried → List DbSpec → Option Carried
 carried_from carried [] = Some carried
-carried_from carried (spec ∷ specs) = and_more (ids_from carried spec.manifest.checkpoints) (λ more. carried_from more specs)
+carried_from carried (spec ∷ specs) = and_more (ids_from carried spec.manifest.core.checkpoints) (λ more. carried_from more specs)
 
 -- ---- values
 
@@ -54,7 +54,7 @@ bytes_where normal (Ok bytes) = if normal then Some bytes else None
 bytes_where normal (Err e) = None
 
 -- the bytes of a first manifest: none where it has none, or isn't what is read back of them
-abbrev pub first_bytes : FirstManifest → Option (List ℕ)
+abbrev pub first_bytes : Manifest → Option (List ℕ)
 first_bytes m = bytes_where (is_normal m) (encoded m)
 
 -- the bytes of a first object, and the moment at which it was written
@@ -75,7 +75,7 @@ firsts_from firsts (spec ∷ specs) = and_more (first_added firsts spec (first_b
 
 -- whether a checkpoint names another version than the first
 abbrev pub names_other : DbSpec → Bool
-names_other spec = list_any (λ c. not (c.manifest_id == 1)) spec.manifest.checkpoints
+names_other spec = list_any (λ c. not (c.manifest_id == 1)) spec.manifest.core.checkpoints
 
 -- ---- the whole
 

@@ -1,7 +1,7 @@
 -- What the trail alone tells: the store, and what was committed.
 use Rattle.std.specs.Prelude.{ℕ, ◌==◌, Bool, true, false, List, [], ◌∷◌, bytes_eq, if◌then◌else◌}
 use Rattle.slate_ids.specs.declared.object_path.ObjectPath.TheVariants.{Manifest as ManifestPath}
-use Rattle.slate_first.specs.declared.first_manifest.FirstManifest.{FirstManifest}
+use Rattle.slate_model.specs.declared.manifest.Manifest.{Manifest}
 use Rattle.slate_store.specs.Store.{Store, effect}
 use Rattle.slate_store.specs.declared.store_call.StoreCall.{StoreCall}
 use Rattle.slate_store.specs.declared.store_call.StoreCall.TheVariants.{PutNew}
@@ -46,5 +46,5 @@ told [] s firsts = firsts
 told (x ∷ xs) s firsts = told xs (entry_store x s) (entry_told x s firsts)
 
 -- a committed version's number and bytes
-abbrev pub numbered : Link FirstManifest Author → ℕ × List ℕ
+abbrev pub numbered : Link Manifest Author → ℕ × List ℕ
 numbered l = (l.number, l.bytes)

@@ -1,6 +1,6 @@
 //! Where a party stands in its call.
 
-use slate_first::FirstManifest;
+use slate_model::Manifest;
 use slate_gc::{PassCounts, PassOptions, PassPhase};
 use slate_ids::DbPath;
 use slate_log::{CommitPhase, ReadPhase};
@@ -9,9 +9,9 @@ use slate_log::{CommitPhase, ReadPhase};
 #[derive(Debug, Drop)]
 pub enum Phrase {
     /// The latest manifest is read.
-    Read(ReadPhase<FirstManifest>),
+    Read(ReadPhase<Manifest>),
     /// The next manifest is committed.
-    Commit(CommitPhase<FirstManifest>),
+    Commit(CommitPhase<Manifest>),
     /// A pass of the garbage collector over the manifests, with these options.
     Pass(PassOptions, PassPhase),
 }
@@ -29,9 +29,9 @@ pub enum Ended {
     /// A read that found no version.
     NoVersion,
     /// A read: the number and the value of the latest version.
-    Version(u64, FirstManifest),
+    Version(u64, Manifest),
     /// A commit: the number and the value that were put.
-    Committed(u64, FirstManifest),
+    Committed(u64, Manifest),
     /// A pass: how many versions it picked, deleted, and failed to delete.
     Passed(PassCounts),
 }

@@ -13,8 +13,10 @@ use Rattle.slate_script.specs.declared.script.ScriptPlace.{ScriptPlace}
 use Rattle.slate_script.specs.declared.script.ScriptPlace.TheVariants as place
 use Rattle.slate_script.specs.declared.script.ScriptError.{ScriptError}
 use Rattle.slate_script.specs.declared.script.ScriptError.TheVariants as errors
-use Rattle.slate_first.specs.declared.checkpoint.Checkpoint.{Checkpoint}
-use Rattle.slate_first.specs.Initial.{initial}
+use Rattle.slate_model.specs.declared.checkpoint.Checkpoint.{Checkpoint}
+use Rattle.slate_model.specs.Cores.{new_core}
+use Rattle.slate_model.specs.Manifests.{initial_manifest}
+use Rattle.slate_model.specs.declared.manifest.Manifest.{Manifest}
 use Rattle.slate_script.specs.Events.{written_in, expand, count_of}
 
 -- A reader answers what the bytes stand for, or the first place, unless memory runs out.
@@ -52,6 +54,10 @@ checkpoint_in d = do
   name ← optional as_str (codes "name") d
   Some (record { id = id; manifest_id = 1; expire_time = expire; create_time = pos 0; name = name })
 
+-- the manifest of a new database, with checkpoints
+abbrev pub new_manifest : List Checkpoint → Manifest
+new_manifest checkpoints = initial_manifest (record new_core { checkpoints = checkpoints })
+
 -- a new database, with checkpoints
 unfoldable pub database_in : Data → Option DbSpec
 database_in d = do
@@ -59,7 +65,7 @@ database_in d = do
   path ← required db_path_in (codes "path") d
   modified ← defaulted (pos 0) i64_in (codes "modified") d
   checkpoints ← defaulted [] (list_in checkpoint_in) (codes "checkpoints") d
-  Some (record { path = path; manifest = record initial { checkpoints = checkpoints }; modified = modified })
+  Some (record { path = path; manifest = new_manifest checkpoints; modified = modified })
 
 -- the databases of the items from place i on
 abbrev pub databases_from : ℕ → Items → Result (List DbSpec) ScriptPlace

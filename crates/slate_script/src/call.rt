@@ -2,8 +2,8 @@
 ghost use Rattle.std.specs.Prelude.{◌≡◌, IfOk};
 
 use crate::filter_word::FilterWord;
-use slate_first::copy_name;
 use slate_ids::{CheckpointId, GcMessage, Millis, OutOfMemory, Text};
+use slate_model::Plain;
 use std::alloc::Global;
 
 /// A call of a party. Lifetimes are in milliseconds; a checkpoint without one never expires.
@@ -84,7 +84,7 @@ impl Call {
                 id: *id,
                 lifetime: *lifetime,
                 source: *source,
-                name: copy_name(alloc, name)?,
+                name: Plain::clone(name, alloc)?,
             },
             Call::ReplaceCheckpoint {
                 old,
@@ -97,7 +97,7 @@ impl Call {
                 id: *id,
                 lifetime: *lifetime,
                 source: *source,
-                name: copy_name(alloc, name)?,
+                name: Plain::clone(name, alloc)?,
             },
             Call::RefreshCheckpoint { id, lifetime } => Call::RefreshCheckpoint {
                 id: *id,

@@ -1,7 +1,7 @@
 //! The database that an item of a script stands for.
 ghost use Rattle.std.specs.Prelude.{◌≡◌};
 ghost use Rattle.serde_json.specs.View.{view};
-ghost use Rattle.slate_first.specs.Initial.{initial};
+ghost use Rattle.slate_script.specs.Scripts.{new_manifest};
 ghost use Rattle.slate_script.specs.Fields.{Gives};
 ghost use Rattle.slate_script.specs.Scripts.{database_in};
 
@@ -10,7 +10,7 @@ use crate::fields::{defaulted, only, optional, required};
 use crate::refusal::Refusal;
 use crate::values::FromJson;
 use serde_json::Value;
-use slate_first::{Checkpoint, FirstManifest};
+use slate_model::{Checkpoint, Manifest, ManifestCore};
 use slate_ids::Listed;
 use std::alloc::Global;
 
@@ -36,11 +36,11 @@ impl FromJson for Checkpoint {
 }
 
 // The manifest of a new database, with these checkpoints.
-fn first_manifest(alloc: Global, checkpoints: Listed<Checkpoint>) -> FirstManifest
-    ensures { result ≡ record initial { checkpoints = checkpoints } }
+fn first_manifest(alloc: Global, checkpoints: Listed<Checkpoint>) -> Manifest
+    ensures { result ≡ new_manifest checkpoints }
 {
-    let mut manifest = FirstManifest::initial(alloc);
-    manifest.checkpoints = checkpoints;
+    let mut manifest = Manifest::initial(alloc, ManifestCore::new(alloc));
+    manifest.core.checkpoints = checkpoints;
     manifest
 }
 

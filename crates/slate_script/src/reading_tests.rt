@@ -1,7 +1,7 @@
 //! Scripts, and bytes that are none.
 
 use crate::{Call, DbSpec, Event, ScriptError, ScriptPlace, read_script};
-use slate_first::Checkpoint;
+use slate_model::Checkpoint;
 use slate_ids::{CheckpointId, Text};
 use std::alloc::Global;
 use std::process::Abort;
@@ -86,10 +86,10 @@ fn push_checkpoint(out: &mut String, checkpoint: &Checkpoint) -> Result<(), Fail
 fn database_text(alloc: Global, spec: &DbSpec) -> Result<String, Fail> {
     let path = spec.path;
     let modified = spec.modified;
-    let initialized = spec.manifest.initialized;
+    let initialized = spec.manifest.core.initialized;
     let epoch = spec.manifest.writer_epoch;
     let mut text = format!(in alloc; "{path} {modified} {initialized} {epoch}")?;
-    for checkpoint in spec.manifest.checkpoints.as_slice() {
+    for checkpoint in spec.manifest.core.checkpoints.as_slice() {
         push_checkpoint(&mut text, checkpoint)?;
     }
     Ok(text)

@@ -1,5 +1,0 @@
-use Rattle.std.proofs.Common.{◌≡◌, take}
-use Rattle.slate_first.proofs.checkpoint.copy_checkpoints.Given as goal
-
-abbrev pub invariant-loop-checkpoint : goal.invariant-loop-checkpoint
-invariant-loop-checkpoint l = l.copied ≡ take l.checkpoint-index l.checkpoints

@@ -1,0 +1,3 @@
+pub mod Checkpoints
+pub mod Rules
+pub mod Writers
