@@ -28,6 +28,9 @@ mod late_put_tests;
 #[cfg(test)]
 mod open_tests;
 mod opening;
+mod opening_causes;
+mod opening_ids;
+mod opening_objects;
 mod parties;
 mod party_calls;
 mod party_steps;

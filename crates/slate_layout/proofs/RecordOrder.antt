@@ -8,6 +8,7 @@ use Rattle.std.proofs.lemmas.Bool.Decides.{nat_tests}
 use Rattle.slate_records.specs.declared.compaction.Compaction.{Compaction}
 use Rattle.slate_records.specs.Records.{is_before, are_ascending, inserted}
 use Rattle.slate_layout.specs.Records.{Raw, compaction_of, leads, raws_ascend}
+use Rattle.slate_layout.specs.RecordNormal.{normal_compaction}
 
 through : (a b c : ℕ × ℕ) → is_before a b ≡ true → is_before b c ≡ true → is_before a c ≡ true
 through a b c h g = grind (arith, nat_tests)
@@ -69,3 +70,16 @@ pub put_last : (c : Compaction) (xs ys all : List Compaction) → xs ++ c ∷ ys
 put_last c xs ys all e h =
     ap (λ (l : List Compaction). l ++ ys) (inserted_last c xs ys (subst (λ (l : List Compaction). are_ascending l ≡ true) (sym e) h))
     ∙ (append_assoc xs (c ∷ []) ys ∙ e)
+
+-- ---- normal forms
+
+normal_all : (id : ℕ × ℕ) (cs : List Compaction) → list_all (λ d. is_before id d.id) (map normal_compaction cs) ≡ list_all (λ d. is_before id d.id) cs
+normal_all id [] = refl
+normal_all id (c ∷ cs) = ap (λ b. is_before id c.id && b) (normal_all id cs)
+
+-- normal forms stand in the same order
+pub normal_ascend : (cs : List Compaction) → are_ascending cs ≡ true → are_ascending (map normal_compaction cs) ≡ true
+normal_ascend [] h = refl
+normal_ascend (c ∷ cs) h =
+    let p = and_parts (list_all (λ d. is_before c.id d.id) cs) (are_ascending cs) h in
+    and_from _ _ (normal_all c.id cs ∙ p.0) (normal_ascend cs p.1)

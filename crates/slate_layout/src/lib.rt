@@ -1,4 +1,4 @@
-//! The bytes of manifests and of what is known of tables.
+//! The bytes of manifests, of records of compactions, of what is known of tables, and of boundaries.
 #![tactic(auto)]
 
 mod boundary;
@@ -14,7 +14,8 @@ mod infos;
 mod laws;
 mod manifest_parts;
 mod normal;
-mod normal_test;
+mod normality;
+
 mod numbers;
 mod part;
 mod ranges;
@@ -40,7 +41,7 @@ pub use encode::encode_manifest;
 pub use info_codec::{decode_info, encode_info};
 pub use laws::normal_laws;
 pub use normal::normal_form_manifest;
-pub use normal_test::is_normal;
+pub use normality::is_normal;
 pub use record_codec::CompactionsCodec;
 pub use record_normal::normal_form_compactions;
 pub use record_reading::decode_compactions;

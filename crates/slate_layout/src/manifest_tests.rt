@@ -67,27 +67,42 @@ fn table(number: u32) -> SsTableHandle {
     }
 }
 
+/// The tables of these numbers.
+fn tables(alloc: Global, numbers: &[u32]) -> Result<Listed<SsTableHandle>, OutOfMemory> {
+    let mut tables = Listed::new(alloc);
+    for number in numbers {
+        tables.push(table(*number))?;
+    }
+    Ok(tables)
+}
+
+/// A segment of this prefix that has a view of table 1.
+fn segment(alloc: Global, prefix: &'static str) -> Result<Segment, OutOfMemory> {
+    let mut tree = LsmTreeState::new(alloc);
+    tree.l0
+        .push_back(SsTableView::new(Ulid::from_parts(1, 7), table(1)))?;
+    Ok(Segment::new(Bytes::from(prefix), tree))
+}
+
+/// Such segments of these prefixes.
+fn segments(alloc: Global, prefixes: &[&'static str]) -> Result<Listed<Segment>, OutOfMemory> {
+    let mut segments = Listed::new(alloc);
+    for prefix in prefixes {
+        segments.push(segment(alloc, prefix)?)?;
+    }
+    Ok(segments)
+}
+
 /// The bytes of a manifest of these tables, with a segment that has a view of table 1 for each of these prefixes.
 fn manifest_bytes(
     alloc: Global,
     numbers: &[u32],
     prefixes: &[&'static str],
 ) -> Result<Vec<u8>, OutOfMemory> {
-    let mut tables = Listed::new(alloc);
-    for number in numbers {
-        tables.push(table(*number))?;
-    }
-    let mut segments = Listed::new(alloc);
-    for prefix in prefixes {
-        let mut tree = LsmTreeState::new(alloc);
-        tree.l0
-            .push_back(SsTableView::new(Ulid::from_parts(1, 7), table(1)))?;
-        segments.push(Segment::new(Bytes::from(*prefix), tree))?;
-    }
     let mut bytes = Vec::new(alloc);
-    tables.write(&mut bytes)?;
+    tables(alloc, numbers)?.write(&mut bytes)?;
     bytes.extend_from_slice(&FIRST[4..46])?;
-    segments.write(&mut bytes)?;
+    segments(alloc, prefixes)?.write(&mut bytes)?;
     bytes.extend_from_slice(&FIRST[50..])?;
     Ok(bytes)
 }

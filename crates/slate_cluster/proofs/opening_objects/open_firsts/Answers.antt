@@ -1,6 +1,6 @@
 use Rattle.std.proofs.Common.{rules, ◌≡◌, true}
 use Rattle.slate_cluster.proofs.Openings.{one_more_first}
-use Rattle.slate_cluster.proofs.opening.open_firsts.Goals as goal
+use Rattle.slate_cluster.proofs.opening_objects.open_firsts.Goals as goal
 
 pub loop-spec-preserved : goal.loop-spec-preserved
 loop-spec-preserved c =

@@ -1,0 +1,138 @@
+//! The ids that databases bring as a run begins: none comes twice, and those of runs fall.
+ghost use Rattle.std.specs.Prelude.{◌≡◌, ◌&&◌, [], Some, None, map, is_some, IfOk, option_map, if◌then◌else◌};
+ghost use Rattle.std.specs.List.{list_all};
+ghost use Rattle.slate_protocol.specs.Specs as opens;
+
+use crate::carried::{Carried, NOBODYS};
+use slate_ids::{OutOfMemory, Ulid};
+use slate_model::{Checkpoint, LsmTreeState, SortedRun, SsTableInfo, SsTableView};
+use slate_script::DbSpec;
+use std::alloc::Global;
+use std::collections::{BTreeSet, VecDeque};
+
+/// Ids of tables or views, in order.
+type Seen = BTreeSet<Ulid>;
+
+// Notes the ids of checkpoints. False where one was carried already.
+fn add_ids(carried: &mut Carried, checkpoints: &[Checkpoint]) -> Result<bool, OutOfMemory>
+    ensures { IfOk result (λ all. (if all then Some carried.new.entries else None) ≡ opens.ids_from carried.old.entries checkpoints.now) }
+{
+    for checkpoint in checkpoints {
+        if carried.contains_key(&checkpoint.id) {
+            return Ok(false);
+        }
+        carried.insert(checkpoint.id, NOBODYS)?;
+    }
+    Ok(true)
+}
+
+/// The ids of all checkpoints. None where one comes twice.
+pub(crate) fn open_carried(alloc: Global, specs: &[DbSpec]) -> Result<Option<Carried>, OutOfMemory>
+    ensures { IfOk result (λ o. option_map (λ c. c.entries) o ≡ opens.carried_from [] specs.now) }
+{
+    let mut carried = Carried::new(alloc);
+    for spec in specs {
+        if !add_ids(&mut carried, spec.manifest.core.checkpoints.as_slice())? {
+            return Ok(None);
+        }
+    }
+    Ok(Some(carried))
+}
+
+// Notes the ids of tables. False where one came already.
+fn add_tables(seen: &mut Seen, tables: &[(Ulid, SsTableInfo)]) -> Result<bool, OutOfMemory>
+    ensures { IfOk result (λ all. (if all then Some seen.new.keys else None) ≡ opens.seen_from seen.old.keys (map (λ t. t.0) tables.now)) }
+{
+    for table in tables {
+        if seen.contains(&table.0) {
+            return Ok(false);
+        }
+        seen.insert(table.0)?;
+    }
+    Ok(true)
+}
+
+// Whether no table comes twice.
+fn are_tables_once(alloc: Global, specs: &[DbSpec]) -> Result<bool, OutOfMemory>
+    ensures { IfOk result (λ once. once ≡ is_some (opens.tables_seen_from [] specs.now)) }
+{
+    let mut seen = BTreeSet::new(alloc);
+    for spec in specs {
+        if !add_tables(&mut seen, spec.tables.as_slice())? {
+            return Ok(false);
+        }
+    }
+    Ok(true)
+}
+
+// Whether the ids of views differ.
+fn do_views_differ(alloc: Global, views: &VecDeque<SsTableView>) -> Result<bool, OutOfMemory>
+    ensures { IfOk result (λ differ. differ ≡ is_some (opens.seen_from [] (map (λ v. v.id) views.now.items))) }
+{
+    let mut seen = BTreeSet::new(alloc);
+    for view in views.iter() {
+        if seen.contains(&view.id) {
+            return Ok(false);
+        }
+        seen.insert(view.id)?;
+    }
+    Ok(true)
+}
+
+// Whether the ids of runs fall strictly.
+fn do_runs_fall(runs: &[SortedRun]) -> bool
+    ensures { result ≡ opens.runs_fall runs.now }
+{
+    let Some((first, others)) = runs.split_first() else {
+        return true;
+    };
+    let mut last = first;
+    for run in others {
+        if run.id >= last.id {
+            return false;
+        }
+        last = run;
+    }
+    true
+}
+
+// Whether the ids of a tree's views differ, and those of its runs fall.
+fn is_tree_in_order(alloc: Global, tree: &LsmTreeState) -> Result<bool, OutOfMemory>
+    ensures { IfOk result (λ fine. fine ≡ opens.is_tree_in_order tree.now) }
+{
+    let differ = do_views_differ(alloc, tree.l0.as_deque())?;
+    Ok(differ && do_runs_fall(tree.compacted.as_slice()))
+}
+
+// Whether all trees of a database are in order.
+fn are_trees_in_order(alloc: Global, spec: &DbSpec) -> Result<bool, OutOfMemory>
+    ensures { IfOk result (λ fine. fine ≡ opens.are_trees_in_order spec.now) }
+{
+    for tree in spec.manifest.core.trees() {
+        if !is_tree_in_order(alloc, tree)? {
+            return Ok(false);
+        }
+    }
+    Ok(true)
+}
+
+// Whether all trees of all databases are in order.
+fn are_all_in_order(alloc: Global, specs: &[DbSpec]) -> Result<bool, OutOfMemory>
+    ensures { IfOk result (λ fine. fine ≡ list_all opens.are_trees_in_order specs.now) }
+{
+    for spec in specs {
+        if !are_trees_in_order(alloc, spec)? {
+            return Ok(false);
+        }
+    }
+    Ok(true)
+}
+
+/// Whether no id of a table comes twice, and all trees are in order.
+pub(crate) fn are_tables_in_order(alloc: Global, specs: &[DbSpec]) -> Result<bool, OutOfMemory>
+    ensures { IfOk result (λ fine. fine ≡ (is_some (opens.tables_seen_from [] specs.now) && list_all opens.are_trees_in_order specs.now)) }
+{
+    let once = are_tables_once(alloc, specs)?;
+    let in_order = are_all_in_order(alloc, specs)?;
+    Ok(once && in_order)
+}
