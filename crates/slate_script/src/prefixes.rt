@@ -1,0 +1,79 @@
+//! The prefixes of a database's segments.
+ghost use Rattle.std.specs.Prelude.{◌≡◌, ◌≤◌, ◌++◌, ◌∷◌, [], length, map, filter, IfOk, OnOk, slice_get};
+ghost use Rattle.std.specs.List.{fold, prefix_len};
+ghost use Rattle.slate_ids.specs.Keys.{key_lt};
+ghost use Rattle.slate_script.specs.Databases as databases;
+ghost use Rattle.slate_script.specs.Databases.{with_prefix, is_some_prefix};
+
+use crate::tree_items::{InTree, TreeItems};
+use bytes::Bytes;
+use slate_ids::{Listed, OutOfMemory};
+use std::alloc::Global;
+
+// Adds the prefixes of these items.
+fn push_prefixes<T: InTree>(prefixes: &mut Listed<Bytes>, items: &[T]) -> Result<(), OutOfMemory>
+    ensures { OnOk result (prefixes.new ≡ prefixes.old ++ map T.its_prefix items.now) }
+{
+    for item in items {
+        prefixes.push(item.prefix().clone()?)?;
+    }
+    Ok(())
+}
+
+// The prefixes that are named, as often as they are.
+fn named_prefixes(alloc: Global, items: &TreeItems) -> Result<Listed<Bytes>, OutOfMemory>
+    ensures { IfOk result (λ named. named ≡ databases.named_prefixes items.now) }
+{
+    let mut named = Listed::new(alloc);
+    push_prefixes(&mut named, items.l0.as_slice())?;
+    push_prefixes(&mut named, items.runs.as_slice())?;
+    push_prefixes(&mut named, items.markers.as_slice())?;
+    Ok(named)
+}
+
+// How many prefixes, from the first on, stand before this one.
+fn place_of(prefixes: &[Bytes], prefix: &[u8]) -> usize
+    ensures place { result ≡ prefix_len (λ q. key_lt q prefix.now) prefixes.now }
+    ensures within { result ≤ length prefixes.now }
+{
+    for (i, other) in prefixes.iter().enumerate() {
+        if !other.as_slice().cmp(prefix).is_lt() {
+            return i;
+        }
+    }
+    prefixes.len()
+}
+
+// Puts a prefix at its place among ascending ones, where it is not there yet.
+fn add_prefix(prefixes: &mut Vec<Bytes>, prefix: &Bytes) -> Result<(), OutOfMemory>
+    ensures { OnOk result (prefixes.new.items ≡ with_prefix prefixes.old.items prefix.now) }
+{
+    let place = place_of(prefixes.as_slice(), prefix.as_slice());
+    if place < prefixes.len() && prefixes[place].as_slice() == prefix.as_slice() {
+        return Ok(());
+    }
+    prefixes.insert(place, prefix.clone()?)?;
+    Ok(())
+}
+
+// The prefixes other than "", each once, ascending.
+fn ascending(alloc: Global, named: &[Bytes]) -> Result<Vec<Bytes>, OutOfMemory>
+    ensures { IfOk result (λ prefixes. prefixes.items ≡ databases.segment_prefixes named.now) }
+{
+    let mut prefixes = Vec::new(alloc);
+    for prefix in named {
+        if !prefix.is_empty() {
+            add_prefix(&mut prefixes, prefix)?;
+        }
+    }
+    Ok(prefixes)
+}
+
+/// The prefixes other than "" that are named, each once, ascending.
+pub(crate) fn segment_prefixes(alloc: Global, items: &TreeItems) -> Result<Vec<Bytes>, OutOfMemory>
+    ensures { IfOk result
+        (λ prefixes. prefixes.items ≡ databases.segment_prefixes (databases.named_prefixes items.now)) }
+{
+    let named = named_prefixes(alloc, items)?;
+    ascending(alloc, named.as_slice())
+}
