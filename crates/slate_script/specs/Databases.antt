@@ -1,6 +1,6 @@
 -- The database that an item of a script stands for.
 use Rattle.std.specs.Prelude.{ℕ, ◌&&◌, ◌==◌, pos, not, Bool, true, List, [], ◌∷◌, ◌++◌, length, map, filter, Option, Some, None, option_map, codes, bytes_eq, if◌then◌else◌, ⊤}
-use Rattle.std.specs.List.{find, flat_map, fold, list_any}
+use Rattle.std.specs.List.{find, flat_map, fold, insert, list_any, prefix_len}
 use Rattle.serde_json.specs.Data.{Data}
 use Rattle.serde_json.specs.Find.{as_str}
 use Rattle.slate_ids.specs.Keys.{key_lt}
@@ -72,10 +72,9 @@ tree_of prefix items = record {
 abbrev pub named_prefixes : TreeItems → List (List ℕ)
 named_prefixes items = map (λ (i : L0Item). i.prefix) items.l0 ++ map (λ (i : RunItem). i.prefix) items.runs ++ map (λ (i : MarkerItem). i.prefix) items.markers
 
--- ascending prefixes with this one at its place, once
+-- ascending prefixes with this one, before those that stand above it, where it isn't among them
 abbrev pub with_prefix : List (List ℕ) → List ℕ → List (List ℕ)
-with_prefix [] p = p ∷ []
-with_prefix (q ∷ qs) p = if key_lt q p then q ∷ with_prefix qs p else (if bytes_eq q p then q ∷ qs else p ∷ q ∷ qs)
+with_prefix ps p = if list_any (λ q. bytes_eq q p) ps then ps else insert ps (prefix_len (λ q. key_lt q p) ps) p
 
 -- whether a prefix is another than ""
 abbrev pub is_some_prefix : List ℕ → Bool

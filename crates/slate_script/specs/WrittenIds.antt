@@ -1,6 +1,6 @@
 -- Ids of tables and views as scripts write them: milliseconds and tail in decimal, with a colon between them.
 use Rattle.std.specs.Prelude.{ℕ, ◌+◌, ◌-◌, ◌*◌, ◌^◌, ◌&&◌, ◌==◌, nat_le, nat_lt, List, [], ◌∷◌, length, take, drop, Option, Some, None, if◌then◌else◌}
-use Rattle.std.specs.List.{position_or_len}
+use Rattle.std.specs.List.{position}
 use Rattle.serde_json.specs.Data.{Data}
 use Rattle.serde_json.specs.Find.{as_str}
 use Rattle.slate_script.specs.Fields.{◌>>=◌}
@@ -18,13 +18,13 @@ number_below limit s = if length s == 0 then None else digits_from limit 0 s
 abbrev pub id_of_parts : List ℕ → List ℕ → Option (ℕ × ℕ)
 id_of_parts ms tail = number_below (2 ^ 48) ms >>= λ m. number_below (2 ^ 80) tail >>= λ t. Some (m, t)
 
--- how many characters stand before the first colon
-abbrev pub before_colon : List ℕ → ℕ
-before_colon s = position_or_len (λ c. c == 58) s
+-- where the first colon stands
+abbrev pub colon_in : List ℕ → Option ℕ
+colon_in s = position (λ c. c == 58) s
 
 -- the id that a text writes, by what stands before and after the first colon
-unfoldable pub written_id : List ℕ → Option (ℕ × ℕ)
-written_id s = if nat_lt (before_colon s) (length s) then id_of_parts (take (before_colon s) s) (drop (before_colon s + 1) s) else None
+abbrev pub written_id : List ℕ → Option (ℕ × ℕ)
+written_id s = colon_in s >>= λ i. id_of_parts (take i s) (drop (i + 1) s)
 
 -- a text that writes an id
 abbrev pub id_in : Data → Option (ℕ × ℕ)

@@ -1,9 +1,9 @@
 //! The prefixes of a database's segments.
-ghost use Rattle.std.specs.Prelude.{◌≡◌, ◌≤◌, ◌++◌, ◌∷◌, [], length, map, filter, IfOk, OnOk, slice_get};
-ghost use Rattle.std.specs.List.{fold, prefix_len};
+ghost use Rattle.std.specs.Prelude.{◌≡◌, ◌≤◌, ◌++◌, length, map, IfOk, OnOk, bytes_eq};
+ghost use Rattle.std.specs.List.{list_any, prefix_len};
 ghost use Rattle.slate_ids.specs.Keys.{key_lt};
 ghost use Rattle.slate_script.specs.Databases as databases;
-ghost use Rattle.slate_script.specs.Databases.{with_prefix, is_some_prefix};
+ghost use Rattle.slate_script.specs.Databases.{with_prefix};
 
 use crate::tree_items::{InTree, TreeItems};
 use bytes::Bytes;
@@ -44,14 +44,21 @@ fn place_of(prefixes: &[Bytes], prefix: &[u8]) -> usize
     prefixes.len()
 }
 
-// Puts a prefix at its place among ascending ones, where it is not there yet.
+// Whether a prefix is among these.
+fn has_prefix(prefixes: &[Bytes], prefix: &[u8]) -> bool
+    ensures { result ≡ list_any (λ q. bytes_eq q prefix.now) prefixes.now }
+{
+    prefixes.iter().any(|other| other.as_slice() == prefix)
+}
+
+// Puts a prefix before those of ascending ones that stand above it, where it is not there yet.
 fn add_prefix(prefixes: &mut Vec<Bytes>, prefix: &Bytes) -> Result<(), OutOfMemory>
     ensures { OnOk result (prefixes.new.items ≡ with_prefix prefixes.old.items prefix.now) }
 {
-    let place = place_of(prefixes.as_slice(), prefix.as_slice());
-    if place < prefixes.len() && prefixes[place].as_slice() == prefix.as_slice() {
+    if has_prefix(prefixes.as_slice(), prefix.as_slice()) {
         return Ok(());
     }
+    let place = place_of(prefixes.as_slice(), prefix.as_slice());
     prefixes.insert(place, prefix.clone()?)?;
     Ok(())
 }
