@@ -2,5 +2,7 @@ pub mod Fields
 pub mod Words
 pub mod Calls
 pub mod Events
+pub mod WrittenIds
+pub mod Databases
 pub mod Scripts
 pub mod Lines

@@ -153,4 +153,7 @@ abbrev pub cause_text : ClusterCause → List ℕ
 cause_text cause.Path = codes "path"
 cause_text cause.Ids = codes "ids"
 cause_text cause.Value = codes "value"
+cause_text cause.Segments = codes "segments"
 cause_text cause.Checkpoints = codes "checkpoints"
+cause_text cause.Tables = codes "tables"
+cause_text cause.Floor = codes "floor"

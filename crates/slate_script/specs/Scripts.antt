@@ -1,10 +1,10 @@
 -- The script that bytes stand for, or the first place at which they stand for none.
-use Rattle.std.specs.Prelude.{◌≡◌, ℕ, ◌+◌, pos, nat_lt, List, [], ◌∷◌, ◌++◌, Option, Some, None, Result, Ok, Err, codes, if◌then◌else◌}
+use Rattle.std.specs.Prelude.{◌≡◌, ℕ, ◌+◌, nat_lt, List, [], ◌∷◌, ◌++◌, Option, Some, None, Result, Ok, Err, codes, if◌then◌else◌}
 use Rattle.std.specs.Str.{is_utf8}
 use Rattle.serde_json.specs.Data.{Data, Items, no_items, item}
-use Rattle.serde_json.specs.Find.{as_str}
 use Rattle.serde_json.specs.Read.{read}
-use Rattle.slate_script.specs.Fields.{◌>>=◌, only, required, optional, defaulted, array_in, i64_in, db_path_in, checkpoint_id_in, list_in}
+use Rattle.slate_script.specs.Fields.{◌>>=◌, only, array_in}
+use Rattle.slate_script.specs.Databases.{database_in}
 use Rattle.slate_script.specs.declared.event.Event.{Event}
 use Rattle.slate_script.specs.declared.read_event.Written.{Written}
 use Rattle.slate_script.specs.declared.db_spec.DbSpec.{DbSpec}
@@ -13,10 +13,6 @@ use Rattle.slate_script.specs.declared.script.ScriptPlace.{ScriptPlace}
 use Rattle.slate_script.specs.declared.script.ScriptPlace.TheVariants as place
 use Rattle.slate_script.specs.declared.script.ScriptError.{ScriptError}
 use Rattle.slate_script.specs.declared.script.ScriptError.TheVariants as errors
-use Rattle.slate_model.specs.declared.checkpoint.Checkpoint.{Checkpoint}
-use Rattle.slate_model.specs.Cores.{new_core}
-use Rattle.slate_model.specs.Manifests.{initial_manifest}
-use Rattle.slate_model.specs.declared.manifest.Manifest.{Manifest}
 use Rattle.slate_script.specs.Events.{written_in, expand, count_of}
 
 -- A reader answers what the bytes stand for, or the first place, unless memory runs out.
@@ -44,28 +40,6 @@ abbrev pub with_front : {X : Type 0} → List X → Result (List X) ScriptPlace 
 with_front front read = and_then read (λ xs. Ok (front ++ xs))
 
 -- ---- databases
-
--- a checkpoint that a database begins with: it names version 1 and was made at moment 0
-unfoldable pub checkpoint_in : Data → Option Checkpoint
-checkpoint_in d = do
-  _ ← only (codes "id" ∷ codes "expire" ∷ codes "name" ∷ []) d
-  id ← required checkpoint_id_in (codes "id") d
-  expire ← optional i64_in (codes "expire") d
-  name ← optional as_str (codes "name") d
-  Some (record { id = id; manifest_id = 1; expire_time = expire; create_time = pos 0; name = name })
-
--- the manifest of a new database, with checkpoints
-abbrev pub new_manifest : List Checkpoint → Manifest
-new_manifest checkpoints = initial_manifest (record new_core { checkpoints = checkpoints })
-
--- a new database, with checkpoints
-unfoldable pub database_in : Data → Option DbSpec
-database_in d = do
-  _ ← only (codes "path" ∷ codes "modified" ∷ codes "checkpoints" ∷ []) d
-  path ← required db_path_in (codes "path") d
-  modified ← defaulted (pos 0) i64_in (codes "modified") d
-  checkpoints ← defaulted [] (list_in checkpoint_in) (codes "checkpoints") d
-  Some (record { path = path; manifest = new_manifest checkpoints; modified = modified })
 
 -- the databases of the items from place i on
 abbrev pub databases_from : ℕ → Items → Result (List DbSpec) ScriptPlace

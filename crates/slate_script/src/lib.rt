@@ -4,6 +4,8 @@
 mod call;
 mod call_name;
 mod cluster_cause;
+#[cfg(test)]
+mod database_tests;
 mod db_spec;
 mod entry;
 mod event;
@@ -12,6 +14,7 @@ mod filter_word;
 #[cfg(test)]
 mod line_tests;
 mod party_kind;
+mod prefixes;
 mod read_call;
 mod read_database;
 mod read_event;
@@ -24,7 +27,10 @@ mod reply;
 mod report_lines;
 mod script;
 mod store_lines;
+mod tree_items;
+mod trees;
 mod values;
+mod written_id;
 
 pub use call::Call;
 pub use cluster_cause::ClusterCause;

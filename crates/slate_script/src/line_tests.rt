@@ -115,14 +115,17 @@ fn places_and_causes(rt: HostRuntime) -> Result<(), Fail> {
         ClusterCause::Path,
         ClusterCause::Ids,
         ClusterCause::Value,
+        ClusterCause::Segments,
         ClusterCause::Checkpoints,
+        ClusterCause::Tables,
+        ClusterCause::Floor,
     ] {
         push_cause(&mut out, cause)?;
         out.push_str(", ")?;
     }
     assert_eq!(rt;
         out.as_str(),
-        "json, top, database 2, event 1000000, path, ids, value, checkpoints, "
+        "json, top, database 2, event 1000000, path, ids, value, segments, checkpoints, tables, floor, "
     );
     Ok(())
 }

@@ -1,8 +1,8 @@
 //! Scripts, and bytes that are none.
 
 use crate::{Call, DbSpec, Event, ScriptError, ScriptPlace, read_script};
-use slate_model::Checkpoint;
 use slate_ids::{CheckpointId, Text};
+use slate_model::Checkpoint;
 use std::alloc::Global;
 use std::process::Abort;
 use std::test::Fail;
@@ -208,22 +208,6 @@ fn texts_that_are_no_script(rt: HostRuntime) -> Result<(), Fail> {
     Ok(())
 }
 
-// Databases of which one is none, with its place.
-const BAD_DATABASES: [(&str, u64); 9] = [
-    (r#"{}"#, 0),
-    (r#"{"path":"a"},{"path":"A"}"#, 1),
-    (r#"{"path":"a","floor":0}"#, 0),
-    (r#"{"path":"a","modified":0.0}"#, 0),
-    (r#"{"path":"a","checkpoints":null}"#, 0),
-    (r#"{"path":"a","checkpoints":[{"name":"x"}]}"#, 0),
-    (
-        r#"{"path":"a","checkpoints":[{"id":18446744073709551616}]}"#,
-        0,
-    ),
-    (r#"{"path":"a","checkpoints":[{"id":1,"expire":null}]}"#, 0),
-    (r#"{"path":"a","checkpoints":[{"id":1,"lifetime":1}]}"#, 0),
-];
-
 // Events of which one is none, with its place.
 const BAD_EVENTS: [(&str, u64); 24] = [
     ("1", 0),
@@ -290,18 +274,6 @@ const BAD_PASSES: [&str; 17] = [
     r#""pass":"manifest","id":1"#,
     r#""pass":"manifest","at":0"#,
 ];
-
-// A database that is none comes before an event that is none.
-#[test]
-fn databases_that_are_none(rt: HostRuntime) -> Result<(), Fail> {
-    let alloc = rt.alloc();
-    for (items, place) in BAD_DATABASES {
-        let text = format!(in alloc; "{{\"databases\":[{items}],\"events\":[0]}}")?;
-        let found = place_of(alloc, text.as_str())?;
-        assert_eq!(rt; found, Some(ScriptPlace::Database(place)), "at {text}");
-    }
-    Ok(())
-}
 
 #[test]
 fn events_that_are_none(rt: HostRuntime) -> Result<(), Fail> {

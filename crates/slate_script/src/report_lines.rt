@@ -199,6 +199,9 @@ pub fn push_cause(out: &mut String, cause: ClusterCause) -> Result<(), AllocErro
         ClusterCause::Path => out.push_str("path"),
         ClusterCause::Ids => out.push_str("ids"),
         ClusterCause::Value => out.push_str("value"),
+        ClusterCause::Segments => out.push_str("segments"),
         ClusterCause::Checkpoints => out.push_str("checkpoints"),
+        ClusterCause::Tables => out.push_str("tables"),
+        ClusterCause::Floor => out.push_str("floor"),
     }
 }

@@ -1,13 +1,16 @@
 //! JSON values that stand for plain values.
-ghost use Rattle.std.specs.Prelude.{◌≡◌, Option};
+ghost use Rattle.std.specs.Prelude.{◌≡◌, Option, IfOk};
 ghost use Rattle.serde_json.specs.Data.{Data};
 ghost use Rattle.serde_json.specs.Find.{as_str};
 ghost use Rattle.serde_json.specs.View.{view, items_view};
+ghost use Rattle.slate_script.specs.WrittenIds.{id_in};
 ghost use Rattle.slate_script.specs.Fields.{Gives, u64_in, u32_in, i64_in, bool_in, db_path_in, checkpoint_id_in, items_in, list_in};
 
 use crate::refusal::Refusal;
+use crate::written_id::written_id;
+use bytes::Bytes;
 use serde_json::Value;
-use slate_ids::{CheckpointId, DbPath, Listed, Text};
+use slate_ids::{CheckpointId, DbPath, Listed, OutOfMemory, Text, Ulid};
 use std::alloc::Global;
 
 /// What a JSON value may stand for.
@@ -20,6 +23,13 @@ pub(crate) trait FromJson: Drop {
     where
         Self: Sized,
         ensures { Gives result (reads (view value.now)) };
+}
+
+// The bytes of a text.
+fn copied(alloc: Global, text: &str) -> Result<Bytes, OutOfMemory>
+    ensures { IfOk result (λ bytes. bytes ≡ text.now) }
+{
+    Ok(Bytes::copy_from_slice(alloc, text.as_bytes())?)
 }
 
 impl FromJson for u64 {
@@ -86,6 +96,31 @@ impl FromJson for Text {
     fn from_json(alloc: Global, value: &Value) -> Result<Text, Refusal> {
         match value.as_str() {
             Some(text) => Ok(Text::copy_of(alloc, text)?),
+            None => Err(Refusal::Malformed),
+        }
+    }
+}
+
+impl FromJson for Bytes {
+    ghost reads = { as_str };
+
+    fn from_json(alloc: Global, value: &Value) -> Result<Bytes, Refusal> {
+        match value.as_str() {
+            Some(text) => Ok(copied(alloc, text)?),
+            None => Err(Refusal::Malformed),
+        }
+    }
+}
+
+impl FromJson for Ulid {
+    ghost reads = { id_in };
+
+    fn from_json(_alloc: Global, value: &Value) -> Result<Ulid, Refusal> {
+        match value.as_str() {
+            Some(text) => match written_id(text.as_bytes()) {
+                Some(id) => Ok(id),
+                None => Err(Refusal::Malformed),
+            },
             None => Err(Refusal::Malformed),
         }
     }

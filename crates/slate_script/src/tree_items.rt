@@ -1,0 +1,167 @@
+//! What an item of a script says of a database's trees.
+ghost use Rattle.std.specs.Prelude.{◌≡◌, ℕ, List, map};
+ghost use Rattle.std.specs.List.{list_any};
+ghost use Rattle.serde_json.specs.View.{view};
+ghost use Rattle.slate_script.specs.Fields.{Gives};
+ghost use Rattle.slate_script.specs.Databases as databases;
+ghost use Rattle.slate_script.specs.Databases.{tree_items_in};
+
+use crate::fields::{defaulted, only, required};
+use crate::refusal::Refusal;
+use crate::values::FromJson;
+use bytes::Bytes;
+use serde_json::Value;
+use slate_ids::{Listed, Ulid};
+use std::alloc::Global;
+
+/// A view of a table that a flush wrote, in the tree of a prefix.
+#[derive(Debug, Drop)]
+pub(crate) struct L0Item {
+    pub(crate) prefix: Bytes,
+    pub(crate) view_id: Ulid,
+    pub(crate) table_id: Ulid,
+}
+
+/// A sorted run of tables, in the tree of a prefix.
+#[derive(Debug, Drop)]
+pub(crate) struct RunItem {
+    pub(crate) prefix: Bytes,
+    pub(crate) id: u32,
+    pub(crate) table_ids: Listed<Ulid>,
+}
+
+/// The view that was compacted last in the tree of a prefix.
+#[derive(Debug, Drop)]
+pub(crate) struct MarkerItem {
+    pub(crate) prefix: Bytes,
+    pub(crate) view_id: Ulid,
+}
+
+/// All that a database says of its trees, in the order of the script.
+#[derive(Debug, Drop)]
+pub(crate) struct TreeItems {
+    pub(crate) l0: Listed<L0Item>,
+    pub(crate) runs: Listed<RunItem>,
+    pub(crate) markers: Listed<MarkerItem>,
+}
+
+/// An item of the tree of a prefix.
+pub(crate) trait InTree {
+    /// The prefix.
+    ghost its_prefix: { Self → List ℕ };
+
+    /// The prefix.
+    fn prefix(&self) -> &Bytes
+        ensures { result.now ≡ its_prefix self.now };
+}
+
+impl InTree for L0Item {
+    ghost its_prefix = { λ i. i.prefix };
+
+    fn prefix(&self) -> &Bytes {
+        &self.prefix
+    }
+}
+
+impl InTree for RunItem {
+    ghost its_prefix = { λ i. i.prefix };
+
+    fn prefix(&self) -> &Bytes {
+        &self.prefix
+    }
+}
+
+impl InTree for MarkerItem {
+    ghost its_prefix = { λ i. i.prefix };
+
+    fn prefix(&self) -> &Bytes {
+        &self.prefix
+    }
+}
+
+impl FromJson for L0Item {
+    ghost use Rattle.slate_script.specs.Databases.{l0_item_in};
+
+    ghost reads = { l0_item_in };
+
+    #[tactic(auto, unfolding(crate::specs::Databases::l0_item_in))]
+    fn from_json(alloc: Global, d: &Value) -> Result<L0Item, Refusal> {
+        only(d, &["prefix", "view", "table"])?;
+        let prefix = defaulted(alloc, d, "prefix", Bytes::new())?;
+        let view_id = required(alloc, d, "view")?;
+        let table_id = required(alloc, d, "table")?;
+        Ok(L0Item {
+            prefix,
+            view_id,
+            table_id,
+        })
+    }
+}
+
+impl FromJson for RunItem {
+    ghost use Rattle.slate_script.specs.Databases.{run_item_in};
+
+    ghost reads = { run_item_in };
+
+    #[tactic(auto, unfolding(crate::specs::Databases::run_item_in))]
+    fn from_json(alloc: Global, d: &Value) -> Result<RunItem, Refusal> {
+        only(d, &["prefix", "id", "tables"])?;
+        let prefix = defaulted(alloc, d, "prefix", Bytes::new())?;
+        let id = required(alloc, d, "id")?;
+        let table_ids = required(alloc, d, "tables")?;
+        Ok(RunItem {
+            prefix,
+            id,
+            table_ids,
+        })
+    }
+}
+
+impl FromJson for MarkerItem {
+    ghost use Rattle.slate_script.specs.Databases.{marker_item_in};
+
+    ghost reads = { marker_item_in };
+
+    #[tactic(auto, unfolding(crate::specs::Databases::marker_item_in))]
+    fn from_json(alloc: Global, d: &Value) -> Result<MarkerItem, Refusal> {
+        only(d, &["prefix", "view"])?;
+        let prefix = defaulted(alloc, d, "prefix", Bytes::new())?;
+        let view_id = required(alloc, d, "view")?;
+        Ok(MarkerItem { prefix, view_id })
+    }
+}
+
+// Whether one of the markers is of this prefix.
+fn has_marker(markers: &[MarkerItem], prefix: &[u8]) -> bool
+    ensures { result ≡ list_any (databases.is_marker_of prefix.now) markers.now }
+{
+    markers
+        .iter()
+        .any(|marker| marker.prefix.as_slice() == prefix)
+}
+
+// Whether no prefix has two markers.
+fn one_each(markers: &[MarkerItem]) -> bool
+    ensures { result ≡ databases.one_each markers.now }
+{
+    for i in 0..markers.len() {
+        if has_marker(&markers[i + 1..], markers[i].prefix.as_slice()) {
+            return false;
+        }
+    }
+    true
+}
+
+/// What a database says of its trees.
+#[tactic(auto, unfolding(crate::specs::Databases::tree_items_in))]
+pub(crate) fn read_tree_items(alloc: Global, d: &Value) -> Result<TreeItems, Refusal>
+    ensures { Gives result (tree_items_in (view d.now)) }
+{
+    let l0 = defaulted(alloc, d, "l0", Listed::new(alloc))?;
+    let runs = defaulted(alloc, d, "runs", Listed::new(alloc))?;
+    let markers: Listed<MarkerItem> = defaulted(alloc, d, "markers", Listed::new(alloc))?;
+    if !one_each(markers.as_slice()) {
+        return Err(Refusal::Malformed);
+    }
+    Ok(TreeItems { l0, runs, markers })
+}

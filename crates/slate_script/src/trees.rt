@@ -1,0 +1,242 @@
+//! The trees of a new database, and the tables in them.
+ghost use Rattle.std.specs.Prelude.{◌≡◌, ◌++◌, true, map, filter, option_map, IfOk, OnOk};
+ghost use Rattle.std.specs.List.{find, flat_map, list_any};
+ghost use Rattle.slate_model.specs.Segments.{IsAscending};
+ghost use Rattle.slate_script.specs.Databases as databases;
+ghost use Rattle.slate_script.specs.Databases.{view_of, run_of, own_view, is_l0_of, is_run_of, is_marker_of, with_id, same_id};
+
+use crate::prefixes::segment_prefixes;
+use crate::tree_items::{L0Item, MarkerItem, RunItem, TreeItems};
+use bytes::Bytes;
+use slate_ids::{Listed, OutOfMemory, Ulid};
+use slate_model::{
+    LsmTreeState, Queue, Segment, SortedRun, SsTableHandle, SsTableId, SsTableInfo, SsTableView,
+};
+use std::alloc::Global;
+
+const FORMAT_VERSION: u16 = 1;
+
+// What is known of each table.
+fn opening_info() -> SsTableInfo
+    ensures { result ≡ databases.opening_info }
+{
+    let mut info = SsTableInfo::default();
+    info.first_entry = Some(Bytes::from_static(b"a"));
+    info.last_entry = Some(Bytes::from_static(b"z"));
+    info
+}
+
+// The table of an id.
+fn table_of(id: Ulid) -> SsTableHandle
+    ensures { result ≡ databases.table_of id }
+{
+    SsTableHandle {
+        id: SsTableId::Compacted(id),
+        format_version: FORMAT_VERSION,
+        info: opening_info(),
+    }
+}
+
+// The views of these items that are in the tree of a prefix.
+fn views_in(alloc: Global, prefix: &[u8], items: &[L0Item]) -> Result<Vec<SsTableView>, OutOfMemory>
+    ensures { IfOk result
+        (λ views. views.items ≡ map view_of (filter (is_l0_of prefix.now) items.now)) }
+{
+    let mut views = Vec::new(alloc);
+    for item in items {
+        if item.prefix.as_slice() == prefix {
+            views.push(SsTableView::new(item.view_id, table_of(item.table_id)))?;
+        }
+    }
+    Ok(views)
+}
+
+// The tables' own views.
+fn own_views(alloc: Global, ids: &[Ulid]) -> Result<Vec<SsTableView>, OutOfMemory>
+    ensures { IfOk result (λ views. views.items ≡ map own_view ids.now) }
+{
+    let mut views = Vec::new(alloc);
+    for id in ids {
+        views.push(SsTableView::identity(table_of(*id)))?;
+    }
+    Ok(views)
+}
+
+// The run of an item.
+fn run_of(alloc: Global, item: &RunItem) -> Result<SortedRun, OutOfMemory>
+    ensures { IfOk result (λ run. run ≡ databases.run_of item.now) }
+{
+    let views = own_views(alloc, item.table_ids.as_slice())?;
+    Ok(SortedRun::new(item.id, views))
+}
+
+// The runs of these items that are in the tree of a prefix.
+fn runs_in(
+    alloc: Global,
+    prefix: &[u8],
+    items: &[RunItem],
+) -> Result<Listed<SortedRun>, OutOfMemory>
+    ensures { IfOk result (λ runs. runs ≡ map databases.run_of (filter (is_run_of prefix.now) items.now)) }
+{
+    let mut runs = Listed::new(alloc);
+    for item in items {
+        if item.prefix.as_slice() == prefix {
+            runs.push(run_of(alloc, item)?)?;
+        }
+    }
+    Ok(runs)
+}
+
+// The view that was compacted last in the tree of a prefix.
+fn marker_in(prefix: &[u8], items: &[MarkerItem]) -> Option<Ulid>
+    ensures { result ≡ option_map (λ i. i.view_id) (find (is_marker_of prefix.now) items.now) }
+{
+    for item in items {
+        if item.prefix.as_slice() == prefix {
+            return Some(item.view_id);
+        }
+    }
+    None
+}
+
+/// The tree of a prefix.
+pub(crate) fn tree_of(
+    alloc: Global,
+    prefix: &[u8],
+    items: &TreeItems,
+) -> Result<LsmTreeState, OutOfMemory>
+    ensures { IfOk result (λ tree. tree ≡ databases.tree_of prefix.now items.now) }
+{
+    let views = views_in(alloc, prefix, items.l0.as_slice())?;
+    let compacted = runs_in(alloc, prefix, items.runs.as_slice())?;
+    Ok(LsmTreeState {
+        last_compacted_l0_sst_view_id: marker_in(prefix, items.markers.as_slice()),
+        last_compacted_l0_sst_id: None,
+        l0: Queue::from_vec(views),
+        compacted,
+    })
+}
+
+// The segment of a prefix.
+fn segment_of(alloc: Global, items: &TreeItems, prefix: &Bytes) -> Result<Segment, OutOfMemory>
+    ensures { IfOk result (λ segment. segment ≡ databases.segment_of items.now prefix.now) }
+{
+    let tree = tree_of(alloc, prefix.as_slice(), items)?;
+    Ok(Segment::new(prefix.clone()?, tree))
+}
+
+// The segments of these prefixes.
+fn segments_at(
+    alloc: Global,
+    items: &TreeItems,
+    prefixes: &[Bytes],
+) -> Result<Vec<Segment>, OutOfMemory>
+    ensures { IfOk result
+        (λ segments. segments.items ≡ map (databases.segment_of items.now) prefixes.now) }
+{
+    let mut segments = Vec::new(alloc);
+    for prefix in prefixes {
+        segments.push(segment_of(alloc, items, prefix)?)?;
+    }
+    Ok(segments)
+}
+
+/// A segment for each prefix that is named, other than "", ascending.
+#[tactic(auto, using(crate::proofs::Ascending::segments_ascend))]
+pub(crate) fn segments_of(alloc: Global, items: &TreeItems) -> Result<Vec<Segment>, OutOfMemory>
+    ensures segments { IfOk result (λ segments. segments.items ≡ databases.segments_of items.now) }
+    ensures ascending { IsAscending (databases.segments_of items.now) }
+{
+    let prefixes = segment_prefixes(alloc, items)?;
+    segments_at(alloc, items, prefixes.as_slice())
+}
+
+// Adds the tables of these items.
+fn push_l0_tables(ids: &mut Listed<Ulid>, items: &[L0Item]) -> Result<(), OutOfMemory>
+    ensures { OnOk result (ids.new ≡ ids.old ++ map (λ i. i.table_id) items.now) }
+{
+    for item in items {
+        ids.push(item.table_id)?;
+    }
+    Ok(())
+}
+
+// Adds these ids.
+fn push_ids(ids: &mut Listed<Ulid>, others: &[Ulid]) -> Result<(), OutOfMemory>
+    ensures { OnOk result (ids.new ≡ ids.old ++ others.now) }
+{
+    for id in others {
+        ids.push(*id)?;
+    }
+    Ok(())
+}
+
+// Adds the tables of these runs.
+fn push_run_tables(ids: &mut Listed<Ulid>, items: &[RunItem]) -> Result<(), OutOfMemory>
+    ensures { OnOk result (ids.new ≡ ids.old ++ flat_map (λ i. i.table_ids) items.now) }
+{
+    for item in items {
+        push_ids(ids, item.table_ids.as_slice())?;
+    }
+    Ok(())
+}
+
+// The tables that are named, as often as they are.
+fn named_tables(alloc: Global, items: &TreeItems) -> Result<Listed<Ulid>, OutOfMemory>
+    ensures { IfOk result (λ ids. ids ≡ databases.named_tables items.now) }
+{
+    let mut ids = Listed::new(alloc);
+    push_l0_tables(&mut ids, items.l0.as_slice())?;
+    push_run_tables(&mut ids, items.runs.as_slice())?;
+    Ok(ids)
+}
+
+// Whether two ids are one.
+fn same_id(a: &Ulid, b: &Ulid) -> bool
+    ensures { result ≡ databases.same_id a.now b.now }
+{
+    a.timestamp_ms() == b.timestamp_ms() && a.tail() == b.tail()
+}
+
+// Whether the id is among these.
+fn has_id(ids: &[Ulid], id: &Ulid) -> bool
+    ensures { result ≡ list_any (databases.same_id id.now) ids.now }
+{
+    ids.iter().any(|other| same_id(id, other))
+}
+
+// Each id once, where it comes first.
+fn once(alloc: Global, named: &[Ulid]) -> Result<Listed<Ulid>, OutOfMemory>
+    ensures { IfOk result (λ ids. ids ≡ databases.once named.now) }
+{
+    let mut ids = Listed::new(alloc);
+    for id in named {
+        if !has_id(ids.as_slice(), id) {
+            ids.push(*id)?;
+        }
+    }
+    Ok(ids)
+}
+
+// The tables of these ids, with what is known of them.
+fn with_infos(alloc: Global, ids: &[Ulid]) -> Result<Listed<(Ulid, SsTableInfo)>, OutOfMemory>
+    ensures { IfOk result (λ tables. tables ≡ map databases.with_info ids.now) }
+{
+    let mut tables = Listed::new(alloc);
+    for id in ids {
+        tables.push((*id, opening_info()))?;
+    }
+    Ok(tables)
+}
+
+/// The tables that are named, each once, with what is known of them.
+pub(crate) fn tables_of(
+    alloc: Global,
+    items: &TreeItems,
+) -> Result<Listed<(Ulid, SsTableInfo)>, OutOfMemory>
+    ensures { IfOk result (λ tables. tables ≡ databases.tables_of items.now) }
+{
+    let named = named_tables(alloc, items)?;
+    let ids = once(alloc, named.as_slice())?;
+    with_infos(alloc, ids.as_slice())
+}
