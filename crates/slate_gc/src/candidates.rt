@@ -4,10 +4,10 @@ ghost use Rattle.slate_gc.specs.Picks as picking;
 
 use crate::numbers::Numbers;
 use crate::pass_options::PassOptions;
-use slate_model::Checkpoint;
-use slate_state::is_named;
 use slate_ids::{Listed, Millis, OutOfMemory};
 use slate_log::LogKind;
+use slate_model::Checkpoint;
+use slate_state::is_named;
 use slate_store::ObjectMetadata;
 use std::alloc::Global;
 

@@ -16,9 +16,9 @@ use crate::numbers::Numbers;
 use crate::pass_counts::PassCounts;
 use crate::pass_options::PassOptions;
 use crate::pass_phase::PassPhase;
-use slate_model::Manifest;
 use slate_ids::{FormatName, Listed, Millis, ObjectCodec, SlateDBError};
 use slate_log::{AdvancePhase, LogKind, boundary_in, greatest};
+use slate_model::Manifest;
 use slate_store::{ObjectMetadata, Step, StoreAnswer, StoredObject};
 use std::alloc::Global;
 

@@ -9,9 +9,9 @@ use crate::numbers::Numbers;
 use crate::onward::{after_advance, after_bound, after_delete, after_get, after_list};
 use crate::pass_counts::PassCounts;
 use crate::pass_options::PassOptions;
-use slate_model::Manifest;
 use slate_ids::{DbPath, Listed, Millis, ObjectCodec, OutOfMemory, SlateDBError};
 use slate_log::{AdvancePhase, LogKind, Sequenced};
+use slate_model::Manifest;
 use slate_store::{ObjectStore, Step, StoreAnswer, StoreCall, perform};
 use std::alloc::Global;
 use std::mem;
@@ -60,11 +60,7 @@ impl PassPhase {
             }
             PassPhase::Bounding(_, _) => { Ok(StoreCall::Get(LogKind::Manifest.boundary_path(db))) }
             PassPhase::Advancing(advance, _) => {
-                let manifests: Sequenced<Manifest, ()> = Sequenced::new(
-                    db,
-                    LogKind::Manifest,
-                    (),
-                );
+                let manifests: Sequenced<Manifest, ()> = Sequenced::new(db, LogKind::Manifest, ());
                 advance.asks(alloc, &manifests)
             }
             PassPhase::Deleting(left, _) => Ok(delete_asks(db, left.first())),

@@ -2,10 +2,10 @@
 ghost use Rattle.std.specs.Prelude.{◌≡◌, true, OnOk};
 
 use crate::{Numbers, PassCounts, PassOptions, PassPhase, is_aged, picks};
-use slate_layout::{ManifestCodec, encode_manifest};
-use slate_model::{Checkpoint, Manifest, ManifestCore};
 use slate_ids::{CheckpointId, DbPath, ObjectPath, SlateDBError};
+use slate_layout::{ManifestCodec, encode_manifest};
 use slate_log::{LogKind, Sequenced};
+use slate_model::{Checkpoint, Manifest, ManifestCore};
 use slate_store::{Mark, MemoryStore, ObjectStore, Step, StoreAnswer};
 use std::alloc::Global;
 use std::process::Abort;
@@ -379,13 +379,7 @@ fn faults_of_deletes_are_counted(rt: HostRuntime) -> Result<(), Fail> {
 fn other_answers_end_the_pass(rt: HostRuntime) -> Result<(), Fail> {
     let alloc = rt.alloc();
     let mut pass = PassPhase::Listing;
-    match pass.goes_on(
-        alloc,
-        &ManifestCodec,
-        &OPTIONS,
-        NOW,
-        &StoreAnswer::Deleted,
-    ) {
+    match pass.goes_on(alloc, &ManifestCodec, &OPTIONS, NOW, &StoreAnswer::Deleted) {
         Step::Done(reply) => assert!(rt; told(&reply).1 == 20),
         Step::Again => return Err("the pass goes on".into()),
     }
