@@ -5,10 +5,16 @@
 pub enum ClusterCause {
     /// Two of them have one path.
     Path,
-    /// An id of a checkpoint comes twice.
+    /// An id of a table or of a checkpoint comes twice, or in a tree a view's id comes twice or the ids of its runs don't fall strictly.
     Ids,
-    /// A manifest has no bytes, or is not what is read back of them.
+    /// A manifest or a table's info has no bytes, or is not what is read back of them.
     Value,
+    /// A segment's prefix begins with another's.
+    Segments,
     /// A checkpoint names another version than the first.
     Checkpoints,
+    /// A table of a tree is not present at its place.
+    Tables,
+    /// The floor is below the watermark.
+    Floor,
 }
