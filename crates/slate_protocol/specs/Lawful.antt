@@ -1,7 +1,6 @@
 -- What holds of every run: one chain, fenced epochs, the rows, exact passes, and the safe trail.
 use Rattle.std.specs.Prelude.{◌≡◌, ℕ, ◌≤◌, ◌<◌, true, List, ◌++◌, map, Some, None}
 use Rattle.std.specs.List.{list_all}
-use Rattle.slate_ids.specs.Ids.{is_db_path}
 use Rattle.slate_ids.specs.declared.object_path.ObjectPath.{ObjectPath}
 use Rattle.slate_script.specs.declared.db_spec.DbSpec.{DbSpec}
 use Rattle.slate_script.specs.declared.event.Event.{Event}
@@ -12,14 +11,14 @@ use Rattle.slate_protocol.specs.Logs.{Chain, Chains, manifests, chains_of, openi
 use Rattle.slate_protocol.specs.Passes.{ExactPasses}
 use Rattle.slate_protocol.specs.Runs.{Course, opening, run}
 use Rattle.slate_protocol.specs.Safe.{gone, IsSafe}
-use Rattle.slate_protocol.specs.Specs.{cause_of_specs, opening_world}
+use Rattle.slate_protocol.specs.Specs.{is_named_spec, cause_of_specs, opening_world}
 use Rattle.slate_protocol.specs.Trails.{numbered, store_of, told}
 use Rattle.slate_protocol.specs.World.{World, tally_of, HasDb}
 
--- accepted databases: no cause refuses them, and each has a name
+-- accepted databases: no cause refuses them, each has a name, and the ids of their tables are ids
 pub record IsAccepted (specs : List DbSpec) : Type 0 where
   pub accepted : cause_of_specs specs ≡ None
-  pub named : list_all (λ spec. is_db_path spec.path) specs ≡ true
+  pub named : list_all is_named_spec specs ≡ true
 
 -- the chains after events on these databases
 abbrev pub chains_at_end : List DbSpec → List Event → Chains

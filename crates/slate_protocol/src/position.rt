@@ -1,9 +1,9 @@
 //! Where a party stands in its call.
 
-use slate_model::Manifest;
 use slate_gc::{PassCounts, PassOptions, PassPhase};
 use slate_ids::DbPath;
 use slate_log::{CommitPhase, ReadPhase};
+use slate_model::Manifest;
 
 /// The phrase under way, at its phase.
 #[derive(Debug, Drop)]
