@@ -1,11 +1,12 @@
 //! A cluster by its own calls.
 
+use crate::test_databases::{database, one_new, one_of};
 use crate::{Cluster, ClusterError, NewError};
 use slate_layout::decode_manifest;
 use slate_model::{Checkpoint, Manifest, ManifestCore};
-use slate_ids::{CheckpointId, DbPath, GcMessage, ObjectPath, SlateDBError, StateCause};
+use slate_ids::{CheckpointId, GcMessage, ObjectPath, SlateDBError, StateCause};
 use slate_script::{
-    Call, ClusterCause, DbSpec, Entry, Event, FilterWord, PartyKind, Reply, Script, read_script,
+    Call, ClusterCause, Entry, Event, FilterWord, PartyKind, Reply, Script, read_script,
 };
 use slate_store::Mark;
 use std::alloc::Global;
@@ -44,7 +45,7 @@ fn check_version(
     bytes: &[u8],
     moment: i64,
 ) -> Result<(), Fail> {
-    let db = DbPath::from_text("db")?.ok_or("no path of a database")?;
+    let db = database()?;
     let path = ObjectPath::Manifest(db, number);
     let object = cluster.store().object(&path).ok_or("no object")?;
     assert_eq!(rt; object.bytes.as_slice(), bytes);
@@ -94,7 +95,7 @@ fn goes_on_after_a_bad_event(rt: HostRuntime) -> Result<(), Fail> {
 
 // A collector of `db` that starts a pass.
 fn passing(alloc: Global, pass: GcMessage) -> Result<Vec<Event>, Fail> {
-    let db = DbPath::from_text("db")?.ok_or("no path of a database")?;
+    let db = database()?;
     let mut events = Vec::new(alloc);
     events.push(Event::Open {
         party: 1,
@@ -136,18 +137,6 @@ fn manifests_alone_have_a_pass(rt: HostRuntime) -> Result<(), Fail> {
     Ok(())
 }
 
-// The database `db` with this manifest.
-fn database_of(alloc: Global, manifest: Manifest) -> Result<Vec<DbSpec>, Fail> {
-    let path = DbPath::from_text("db")?.ok_or("no path of a database")?;
-    let mut specs = Vec::new(alloc);
-    specs.push(DbSpec {
-        path,
-        manifest,
-        modified: 0,
-    })?;
-    Ok(specs)
-}
-
 // A checkpoint of the version of this number.
 fn checkpoint_of(version: u64) -> Checkpoint {
     Checkpoint {
@@ -166,19 +155,19 @@ fn opening_checkpoints_name_the_first_version(rt: HostRuntime) -> Result<(), Fai
     manifest.core.checkpoints.push(checkpoint_of(2))?;
     assert!(rt;
         matches!(
-            Cluster::new(alloc, database_of(alloc, manifest)?),
+            Cluster::new(alloc, one_of(alloc, manifest)?),
             Err(NewError::BadCluster(ClusterCause::Checkpoints))
         )
     );
     let mut manifest = Manifest::initial(alloc, ManifestCore::new(alloc));
     manifest.core.checkpoints.push(checkpoint_of(1))?;
-    assert!(rt; Cluster::new(alloc, database_of(alloc, manifest)?).is_ok());
+    assert!(rt; Cluster::new(alloc, one_of(alloc, manifest)?).is_ok());
     Ok(())
 }
 
 // The events of a holder that writes a checkpoint, in five steps.
 fn writes_checkpoint(alloc: Global) -> Result<Vec<Event>, Fail> {
-    let db = DbPath::from_text("db")?.ok_or("no path of a database")?;
+    let db = database()?;
     let mut events = Vec::new(alloc);
     events.push(Event::Open {
         party: 1,
@@ -229,11 +218,11 @@ fn no_checkpoint_without_source_before_the_database_is_initialised(
     let alloc = rt.alloc();
     let mut manifest = Manifest::initial(alloc, ManifestCore::new(alloc));
     manifest.core.initialized = false;
-    let mut cluster = Cluster::new(alloc, database_of(alloc, manifest)?)?;
+    let mut cluster = Cluster::new(alloc, one_of(alloc, manifest)?)?;
     let events = writes_checkpoint(alloc)?;
     cluster.run(alloc, events.as_slice())?;
     assert!(rt; cluster.trail().iter().any(|e| tells_not_initialised(e)));
-    let db = DbPath::from_text("db")?.ok_or("no path of a database")?;
+    let db = database()?;
     assert!(rt;
         cluster
             .store()
@@ -247,16 +236,17 @@ fn no_checkpoint_without_source_before_the_database_is_initialised(
 #[test]
 fn a_checkpoint_stands_in_its_own_version(rt: HostRuntime) -> Result<(), Fail> {
     let alloc = rt.alloc();
-    let mut cluster = Cluster::new(alloc, database_of(alloc, Manifest::initial(alloc, ManifestCore::new(alloc)))?)?;
+    let mut cluster = Cluster::new(alloc, one_new(alloc)?)?;
     let events = writes_checkpoint(alloc)?;
     cluster.run(alloc, events.as_slice())?;
-    let db = DbPath::from_text("db")?.ok_or("no path of a database")?;
+    let db = database()?;
     let object = cluster
         .store()
         .object(&ObjectPath::Manifest(db, 2))
         .ok_or("no object")?;
     let manifest = decode_manifest(alloc, object.bytes.as_slice())?;
     let found = manifest
+        .core
         .checkpoints
         .as_slice()
         .first()

@@ -3,27 +3,10 @@
 use crate::Cluster;
 use crate::audit::audit_run;
 use crate::generator::generated;
-use slate_model::{Manifest, ManifestCore};
-use slate_ids::DbPath;
-use slate_script::DbSpec;
+use crate::test_databases::{database, one_new};
 use std::alloc::Global;
 use std::process::Abort;
 use std::test::Fail;
-
-fn database() -> Result<DbPath, Fail> {
-    Ok(DbPath::from_text("db")?.ok_or("no path of a database")?)
-}
-
-// A cluster with one new database.
-fn one_new(alloc: Global, path: DbPath) -> Result<Cluster, Fail> {
-    let mut specs = Vec::new(alloc);
-    specs.push(DbSpec {
-        path,
-        manifest: Manifest::initial(alloc, ManifestCore::new(alloc)),
-        modified: 0,
-    })?;
-    Ok(Cluster::new(alloc, specs)?)
-}
 
 // Runs and audits the lists of 500 seeds from this one on. They have passes that delete, and late puts.
 fn check_lists(rt: &impl Abort, alloc: Global, first: u64) -> Result<(), Fail> {
@@ -32,7 +15,7 @@ fn check_lists(rt: &impl Abort, alloc: Global, first: u64) -> Result<(), Fail> {
     let mut late_puts = 0u64;
     for i in 0..500u64 {
         let events = generated(alloc, db, first.saturating_add(i))?;
-        let mut cluster = one_new(alloc, db)?;
+        let mut cluster = Cluster::new(alloc, one_new(alloc)?)?;
         cluster.run(alloc, events.as_slice())?;
         let counts = audit_run(rt, alloc, db, cluster.trail(), cluster.store())?;
         passes = passes.saturating_add(counts.passes);

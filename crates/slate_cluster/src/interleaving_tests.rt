@@ -2,32 +2,17 @@
 ghost use Rattle.std.specs.Prelude.{◌<◌};
 
 use crate::Cluster;
+use crate::test_databases::{database, one_new};
 use slate_layout::decode_manifest;
-use slate_model::{Manifest, ManifestCore};
-use slate_ids::{DbPath, ObjectPath, SlateDBError};
-use slate_script::{Call, DbSpec, Entry, Event, PartyKind, Reply};
+use slate_model::Manifest;
+use slate_ids::{ObjectPath, SlateDBError};
+use slate_script::{Call, Entry, Event, PartyKind, Reply};
 use slate_store::{Mark, StoreAnswer};
 use std::alloc::Global;
 use std::process::Abort;
 use std::test::Fail;
 
 const FLUSH: Call = Call::Flush { seq: 0, tick: 0 };
-
-fn database() -> Result<DbPath, Fail> {
-    Ok(DbPath::from_text("db")?.ok_or("no path of a database")?)
-}
-
-fn one_new(alloc: Global) -> Result<Vec<DbSpec>, Fail> {
-    let path = database()?;
-    let manifest = Manifest::initial(alloc, ManifestCore::new(alloc));
-    let mut specs = Vec::new(alloc);
-    specs.push(DbSpec {
-        path,
-        manifest,
-        modified: 0,
-    })?;
-    Ok(specs)
-}
 
 // Does the events on a new database.
 fn run(alloc: Global, events: &[Event]) -> Result<Cluster, Fail> {
@@ -143,13 +128,20 @@ fn three_opens(alloc: Global, code: u32) -> Result<Vec<Event>, Fail> {
     Ok(events)
 }
 
-// All 11,550 orders of three opens up to their puts in which this writer steps first.
-fn check_three_opens(rt: &impl Abort, alloc: Global, first: u32) -> Result<(), Fail>
+// All orders of three opens up to their puts in which these writers step first and second, and how many they are.
+fn check_three_opens(
+    rt: &impl Abort,
+    alloc: Global,
+    first: u32,
+    second: u32,
+    orders: u32,
+) -> Result<(), Fail>
     requires { first < 3 }
+    requires { second < 3 }
 {
     let mut runs = 0u32;
-    for rest in 0..177147 {
-        let code = 3 * rest + first;
+    for rest in 0..59049 {
+        let code = 9 * rest + 3 * second + first;
         if is_four_each(code) {
             let events = three_opens(alloc, code)?;
             let cluster = run(alloc, events.as_slice())?;
@@ -157,24 +149,55 @@ fn check_three_opens(rt: &impl Abort, alloc: Global, first: u32) -> Result<(), F
             runs = runs.saturating_add(1);
         }
     }
-    assert_eq!(rt; runs, 11550);
+    assert_eq!(rt; runs, orders);
     Ok(())
 }
 
-// Three opens of four steps each have 34,650 orders, a third for each writer that may step first.
+// Three opens of four steps each have 34,650 orders: 3,150 for each writer that may step first and second, and 4,200 for each
+// two that may do so one after the other.
 #[test]
-fn three_opens_and_writer_0_steps_first(rt: HostRuntime) -> Result<(), Fail> {
-    check_three_opens(&rt, rt.alloc(), 0)
+fn three_opens_and_writer_0_steps_twice(rt: HostRuntime) -> Result<(), Fail> {
+    check_three_opens(&rt, rt.alloc(), 0, 0, 3150)
 }
 
 #[test]
-fn three_opens_and_writer_1_steps_first(rt: HostRuntime) -> Result<(), Fail> {
-    check_three_opens(&rt, rt.alloc(), 1)
+fn three_opens_and_writer_0_steps_before_writer_1(rt: HostRuntime) -> Result<(), Fail> {
+    check_three_opens(&rt, rt.alloc(), 0, 1, 4200)
 }
 
 #[test]
-fn three_opens_and_writer_2_steps_first(rt: HostRuntime) -> Result<(), Fail> {
-    check_three_opens(&rt, rt.alloc(), 2)
+fn three_opens_and_writer_0_steps_before_writer_2(rt: HostRuntime) -> Result<(), Fail> {
+    check_three_opens(&rt, rt.alloc(), 0, 2, 4200)
+}
+
+#[test]
+fn three_opens_and_writer_1_steps_before_writer_0(rt: HostRuntime) -> Result<(), Fail> {
+    check_three_opens(&rt, rt.alloc(), 1, 0, 4200)
+}
+
+#[test]
+fn three_opens_and_writer_1_steps_twice(rt: HostRuntime) -> Result<(), Fail> {
+    check_three_opens(&rt, rt.alloc(), 1, 1, 3150)
+}
+
+#[test]
+fn three_opens_and_writer_1_steps_before_writer_2(rt: HostRuntime) -> Result<(), Fail> {
+    check_three_opens(&rt, rt.alloc(), 1, 2, 4200)
+}
+
+#[test]
+fn three_opens_and_writer_2_steps_before_writer_0(rt: HostRuntime) -> Result<(), Fail> {
+    check_three_opens(&rt, rt.alloc(), 2, 0, 4200)
+}
+
+#[test]
+fn three_opens_and_writer_2_steps_before_writer_1(rt: HostRuntime) -> Result<(), Fail> {
+    check_three_opens(&rt, rt.alloc(), 2, 1, 4200)
+}
+
+#[test]
+fn three_opens_and_writer_2_steps_twice(rt: HostRuntime) -> Result<(), Fail> {
+    check_three_opens(&rt, rt.alloc(), 2, 2, 3150)
 }
 
 // Two writers that open: the steps of writer 1 are those of the ones of this mask.

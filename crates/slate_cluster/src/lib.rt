@@ -50,6 +50,8 @@ mod state;
 mod status;
 mod steps;
 mod tallies;
+#[cfg(test)]
+mod test_databases;
 mod top_call;
 mod values;
 

@@ -1,17 +1,13 @@
 //! A pass that is raced by a second one at each of its steps.
 
 use crate::Cluster;
-use slate_model::{Manifest, ManifestCore};
-use slate_ids::{DbPath, GcMessage, ObjectPath};
-use slate_script::{Call, DbSpec, Entry, Event, FilterWord, PartyKind, Reply};
+use crate::test_databases::{database, one_new};
+use slate_ids::{GcMessage, ObjectPath};
+use slate_script::{Call, Entry, Event, FilterWord, PartyKind, Reply};
 use slate_store::Mark;
 use std::alloc::Global;
 use std::process::Abort;
 use std::test::Fail;
-
-fn database() -> Result<DbPath, Fail> {
-    Ok(DbPath::from_text("db")?.ok_or("no path of a database")?)
-}
 
 // Steps of a party, one after the other.
 fn push_steps(events: &mut Vec<Event>, party: u32, moment: i64, times: u32) -> Result<(), Fail> {
@@ -67,13 +63,7 @@ fn racing(alloc: Global, before: u32) -> Result<Vec<Event>, Fail> {
 }
 
 fn run(alloc: Global, events: &[Event]) -> Result<Cluster, Fail> {
-    let mut specs = Vec::new(alloc);
-    specs.push(DbSpec {
-        path: database()?,
-        manifest: Manifest::initial(alloc, ManifestCore::new(alloc)),
-        modified: 0,
-    })?;
-    let mut cluster = Cluster::new(alloc, specs)?;
+    let mut cluster = Cluster::new(alloc, one_new(alloc)?)?;
     cluster.run(alloc, events)?;
     Ok(cluster)
 }
