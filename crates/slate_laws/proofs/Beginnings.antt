@@ -1,4 +1,4 @@
--- What stands as a run begins: of each database its first manifest, and nothing else.
+-- What stands as a run begins: of each database its first manifest.
 use Rattle.std.proofs.Common.{◌≡◌, ◌≢◌, ℕ, Bool, true, false, List, [], ◌∷◌, Option, Some, None, is_some, ⊎_elim, refl, sym, ap, ◌∙◌, subst, arith}
 use Rattle.std.specs.Prelude.{bytes_eq, if◌then◌else◌, ◌&&◌}
 use Rattle.std.specs.List.{list_all}
@@ -17,7 +17,7 @@ use Rattle.slate_log.specs.declared.log_kind.LogKind.TheVariants.{Manifest as Ma
 use Rattle.slate_store.specs.Store.{Store, object_at, stored}
 use Rattle.slate_script.specs.declared.db_spec.DbSpec.{DbSpec}
 use Rattle.slate_protocol.specs.Chains.{bytes_of}
-use Rattle.slate_protocol.specs.Specs.{First, first_tally, tallies_from, and_more, first_bytes, first_added, firsts_from, listed_or_none, store_from}
+use Rattle.slate_protocol.specs.Specs.{First, is_ulid, is_named_spec, first_tally, tallies_from, and_more, first_bytes, first_added, firsts_from, listed_or_none, store_from}
 use Rattle.slate_protocol.specs.World.{db_cmp, tally_of}
 use Rattle.slate_protocol.specs.declared.tally.Tally.{Tally}
 use Rattle.slate_laws.proofs.Stores.{IsTidy, bytes_same, no_bytes, same_name, finds, passes_by, same_found, tidy_put, put_object, at_put, at_else}
@@ -35,17 +35,26 @@ spec_here d spec specs e = ap (λ (b : Bool). if b then Some spec else spec_of d
 spec_there : (d : List ℕ) (spec : DbSpec) (specs : List DbSpec) → d ≢ spec.path → spec_of d (spec ∷ specs) ≡ spec_of d specs
 spec_there d spec specs ne = ap (λ (b : Bool). if b then Some spec else spec_of d specs) (no_bytes d spec.path ne)
 
--- each database has a name
+-- each database has a name, and its tables have ids
 abbrev pub AllNamed : List DbSpec → Type 0
-AllNamed specs = list_all (λ spec. is_db_path spec.path) specs ≡ true
+AllNamed specs = list_all is_named_spec specs ≡ true
 
 both : (a b : Bool) → (a && b) ≡ true → (a ≡ true) × (b ≡ true)
 both true true h = (refl, refl)
 both true false h = absurd cc
 both false b h = absurd cc
 
-named_parts : (spec : DbSpec) (specs : List DbSpec) → AllNamed (spec ∷ specs) → (is_db_path spec.path ≡ true) × AllNamed specs
-named_parts spec specs h = both (is_db_path spec.path) (list_all (λ s. is_db_path s.path) specs) h
+-- what the names of databases say of the first
+pub record IsNamed (spec : DbSpec) (specs : List DbSpec) : Type 0 where
+  pub path : is_db_path spec.path ≡ true
+  pub tables : list_all (λ t. is_ulid t.0) spec.tables ≡ true
+  pub rest : AllNamed specs
+
+pub named_parts : (spec : DbSpec) (specs : List DbSpec) → AllNamed (spec ∷ specs) → IsNamed spec specs
+named_parts spec specs h =
+    let all = both (is_named_spec spec) (list_all is_named_spec specs) h in
+    let own = both (is_db_path spec.path) (list_all (λ t. is_ulid t.0) spec.tables) all.0 in
+    record { path = own.0; tables = own.1; rest = all.1 }
 
 -- ---- the databases by path
 
@@ -104,7 +113,7 @@ tallies_found d tallies (spec ∷ specs) all h =
 
 -- ---- the first objects by path
 
-abbrev Firsts : Type 0
+abbrev pub Firsts : Type 0
 Firsts = List (ObjectPath × First)
 
 abbrev later : Option First → Option First → Option First
@@ -135,7 +144,7 @@ last_here p v (o ∷ os) h = step (path_cmp p o.0) refl (last_here p v os parts.
     step Greater at rest = ap (λ (x : Option First). later x (if is_at (path_cmp p) o.0 then Some o.1 else None)) rest
 
 -- and at another text nothing changes
-last_else : (p q : ObjectPath) (v : First) (os : Firsts) → path_text q ≢ path_text p → last_at q (insert_entry path_cmp os p v) ≡ last_at q os
+pub last_else : (p q : ObjectPath) (v : First) (os : Firsts) → path_text q ≢ path_text p → last_at q (insert_entry path_cmp os p v) ≡ last_at q os
 last_else p q v [] ne = ap (λ (b : Bool). if b then Some v else None) (passes_by q p ne)
 last_else p q v (o ∷ os) ne = step (path_cmp p o.0) refl (last_else p q v os ne)
   where
@@ -189,7 +198,7 @@ module _ (d : List ℕ) (named : is_db_path d ≡ true) where
       let has = has_bytes firsts spec specs objects k in
       let parts = named_parts spec specs names in
       let found = λ (link' : is_some (tally_of d (more tallies spec)) ≡ false → last_at own (insert_entry path_cmp firsts (first_path spec) (has.bytes, spec.modified)) ≡ None).
-      firsts_found (more tallies spec) (insert_entry path_cmp firsts (first_path spec) (has.bytes, spec.modified)) specs all objects parts.1 new.rest has.rest link' in
+      firsts_found (more tallies spec) (insert_entry path_cmp firsts (first_path spec) (has.bytes, spec.modified)) specs all objects parts.rest new.rest has.rest link' in
       ⊎_elim
       (λ (e : d ≡ spec.path).
       let there = ap is_some (tally_here d tallies spec e) in
@@ -202,7 +211,7 @@ module _ (d : List ℕ) (named : is_db_path d ≡ true) where
       ∙ (ap (λ (o : Option DbSpec). first_for o (last_at own (insert_entry path_cmp firsts (first_path spec) (has.bytes, spec.modified)))) alone
       ∙ (here ∙ (ap (λ (o : Option (List ℕ)). Some (listed_or_none o, spec.modified)) (sym has.is) ∙ sym (ap (λ (o : Option DbSpec). first_for o (last_at own firsts)) (spec_here d spec specs e))))))
       (λ (ne : d ≢ spec.path).
-      let off = last_else (first_path spec) own (has.bytes, spec.modified) firsts (apart spec parts.0 ne) in
+      let off = last_else (first_path spec) own (has.bytes, spec.modified) firsts (apart spec parts.path ne) in
       found (λ no. off ∙ link (sym (ap is_some (tally_there d tallies spec ne)) ∙ no))
       ∙ (ap (first_for (spec_of d specs)) off ∙ sym (ap (λ (o : Option DbSpec). first_for o (last_at own firsts)) (spec_there d spec specs ne))))
       (same_name d spec.path)
@@ -214,7 +223,7 @@ firsts_else q away firsts [] objects names h = let same : firsts ≡ objects = c
 firsts_else q away firsts (spec ∷ specs) objects names h =
     let has = has_bytes firsts spec specs objects h in
     let parts = named_parts spec specs names in
-    firsts_else q away (insert_entry path_cmp firsts (first_path spec) (has.bytes, spec.modified)) specs objects parts.1 has.rest ∙ last_else (first_path spec) q (has.bytes, spec.modified) firsts (away spec parts.0)
+    firsts_else q away (insert_entry path_cmp firsts (first_path spec) (has.bytes, spec.modified)) specs objects parts.rest has.rest ∙ last_else (first_path spec) q (has.bytes, spec.modified) firsts (away spec parts.path)
 
 -- what is known of a database that is found
 pub record IsFound (d : List ℕ) (spec : DbSpec) : Type 0 where
@@ -231,8 +240,8 @@ spec_found d firsts (spec ∷ specs) objects found names h at =
     ⊎_elim
     (λ (e : d ≡ spec.path).
     let same : spec ≡ found = cc (spec_here d spec specs e, at) in
-    subst (IsFound d) same (record { path = e; named = subst (λ x. is_db_path x ≡ true) (sym e) parts.0; bytes = has.bytes; is = has.is }))
-    (λ (ne : d ≢ spec.path). spec_found d (insert_entry path_cmp firsts (first_path spec) (has.bytes, spec.modified)) specs objects found parts.1 has.rest (sym (spec_there d spec specs ne) ∙ at))
+    subst (IsFound d) same (record { path = e; named = subst (λ x. is_db_path x ≡ true) (sym e) parts.path; bytes = has.bytes; is = has.is }))
+    (λ (ne : d ≢ spec.path). spec_found d (insert_entry path_cmp firsts (first_path spec) (has.bytes, spec.modified)) specs objects found parts.rest has.rest (sym (spec_there d spec specs ne) ∙ at))
     (same_name d spec.path)
 
 -- ---- the store
@@ -275,7 +284,7 @@ abbrev pub AllFine : Firsts → Type 0
 AllFine [] = Unit {0}
 AllFine (o ∷ os) = IsFine o.0 × AllFine os
 
-fine_put : (p : ObjectPath) (v : First) → IsFine p → (os : Firsts) → AllFine os → AllFine (insert_entry path_cmp os p v)
+pub fine_put : (p : ObjectPath) (v : First) → IsFine p → (os : Firsts) → AllFine os → AllFine (insert_entry path_cmp os p v)
 fine_put p v fine [] h = (fine, tt)
 fine_put p v fine (o ∷ os) h = step (path_cmp p o.0) (fine_put p v fine os h.1)
   where
@@ -289,7 +298,7 @@ firsts_fine firsts [] objects names h fine = let same : firsts ≡ objects = cc 
 firsts_fine firsts (spec ∷ specs) objects names h fine =
     let has = has_bytes firsts spec specs objects h in
     let parts = named_parts spec specs names in
-    firsts_fine (insert_entry path_cmp firsts (first_path spec) (has.bytes, spec.modified)) specs objects parts.1 has.rest (fine_put (first_path spec) (has.bytes, spec.modified) (version_fine spec.path parts.0 ManifestLog 1 (omega arith)) firsts fine)
+    firsts_fine (insert_entry path_cmp firsts (first_path spec) (has.bytes, spec.modified)) specs objects parts.rest has.rest (fine_put (first_path spec) (has.bytes, spec.modified) (version_fine spec.path parts.path ManifestLog 1 (omega arith)) firsts fine)
 
 pub store_tidy : (s : Store) (os : Firsts) → AllFine os → IsTidy s.objects → IsTidy (store_from s os).objects
 store_tidy s [] fine tidy = tidy

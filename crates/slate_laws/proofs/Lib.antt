@@ -22,6 +22,7 @@ pub mod Rows
 pub mod Trails
 pub mod GoingOn
 pub mod Beginnings
+pub mod OpeningTables
 pub mod Opening
 pub mod Deletes
 pub mod Exact

@@ -23,43 +23,59 @@ use Rattle.slate_script.specs.declared.db_spec.DbSpec.{DbSpec}
 use Rattle.slate_store.specs.Store.{Store, object_at}
 use Rattle.slate_store.specs.declared.object.StoredObject.{StoredObject}
 use Rattle.slate_protocol.specs.Chains.{top, bytes_of, link_bytes, Stands}
-use Rattle.slate_protocol.specs.Ids.{Carried}
 use Rattle.slate_protocol.specs.Lawful.{IsAccepted}
 use Rattle.slate_protocol.specs.Logs.{Chain, manifests, opening_link, opening_chains}
 use Rattle.slate_protocol.specs.Reach.{IsNeeded}
 use Rattle.slate_protocol.specs.Reach.IsNeeded.{Greatest, Named}
-use Rattle.slate_protocol.specs.Specs.{First, first_tally, tallies_from, carried_from, bytes_where, first_bytes, firsts_from, names_other, cause_of_specs, listed_or_none, no_objects, store_from, opening_world}
+use Rattle.slate_protocol.specs.Specs.{First, first_tally, tallies_from, are_ids_fine, and_more, bytes_where, first_bytes, firsts_from, all_tables_from, objects_of, overlaps, names_other, lacks_table, is_floor_low, cause_beside, cause_of_specs, listed_or_none, no_objects, store_from, opening_world}
 use Rattle.slate_protocol.specs.World.{World, tally_of, HasDb}
 use Rattle.slate_protocol.specs.declared.tally.Tally.{Tally}
-use Rattle.slate_laws.proofs.Beginnings.{spec_of, AllNamed, tally_for, tallies_found, first_for, firsts_found, firsts_else, last_at, IsFound, spec_found, bytes_found, store_found, firsts_fine, store_tidy}
+use Rattle.slate_laws.proofs.Beginnings.{spec_of, AllNamed, Firsts, tally_for, tallies_found, first_for, firsts_found, firsts_else, last_at, IsFound, spec_found, bytes_found, store_found, firsts_fine, store_tidy}
 use Rattle.slate_laws.proofs.Facts.{IsCommitted, IsSound}
 use Rattle.slate_laws.proofs.Links.{same_or_not, link_here, link_there}
-use Rattle.slate_laws.proofs.Paths.{versions_apart, boundary_apart, manifest_elsewhere}
+use Rattle.slate_laws.proofs.OpeningTables.{IsNoTable, tables_else, tables_fine}
+use Rattle.slate_laws.proofs.Paths.{version_fine, boundary_fine, versions_apart, boundary_apart, manifest_elsewhere}
 use Rattle.slate_laws.proofs.Runs.{Inv}
 use Rattle.slate_laws.proofs.Stores.{same_name}
+
+-- the objects are the first manifests, and the tables beside them
+record IsMade (specs : List DbSpec) (objects : Firsts) : Type 0 where
+  pub firsts : Firsts
+  pub written : firsts_from [] specs ≡ Some firsts
+  pub added : all_tables_from firsts specs ≡ Some objects
+
+made_of : (specs : List DbSpec) (objects : Firsts) (o : Option Firsts) → firsts_from [] specs ≡ o → and_more o (λ (firsts : Firsts). all_tables_from firsts specs) ≡ Some objects → IsMade specs objects
+made_of specs objects None is h = absurd cc
+made_of specs objects (Some firsts) is h = record { firsts = firsts; written = is; added = h }
 
 -- what accepted databases are made of
 record Parts (specs : List DbSpec) : Type 0 where
   pub tallies : List (List ℕ × Tally)
   pub tallied : tallies_from [] specs ≡ Some tallies
-  pub objects : List (ObjectPath × First)
-  pub written : firsts_from [] specs ≡ Some objects
+  pub objects : Firsts
+  pub is : objects_of specs ≡ Some objects
+  pub made : IsMade specs objects
   pub own : list_any names_other specs ≡ false
 
-parts_of : (specs : List DbSpec) → cause_of_specs specs ≡ None → Parts specs
-parts_of specs h = by_tallies (tallies_from [] specs) (carried_from [] specs) (firsts_from [] specs) refl refl h
+-- where no cause is left, the checkpoints name first versions
+names_own : (specs : List DbSpec) (objects : Firsts) → cause_beside objects specs ≡ None → list_any names_other specs ≡ false
+names_own specs objects h = by_both (list_any overlaps specs) (list_any names_other specs) h
   where
-    by_names : (b : Bool) → (if b then Some cause.Checkpoints else None) ≡ None → b ≡ false
-    by_names true h = absurd cc
-    by_names false h = refl
+    by_both : (b c : Bool) → (if b then Some cause.Segments else (if c then Some cause.Checkpoints else (if list_any (lacks_table objects) specs then Some cause.Tables else (if list_any is_floor_low specs then Some cause.Floor else None)))) ≡ None → c ≡ false
+    by_both true c h = absurd cc
+    by_both false true h = absurd cc
+    by_both false false h = refl
 
-    by_tallies : (t : Option (List (List ℕ × Tally))) (c : Option Carried) (o : Option (List (ObjectPath × First))) → tallies_from [] specs ≡ t → firsts_from [] specs ≡ o
-        → (if not (is_some t) then Some cause.Path else (if not (is_some c) then Some cause.Ids else (if not (is_some o) then Some cause.Value else (if list_any names_other specs then Some cause.Checkpoints else None)))) ≡ None
+parts_of : (specs : List DbSpec) → cause_of_specs specs ≡ None → Parts specs
+parts_of specs h = by_tallies (tallies_from [] specs) (are_ids_fine specs) (objects_of specs) refl refl h
+  where
+    by_tallies : (t : Option (List (List ℕ × Tally))) (ids : Bool) (o : Option Firsts) → tallies_from [] specs ≡ t → objects_of specs ≡ o
+        → (if not (is_some t) then Some cause.Path else (if not ids then Some cause.Ids else (if not (is_some o) then Some cause.Value else cause_beside (listed_or_none o) specs))) ≡ None
         → Parts specs
-    by_tallies (Some t) (Some c) (Some o) is_t is_o h = record { tallies = t; tallied = is_t; objects = o; written = is_o; own = by_names (list_any names_other specs) h }
-    by_tallies None c o is_t is_o h = absurd cc
-    by_tallies (Some t) None o is_t is_o h = absurd cc
-    by_tallies (Some t) (Some c) None is_t is_o h = absurd cc
+    by_tallies (Some t) true (Some o) is_t is_o h = record { tallies = t; tallied = is_t; objects = o; is = is_o; made = made_of specs o (firsts_from [] specs) refl is_o; own = names_own specs o h }
+    by_tallies None ids o is_t is_o h = absurd cc
+    by_tallies (Some t) false o is_t is_o h = absurd cc
+    by_tallies (Some t) true None is_t is_o h = absurd cc
 
 -- both of two are false
 neither : (a b : Bool) → (a || b) ≡ false → (a ≡ false) × (b ≡ false)
@@ -133,13 +149,17 @@ module _ (specs : List DbSpec) (accepted : IsAccepted specs) where
   tallies_are = ap listed_or_none parts.tallied
 
   store_is : w.store ≡ store_from no_objects parts.objects
-  store_is = ap (λ (o : Option (List (ObjectPath × First))). store_from no_objects (listed_or_none o)) parts.written
+  store_is = ap (λ (o : Option Firsts). store_from no_objects (listed_or_none o)) parts.is
 
   tally_is : (d : List ℕ) → tally_of d w.tallies ≡ tally_for (spec_of d specs) None
   tally_is d = ap (tally_of d) tallies_are ∙ tallies_found d [] specs parts.tallies parts.tallied
 
   bytes_at : (p : ObjectPath) → bytes_of (object_at p w.store) ≡ bytes_found (last_at p parts.objects) None
   bytes_at p = ap (λ (s : Store). bytes_of (object_at p s)) store_is ∙ store_found p no_objects parts.objects
+
+  -- where no table stands, the first manifests alone are found
+  beside_tables : (p : ObjectPath) → IsNoTable p → last_at p parts.objects ≡ last_at p parts.made.firsts
+  beside_tables p other = tables_else p other parts.made.firsts specs parts.objects names parts.made.added
 
   -- what is known of a database of the cluster
   record Known (d : List ℕ) : Type 0 where
@@ -152,7 +172,7 @@ module _ (specs : List DbSpec) (accepted : IsAccepted specs) where
     where
       by_spec : (o : Option DbSpec) → spec_of d specs ≡ o → Known d
       by_spec None is = absurd (cc (h, ap is_some (tally_is d), ap (λ (o : Option DbSpec). is_some (tally_for o None)) is))
-      by_spec (Some spec) is = record { spec = spec; at = is; found = spec_found d [] specs parts.objects spec names parts.written is }
+      by_spec (Some spec) is = record { spec = spec; at = is; found = spec_found d [] specs parts.made.firsts spec names parts.made.written is }
 
   module _ (d : List ℕ) (has : HasDb w d) where
     it : Known d
@@ -167,18 +187,25 @@ module _ (specs : List DbSpec) (accepted : IsAccepted specs) where
     chain_is : opening_chains specs d ≡ chain
     chain_is = chains_are d specs ∙ ap chain_for it.at
 
-    nothing_at : (p : ObjectPath) → ((spec : DbSpec) → is_db_path spec.path ≡ true → path_text p ≢ path_text (version_path ManifestLog spec.path 1)) → object_at p w.store ≡ None
-    nothing_at p away = no_bytes_there (object_at p w.store) (bytes_at p ∙ ap (λ (o : Option First). bytes_found o None) (firsts_else p away [] specs parts.objects names parts.written))
+    version_other : (k : ℕ) → k < 2 ^ 64 → IsNoTable (version_path ManifestLog d k)
+    version_other k small = record { fine = version_fine d named ManifestLog k small; away = λ db id e. absurd cc }
+
+    boundary_other : IsNoTable (boundary_path ManifestLog d)
+    boundary_other = record { fine = boundary_fine d named ManifestLog; away = λ db id e. absurd cc }
+
+    nothing_at : (p : ObjectPath) → IsNoTable p → ((spec : DbSpec) → is_db_path spec.path ≡ true → path_text p ≢ path_text (version_path ManifestLog spec.path 1)) → object_at p w.store ≡ None
+    nothing_at p other away =
+        no_bytes_there (object_at p w.store) (bytes_at p ∙ ap (λ (o : Option First). bytes_found o None) (beside_tables p other ∙ firsts_else p away [] specs parts.made.firsts names parts.made.written))
 
     no_boundary : object_at (boundary_path ManifestLog d) w.store ≡ None
-    no_boundary = nothing_at (boundary_path ManifestLog d) (λ spec other.
+    no_boundary = nothing_at (boundary_path ManifestLog d) boundary_other (λ spec other.
         ⊎_elim
         (λ (e : d ≡ spec.path). subst (λ x. path_text (boundary_path ManifestLog d) ≢ path_text (version_path ManifestLog x 1)) e (boundary_apart d named ManifestLog 1 (omega arith)))
         (λ (ne : d ≢ spec.path). (manifest_elsewhere d named spec.path 1 other (omega arith) ne).boundary)
         (same_name d spec.path))
 
     no_other : (k : ℕ) → k < 2 ^ 64 → k ≢ 1 → object_at (version_path ManifestLog d k) w.store ≡ None
-    no_other k small ne = nothing_at (version_path ManifestLog d k) (λ spec other.
+    no_other k small ne = nothing_at (version_path ManifestLog d k) (version_other k small) (λ spec other.
         ⊎_elim
         (λ (e : d ≡ spec.path). subst (λ x. path_text (version_path ManifestLog d k) ≢ path_text (version_path ManifestLog x 1)) e (versions_apart d named ManifestLog k 1 small (omega arith) ne))
         (λ (off : d ≢ spec.path). (manifest_elsewhere d named spec.path 1 other (omega arith) off).version k small)
@@ -187,7 +214,7 @@ module _ (specs : List DbSpec) (accepted : IsAccepted specs) where
     first_there : bytes_of (object_at (version_path ManifestLog d 1) w.store) ≡ Some (listed_or_none (first_bytes it.spec.manifest))
     first_there =
         bytes_at (version_path ManifestLog d 1)
-        ∙ (ap (λ (o : Option First). bytes_found o None) (firsts_found d named [] [] specs parts.tallies parts.objects names parts.tallied parts.written (λ h. refl))
+        ∙ (ap (λ (o : Option First). bytes_found o None) (beside_tables (version_path ManifestLog d 1) (version_other 1 (omega arith)) ∙ firsts_found d named [] [] specs parts.tallies parts.made.firsts names parts.tallied parts.made.written (λ h. refl))
         ∙ ap (λ (o : Option DbSpec). bytes_found (first_for o None) None) it.at)
 
     first_stands : (k : ℕ) → 0 < k → k < 2 ^ 64 → Stands manifests d w.store chain k
@@ -224,7 +251,7 @@ module _ (specs : List DbSpec) (accepted : IsAccepted specs) where
 
   pub opening_inv : Inv w (opening_chains specs)
   opening_inv = record {
-    tidy = subst (λ (s : Store). Rattle.slate_laws.proofs.Stores.IsTidy s.objects) (sym store_is) (store_tidy no_objects parts.objects (firsts_fine [] specs parts.objects names parts.written tt) tt);
+    tidy = subst (λ (s : Store). Rattle.slate_laws.proofs.Stores.IsTidy s.objects) (sym store_is) (store_tidy no_objects parts.objects (tables_fine parts.made.firsts specs parts.objects names parts.made.added (firsts_fine [] specs parts.made.firsts names parts.made.written tt)) tt);
     named = λ d h. named d h;
     logs = λ d h. subst (λ (c : Chain). IsSound manifests d w.store c) (sym (chain_is d h)) (sound d h);
     told = λ d t h. tally_top d (ap is_some h) t h;

@@ -22,7 +22,7 @@ use Rattle.slate_script.specs.declared.event.Event.{Event}
 use Rattle.slate_script.specs.declared.event.Event.TheVariants.{Open, Start, Step, Stop}
 use Rattle.slate_protocol.specs.Logs.{world_after}
 use Rattle.slate_protocol.specs.Phrases.{asks, is_due}
-use Rattle.slate_protocol.specs.Specs.{First, firsts_from, listed_or_none, no_objects, store_from, opening_world}
+use Rattle.slate_protocol.specs.Specs.{First, objects_of, listed_or_none, no_objects, store_from, opening_world}
 use Rattle.slate_protocol.specs.World.{World, Done, party_of, tally_of, noted, stepped, step_state, start_state, stop_state, carrying, may_start, open_at, start_at, step_at, stop_at, happens}
 use Rattle.slate_protocol.specs.declared.party.Facts.{Facts}
 use Rattle.slate_protocol.specs.declared.party.Party.{Party}
@@ -180,4 +180,4 @@ firsts_ordered (o ∷ os) s h = firsts_ordered os (stored o.0 o.1.0 o.1.1 s) (or
 
 -- after any events the objects ascend
 pub all_ordered : (specs : List DbSpec) (events : List Event) → IsOrdered (world_after events (opening_world specs)).store.objects
-all_ordered specs events = run_ordered events (opening_world specs) (firsts_ordered (listed_or_none (firsts_from [] specs)) no_objects tt)
+all_ordered specs events = run_ordered events (opening_world specs) (firsts_ordered (listed_or_none (objects_of specs)) no_objects tt)
