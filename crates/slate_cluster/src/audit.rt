@@ -1,10 +1,10 @@
 //! An audit of a run by its trail and its store: no reachable version was ever removed.
 ghost use Rattle.std.specs.Prelude.{◌<◌};
 
-use slate_layout::{decode_manifest, encode_manifest};
-use slate_model::{Manifest, ManifestCore};
 use slate_ids::{ByteList, DbPath, ObjectPath, SlateDBError};
+use slate_layout::{decode_manifest, encode_manifest};
 use slate_log::boundary_in;
+use slate_model::{Manifest, ManifestCore};
 use slate_script::{Entry, Reply};
 use slate_store::{Mark, MemoryStore, StoreAnswer, StoreCall};
 use std::alloc::Global;

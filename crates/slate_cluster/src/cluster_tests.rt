@@ -2,9 +2,9 @@
 
 use crate::test_databases::{database, one_new, one_of};
 use crate::{Cluster, ClusterError, NewError};
+use slate_ids::{CheckpointId, GcMessage, ObjectPath, SlateDBError, StateCause};
 use slate_layout::decode_manifest;
 use slate_model::{Checkpoint, Manifest, ManifestCore};
-use slate_ids::{CheckpointId, GcMessage, ObjectPath, SlateDBError, StateCause};
 use slate_script::{
     Call, ClusterCause, Entry, Event, FilterWord, PartyKind, Reply, Script, read_script,
 };

@@ -7,10 +7,10 @@ ghost use Rattle.slate_protocol.specs.Calls.{new_value as made_by, right_of as h
 ghost use Rattle.slate_state.specs.Rules.{manifest_refusal};
 
 use crate::values::new_value;
-use slate_layout::ManifestCodec;
-use slate_model::Manifest;
 use slate_ids::{Millis, SlateDBError, StateCause};
+use slate_layout::ManifestCodec;
 use slate_log::{CommitPhase, Right, prepare};
+use slate_model::Manifest;
 use slate_protocol::Facts;
 use slate_script::Call;
 use slate_state::ManifestRules;

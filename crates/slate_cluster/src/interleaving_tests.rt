@@ -3,9 +3,9 @@ ghost use Rattle.std.specs.Prelude.{◌<◌};
 
 use crate::Cluster;
 use crate::test_databases::{database, one_new};
+use slate_ids::{ObjectPath, SlateDBError};
 use slate_layout::decode_manifest;
 use slate_model::Manifest;
-use slate_ids::{ObjectPath, SlateDBError};
 use slate_script::{Call, Entry, Event, PartyKind, Reply};
 use slate_store::{Mark, StoreAnswer};
 use std::alloc::Global;

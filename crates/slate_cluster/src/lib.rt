@@ -31,6 +31,8 @@ mod opening;
 mod opening_causes;
 mod opening_ids;
 mod opening_objects;
+#[cfg(test)]
+mod opening_tests;
 mod parties;
 mod party_calls;
 mod party_steps;

@@ -89,7 +89,10 @@ fn add_table(
     match table_bytes(alloc, &table.1)? {
         None => Ok(false),
         Some(bytes) => {
-            objects.insert(ObjectPath::Table(spec.path, table.0), (bytes, spec.modified))?;
+            objects.insert(
+                ObjectPath::Table(spec.path, table.0),
+                (bytes, spec.modified),
+            )?;
             Ok(true)
         }
     }
@@ -129,10 +132,7 @@ fn add_all_tables(
 }
 
 /// The first manifests and the tables by path. None where one has no bytes, or a manifest isn't what is read back of them.
-pub(crate) fn open_objects(
-    alloc: Global,
-    specs: &[DbSpec],
-) -> Result<Option<Objects>, OutOfMemory>
+pub(crate) fn open_objects(alloc: Global, specs: &[DbSpec]) -> Result<Option<Objects>, OutOfMemory>
     ensures { IfOk result (λ o. option_map (λ f. f.entries) o ≡ opens.objects_of specs.now) }
 {
     let Some(mut objects) = open_firsts(alloc, specs)? else {

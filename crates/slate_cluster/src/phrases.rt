@@ -7,11 +7,11 @@ ghost use Rattle.slate_gc.specs.Pass.{pass_due};
 ghost use Rattle.slate_protocol.specs.Phrases.{asks, goes, is_due as due_at};
 ghost use Rattle.slate_cluster.specs.Advanced.{ReadSteps, ReadAtEnd, CommitSteps, PassSteps, AtEnd};
 
-use slate_layout::ManifestCodec;
-use slate_model::Manifest;
 use slate_gc::{PassOptions, PassPhase};
 use slate_ids::{DbPath, Millis};
+use slate_layout::ManifestCodec;
 use slate_log::{CommitPhase, LogKind, ReadPhase, Sequenced};
+use slate_model::Manifest;
 use slate_protocol::{Ended, Phrase, Position};
 use slate_store::{ObjectStore, Step};
 use std::alloc::Global;

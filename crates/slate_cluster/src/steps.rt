@@ -9,13 +9,13 @@ ghost use Rattle.slate_cluster.specs.Followed.{next_by, Commits, Ends, Followed,
 use crate::commits::commit_call;
 use crate::phrases::advance;
 use crate::recorder::Recorder;
-use slate_model::Manifest;
-use slate_state::find_checkpoint;
 use slate_gc::{PassOptions, PassPhase};
 use slate_ids::{CheckpointId, DbPath, Millis, OutOfMemory, SlateDBError};
 use slate_log::ReadPhase;
+use slate_model::Manifest;
 use slate_protocol::{Ended, Facts, Phrase, Position, Purpose};
 use slate_script::{Call, FilterWord, Reply};
+use slate_state::find_checkpoint;
 use slate_store::Step;
 use std::alloc::Global;
 

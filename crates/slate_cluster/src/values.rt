@@ -7,8 +7,8 @@ use slate_ids::{CheckpointId, Millis, OutOfMemory, SlateDBError, Text};
 use slate_model::{CheckpointOptions, Manifest, Plain};
 use slate_script::Call;
 use slate_state::{
-    delete_checkpoint, expire_checkpoints, flush, raise_writer, refresh_checkpoint, replace_checkpoint,
-    write_checkpoint,
+    delete_checkpoint, expire_checkpoints, flush, raise_writer, refresh_checkpoint,
+    replace_checkpoint, write_checkpoint,
 };
 use std::alloc::Global;
 

@@ -15,7 +15,6 @@ mod laws;
 mod manifest_parts;
 mod normal;
 mod normality;
-
 mod numbers;
 mod part;
 mod ranges;
