@@ -1,11 +1,11 @@
 -- One step of an advance, on any log and under any mark: the boundary is moved up and stays below the greatest.
-use Rattle.std.proofs.Common.{◌≡◌, ℕ, ℤ, ◌<◌, ◌≤◌, ◌==◌, nat_le, Bool, true, false, List, Option, Some, None, Ok, Err, refl, sym, ap, ◌∙◌, subst, arith}
+use Rattle.std.proofs.Common.{◌≡◌, ℕ, ℤ, ◌<◌, ◌≤◌, ◌==◌, nat_le, Bool, true, false, List, Option, Some, None, Ok, refl, ap, ◌∙◌, arith}
 use Rattle.std.proofs.lemmas.Bool.Decides.{nat_tests}
 use Rattle.std.specs.Prelude.{if◌then◌else◌, decimal}
 use Rattle.slate_ids.specs.Ids.{is_db_path}
 use Rattle.slate_ids.specs.declared.object_path.ObjectPath.{ObjectPath}
 use Rattle.slate_store.specs.Machines.{Stay, End}
-use Rattle.slate_store.specs.Store.{Store, Outcome, object_at, stored, has_tag, put_new, replace, under, taken, effect}
+use Rattle.slate_store.specs.Store.{Store, Outcome, object_at, has_tag, put_new, replace, under, taken, effect}
 use Rattle.slate_store.specs.declared.mark.Mark.{Mark}
 use Rattle.slate_store.specs.declared.mark.Mark.TheVariants.{Good, Fail, Lost}
 use Rattle.slate_store.specs.declared.object.StoredObject.{StoredObject}
@@ -16,8 +16,8 @@ use Rattle.slate_log.specs.Boundary.{boundary_of, boundary_got}
 use Rattle.slate_log.specs.LogPaths.{boundary_path}
 use Rattle.slate_log.specs.declared.advance.AdvancePhase.{AdvancePhase}
 use Rattle.slate_log.specs.declared.advance.AdvancePhase.TheVariants.{Bounding, Creating, Replacing, Over}
-use Rattle.slate_protocol.specs.Chains.{Link, Log, top, bound_in}
-use Rattle.slate_laws.proofs.Facts.{IsSound, IsAtMost, IsReached, AdvanceKnows, AdvanceBrings, target}
+use Rattle.slate_protocol.specs.Chains.{Link, Log, top}
+use Rattle.slate_laws.proofs.Facts.{IsSound, IsAtMost, AdvanceKnows, AdvanceBrings, target}
 use Rattle.slate_laws.proofs.Puts.{Leaves, leaves_not}
 use Rattle.slate_laws.proofs.Moves.{move_leaves, move_reaches}
 

@@ -1,7 +1,7 @@
 -- What the parties of a run hold.
-use Rattle.std.proofs.Common.{◌≡◌, ℕ, ◌<◌, ◌≤◌, ◌^◌, ℤ, List, [], ◌∷◌, Option, Some, None, Result, Ok, Err, refl, sym, ap, ◌∙◌, subst}
+use Rattle.std.proofs.Common.{◌≡◌, ℕ, ◌<◌, ◌≤◌, ◌^◌, ℤ, List, Some, Ok, subst}
 use Rattle.slate_model.specs.declared.manifest.Manifest.{Manifest}
-use Rattle.slate_store.specs.Machines.{Goes, Stay, End}
+use Rattle.slate_store.specs.Machines.{Goes, End}
 use Rattle.slate_store.specs.Store.{Store, effect}
 use Rattle.slate_store.specs.declared.mark.Mark.{Mark}
 use Rattle.slate_script.specs.declared.call.Call.{Call}
@@ -15,12 +15,11 @@ use Rattle.slate_log.specs.declared.read.ReadPhase.{ReadPhase}
 use Rattle.slate_protocol.specs.Chains.{bound_in, Stands}
 use Rattle.slate_protocol.specs.Holding.{IsVersion, IsMadeOf, Each, candidates_in, due_in}
 use Rattle.slate_protocol.specs.Lawful.{IsAccepted, chains_at_end}
-use Rattle.slate_protocol.specs.Logs.{Chain, author_of, manifests, world_after, put_by}
+use Rattle.slate_protocol.specs.Logs.{Chain, author_of, manifests, world_after}
 use Rattle.slate_protocol.specs.Phrases.{asks, goes, at_read, at_commit, at_pass}
 use Rattle.slate_protocol.specs.Reach.{IsSpare}
 use Rattle.slate_protocol.specs.Specs.{opening_world}
 use Rattle.slate_protocol.specs.World.{World, HasDb, party_of}
-use Rattle.slate_protocol.specs.declared.party.Facts.{Facts}
 use Rattle.slate_protocol.specs.declared.party.Party.{Party}
 use Rattle.slate_protocol.specs.declared.party.Purpose.{Purpose}
 use Rattle.slate_protocol.specs.declared.party.Purpose.TheVariants.{Reading, Committing, Passing}
@@ -30,7 +29,7 @@ use Rattle.slate_protocol.specs.declared.position.Ended.TheVariants.{Version}
 use Rattle.slate_protocol.specs.declared.position.Phrase.TheVariants.{Read}
 use Rattle.slate_protocol.specs.declared.position.Position.{Position}
 use Rattle.slate_laws.proofs.EveryRun.{after_inv}
-use Rattle.slate_laws.proofs.Facts.{IsSound, IsNext, IsReached}
+use Rattle.slate_laws.proofs.Facts.{IsNext}
 use Rattle.slate_laws.proofs.Passes.{PassKnows, each_map}
 use Rattle.slate_laws.proofs.Runs.{StateKnows, Inv}
 use Rattle.slate_laws.proofs.Steps.{AfterPhrase, PhraseBrings, phrase_step, none_put}

@@ -1,5 +1,5 @@
 -- What a boundary that is moved, and a version that is deleted, leave of a log.
-use Rattle.std.proofs.Common.{◌≡◌, ◌≢◌, ℕ, ℤ, ◌+◌, ◌<◌, ◌≤◌, ◌^◌, true, List, Option, Some, None, refl, sym, ap, ◌∙◌, subst, arith}
+use Rattle.std.proofs.Common.{◌≡◌, ◌≢◌, ℕ, ℤ, ◌+◌, ◌<◌, ◌≤◌, ◌^◌, true, List, Option, Some, None, refl, sym, ap, ◌∙◌, arith}
 use Rattle.std.proofs.lemmas.Fmt.{decimal_injective}
 use Rattle.std.specs.Prelude.{decimal}
 use Rattle.slate_ids.specs.Ids.{is_db_path}
@@ -9,7 +9,7 @@ use Rattle.slate_store.specs.declared.object.StoredObject.{StoredObject}
 use Rattle.slate_log.specs.Boundary.{boundary_of, boundary_got, ReadsDecimal}
 use Rattle.slate_log.specs.LogPaths.{version_path, boundary_path}
 use Rattle.slate_log.proofs.Decimals.{reads_decimal}
-use Rattle.slate_protocol.specs.Chains.{Link, Log, link_at, top, bytes_of, bound_in, Changed}
+use Rattle.slate_protocol.specs.Chains.{Link, Log, top, bytes_of, bound_in}
 use Rattle.slate_protocol.specs.Chains.Changed.{Stays}
 use Rattle.slate_laws.proofs.Stores.{put_object, at_put, at_else, at_left}
 use Rattle.slate_laws.proofs.Paths.{IsElsewhere, versions_apart, boundary_apart}

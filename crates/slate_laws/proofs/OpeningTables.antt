@@ -1,5 +1,5 @@
 -- The tables that stand as a run begins: they are at paths of their own.
-use Rattle.std.proofs.Common.{◌≡◌, ◌≢◌, ℕ, ◌<◌, ◌^◌, Bool, true, false, List, [], ◌∷◌, Option, Some, None, refl, sym, ap, ◌∙◌, subst, arith}
+use Rattle.std.proofs.Common.{◌≡◌, ◌≢◌, ℕ, ◌^◌, true, List, [], ◌∷◌, Option, Some, None, refl, ◌∙◌, subst, arith}
 use Rattle.std.proofs.lemmas.Bool.{and_parts}
 use Rattle.std.proofs.lemmas.Bool.Decides.{nat_tests}
 use Rattle.std.specs.Prelude.{nat_lt}
@@ -7,7 +7,7 @@ use Rattle.std.specs.List.{list_all}
 use Rattle.std.specs.BTreeMap.{insert_entry}
 use Rattle.slate_ids.specs.FinePath.{IsFine}
 use Rattle.slate_ids.specs.Ids.{is_db_path}
-use Rattle.slate_ids.specs.PathText.{path_text, path_cmp}
+use Rattle.slate_ids.specs.PathText.{path_cmp}
 use Rattle.slate_ids.specs.UlidText.{ulid_of, ulid_text}
 use Rattle.slate_ids.specs.declared.object_path.ObjectPath.{ObjectPath}
 use Rattle.slate_ids.specs.declared.object_path.ObjectPath.TheVariants as paths

@@ -1,7 +1,7 @@
 -- One step of a pass over the manifests: what it leaves of the log, and what it goes on with.
-use Rattle.std.proofs.Common.{◌≡◌, ℕ, ℤ, ◌<◌, ◌≤◌, ◌^◌, max, nat_le, nat_lt, Bool, true, false, List, [], ◌∷◌, Option, Some, None, IfSome, Result, Ok, Err, ◌⊎◌, refl, sym, ap, ◌∙◌, subst, arith}
+use Rattle.std.proofs.Common.{◌≡◌, ℕ, ℤ, ◌<◌, ◌≤◌, ◌^◌, max, nat_le, nat_lt, Bool, true, false, List, [], ◌∷◌, Option, Some, None, IfSome, Result, Ok, Err, refl, sym, ap, ◌∙◌, subst, arith}
 use Rattle.std.proofs.lemmas.Bool.Decides.{nat_tests}
-use Rattle.std.specs.Prelude.{if◌then◌else◌, ◌&&◌, ◌||◌, not}
+use Rattle.std.specs.Prelude.{if◌then◌else◌, ◌&&◌, not}
 use Rattle.slate_ids.specs.Ids.{is_db_path}
 use Rattle.slate_ids.specs.declared.error.SlateDBError.{SlateDBError}
 use Rattle.slate_ids.specs.declared.error.SlateDBError.TheVariants.{ManifestMissing}
@@ -19,7 +19,6 @@ use Rattle.slate_store.specs.declared.store_answer.StoreAnswer.{StoreAnswer}
 use Rattle.slate_log.specs.Advance.{AdvanceGoes, advance_asks, advance_goes}
 use Rattle.slate_log.specs.Boundary.{greater, greatest}
 use Rattle.slate_log.specs.LogPaths.{version_path, folder}
-use Rattle.slate_log.specs.declared.advance.AdvancePhase.TheVariants as advancing
 use Rattle.slate_log.specs.declared.log_kind.LogKind.TheVariants.{Manifest as ManifestLog}
 use Rattle.slate_gc.specs.Pass.{pass_asks, pass_goes, listed_goes, got_goes, candidates_by, decoded_goes, bounded_goes, bounded_next, moves_to, deletes_next, advanced_goes}
 use Rattle.slate_gc.specs.Picks.{Dated, is_candidate, is_aged, candidates, greatest_number, picks}

@@ -4,15 +4,12 @@ use Rattle.std.specs.Prelude.{if◌then◌else◌}
 use Rattle.std.specs.Ordering.{nat_cmp}
 use Rattle.std.specs.BTreeMap.{insert_entry}
 use Rattle.slate_ids.specs.Ids.{is_db_path}
-use Rattle.slate_ids.specs.PathText.{path_text}
-use Rattle.slate_store.specs.Store.{Store, object_at, effect}
+use Rattle.slate_store.specs.Store.{Store, effect}
 use Rattle.slate_store.specs.declared.mark.Mark.{Mark}
 use Rattle.slate_script.specs.declared.call.Call.{Call}
 use Rattle.slate_script.specs.declared.event.Event.{Event}
 use Rattle.slate_script.specs.declared.event.Event.TheVariants.{Open, Start, Step, Stop}
 use Rattle.slate_script.specs.declared.party_kind.PartyKind.{PartyKind}
-use Rattle.slate_log.specs.LogPaths.{version_path, boundary_path}
-use Rattle.slate_log.specs.declared.log_kind.LogKind.TheVariants.{Manifest as ManifestLog}
 use Rattle.slate_protocol.specs.Calls.{Next, Go, Finish, follow, begin}
 use Rattle.slate_protocol.specs.Chains.{Changed}
 use Rattle.slate_protocol.specs.Chains.Changed.{Stays}
@@ -27,7 +24,7 @@ use Rattle.slate_protocol.specs.declared.party.State.TheVariants.{Resting, Busy,
 use Rattle.slate_protocol.specs.declared.position.Phrase.{Phrase}
 use Rattle.slate_protocol.specs.declared.position.Position.{Position}
 use Rattle.slate_protocol.specs.declared.tally.Tally.{Tally}
-use Rattle.slate_laws.proofs.Stores.{IsTidy, decides, same_name, at_else}
+use Rattle.slate_laws.proofs.Stores.{IsTidy, decides, same_name}
 use Rattle.slate_laws.proofs.Maps.{number_order, set_here, set_else, insert_here, insert_else}
 use Rattle.slate_laws.proofs.Links.{same_or_not}
 use Rattle.slate_laws.proofs.Facts.{IsSound, Grows}

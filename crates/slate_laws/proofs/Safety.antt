@@ -34,9 +34,8 @@ use Rattle.slate_protocol.specs.declared.party.State.{State}
 use Rattle.slate_protocol.specs.declared.party.State.TheVariants.{Resting, Busy, Halted}
 use Rattle.slate_protocol.specs.declared.position.Phrase.{Phrase}
 use Rattle.slate_protocol.specs.declared.position.Phrase.TheVariants.{Read, Commit, Pass}
-use Rattle.slate_protocol.specs.declared.position.Position.{Position}
 use Rattle.slate_protocol.specs.declared.tally.Tally.{Tally}
-use Rattle.slate_laws.proofs.Facts.{IsCommitted, IsReached, Grows}
+use Rattle.slate_laws.proofs.Facts.{IsReached, Grows}
 use Rattle.slate_laws.proofs.Puts.{grows_not}
 use Rattle.slate_laws.proofs.Rows.{AllMatch, ended, event_brings, all_after}
 use Rattle.slate_laws.proofs.Runs.{Inv, StateKnows, log_after, same_tallies, event_inv}

@@ -1,6 +1,6 @@
 -- Which numbers are spare: the greatest version has no need of them.
-use Rattle.std.proofs.Common.{◌≡◌, ◌≢◌, ℕ, ◌+◌, ◌<◌, ◌≤◌, Bool, true, false, List, [], ◌∷◌, Some, None, ◌⊎◌, ⊎_elim, refl, sym, ap, ◌∙◌, subst, arith}
-use Rattle.slate_protocol.specs.Chains.{Link, Log, link_at, top, IsChain}
+use Rattle.std.proofs.Common.{◌≡◌, ◌≢◌, ℕ, ◌+◌, ◌<◌, Bool, true, false, List, [], ◌∷◌, Some, None, ⊎_elim, refl, sym, ◌∙◌, subst, arith}
+use Rattle.slate_protocol.specs.Chains.{Link, Log, link_at, IsChain}
 use Rattle.slate_protocol.specs.Reach.{names_top, IsNeeded, IsSpare}
 use Rattle.slate_protocol.specs.Reach.IsNeeded.{Greatest, Named}
 use Rattle.slate_laws.proofs.Facts.{IsLog}

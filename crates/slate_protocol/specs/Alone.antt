@@ -1,5 +1,5 @@
 -- A pass that nobody disturbs: the manifests that it leaves are those that it listed, less what it picks.
-use Rattle.std.specs.Prelude.{ℕ, ℤ, pos, ◌==◌, not, Bool, false, List, [], ◌∷◌, filter, Option, Some, None}
+use Rattle.std.specs.Prelude.{ℕ, ℤ, ◌==◌, not, Bool, false, List, [], ◌∷◌, filter, Option, Some, None}
 use Rattle.std.specs.List.{list_any}
 use Rattle.slate_store.specs.Store.{Store, object_at, listed}
 use Rattle.slate_store.specs.declared.list_dir.ListDir.TheVariants.{Manifests}

@@ -13,7 +13,7 @@ use Rattle.slate_protocol.specs.Runs.{Course, opening, run}
 use Rattle.slate_protocol.specs.Safe.{gone, IsSafe}
 use Rattle.slate_protocol.specs.Specs.{is_named_spec, cause_of_specs, opening_world}
 use Rattle.slate_protocol.specs.Trails.{numbered, store_of, told}
-use Rattle.slate_protocol.specs.World.{World, tally_of, HasDb}
+use Rattle.slate_protocol.specs.World.{tally_of, HasDb}
 
 -- accepted databases: no cause refuses them, each has a name, and the ids of their tables are ids
 pub record IsAccepted (specs : List DbSpec) : Type 0 where

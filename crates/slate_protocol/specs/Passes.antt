@@ -1,5 +1,5 @@
 -- What a pass picks of what it read, and the deletes that it makes: one for each pick, in their order.
-use Rattle.std.specs.Prelude.{◌≡◌, ℕ, ℤ, nat_le, Bool, true, false, List, [], ◌∷◌, ◌++◌, map, filter, length, Option, Some, None, Result, Ok, Err, if◌then◌else◌}
+use Rattle.std.specs.Prelude.{◌≡◌, ℕ, ℤ, nat_le, Bool, true, false, List, [], ◌∷◌, ◌++◌, map, filter, length, Option, Some, None, Result, Ok, if◌then◌else◌}
 use Rattle.slate_ids.specs.declared.error.SlateDBError.{SlateDBError}
 use Rattle.slate_layout.specs.Decoding.{decoded_manifest}
 use Rattle.slate_model.specs.declared.manifest.Manifest.{Manifest}
@@ -27,7 +27,6 @@ use Rattle.slate_protocol.specs.Calls.{Next, Go, Finish, options_of, follow, beg
 use Rattle.slate_protocol.specs.Phrases.{asks, goes}
 use Rattle.slate_protocol.specs.Rows.{Answered, stands_after}
 use Rattle.slate_protocol.specs.declared.party.Facts.{Facts}
-use Rattle.slate_protocol.specs.declared.party.Purpose.{Purpose}
 use Rattle.slate_protocol.specs.declared.party.Purpose.TheVariants.{Passing}
 use Rattle.slate_store.specs.Store.{Store}
 
