@@ -269,6 +269,21 @@ fn without_expired(
     Ok(kept)
 }
 
+// Whether one of the manifest's checkpoints is expired at a moment.
+fn is_to_expire(now: Millis, manifest: &Manifest) -> bool
+    ensures { result ≡ list_any (made.is_expired now) manifest.now.core.checkpoints }
+{
+    has_expired(now, manifest.core.checkpoints.as_slice())
+}
+
+// An equal manifest, without the checkpoints that are expired at a moment.
+fn unexpired(alloc: Global, now: Millis, manifest: &Manifest) -> Result<Manifest, OutOfMemory>
+    ensures { IfOk result (λ m. m ≡ made.with_checkpoints (filter (λ c. not (made.is_expired now c)) manifest.now.core.checkpoints) manifest.now) }
+{
+    let kept = without_expired(alloc, now, manifest.core.checkpoints.as_slice())?;
+    with_checkpoints(alloc, kept, manifest)
+}
+
 /// What a pass makes of a manifest at a moment: its expired checkpoints go, and nothing is made where it has none.
 pub fn expire_checkpoints(
     alloc: Global,
@@ -277,9 +292,8 @@ pub fn expire_checkpoints(
 ) -> Result<Option<Manifest>, SlateDBError>
     ensures { Gives result (made.unexpired now manifest.now) }
 {
-    if !has_expired(now, manifest.core.checkpoints.as_slice()) {
+    if !is_to_expire(now, manifest) {
         return Ok(None);
     }
-    let kept = without_expired(alloc, now, manifest.core.checkpoints.as_slice())?;
-    Ok(Some(with_checkpoints(alloc, kept, manifest)?))
+    Ok(Some(unexpired(alloc, now, manifest)?))
 }

@@ -5,6 +5,6 @@ use Rattle.slate_state.proofs.checkpoints.expire_checkpoints.Goals as goal
 
 pub returns : goal.returns
 returns c =
-    let has = rw (to_z-of_z w64 c.args.now c.ranges.now, c.as_slice.ensures) at c.has_expired.ensures in
-    let kept = rw (to_z-of_z w64 c.args.now c.ranges.now, c.as_slice-2.ensures) at c.in_ok-kept.ensures in
-    inl (without_expired c.args.now c.args.manifest.now c.has_expired.result c.in_ok-kept.kept c.in_ok-with_checkpoints.field-0 has c.if-not-has_expired.false kept c.in_ok-with_checkpoints.ensures)
+    let has = rw (to_z-of_z w64 c.args.now c.ranges.now) at c.is_to_expire.ensures in
+    let made = rw (to_z-of_z w64 c.args.now c.ranges.now) at c.in_ok-unexpired.ensures in
+    inl (without_expired c.args.now c.args.manifest.now c.is_to_expire.result c.in_ok-unexpired.field-0 has c.if-not-is_to_expire.false made)
