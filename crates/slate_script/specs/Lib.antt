@@ -4,5 +4,6 @@ pub mod Calls
 pub mod Events
 pub mod WrittenIds
 pub mod Databases
+pub mod DatabaseFields
 pub mod Scripts
 pub mod Lines

@@ -4,7 +4,7 @@ use Rattle.std.specs.Str.{is_utf8}
 use Rattle.serde_json.specs.Data.{Data, Items, no_items, item}
 use Rattle.serde_json.specs.Read.{read}
 use Rattle.slate_script.specs.Fields.{◌>>=◌, only, array_in}
-use Rattle.slate_script.specs.Databases.{database_in}
+use Rattle.slate_script.specs.DatabaseFields.{database_in}
 use Rattle.slate_script.specs.declared.event.Event.{Event}
 use Rattle.slate_script.specs.declared.read_event.Written.{Written}
 use Rattle.slate_script.specs.declared.db_spec.DbSpec.{DbSpec}

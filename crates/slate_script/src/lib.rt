@@ -13,6 +13,7 @@ mod fields;
 mod filter_word;
 #[cfg(test)]
 mod line_tests;
+mod opening_tables;
 mod party_kind;
 mod prefixes;
 mod read_call;

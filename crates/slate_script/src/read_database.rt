@@ -3,13 +3,14 @@ ghost use Rattle.std.specs.Prelude.{◌≡◌, IfOk};
 ghost use Rattle.serde_json.specs.View.{view};
 ghost use Rattle.slate_script.specs.Fields.{Gives};
 ghost use Rattle.slate_script.specs.Databases as databases;
-ghost use Rattle.slate_script.specs.Databases.{core_of, opening_fields_in, database_in};
+ghost use Rattle.slate_script.specs.DatabaseFields.{opening_fields_in, database_in};
 
 use crate::db_spec::DbSpec;
 use crate::fields::{defaulted, only, optional, required};
+use crate::opening_tables::tables_of;
 use crate::refusal::Refusal;
 use crate::tree_items::{TreeItems, read_tree_items};
-use crate::trees::{segments_of, tables_of, tree_of};
+use crate::trees::{segments_of, tree_of};
 use crate::values::FromJson;
 use serde_json::Value;
 use slate_ids::{Listed, OutOfMemory, Text};
@@ -29,11 +30,11 @@ pub(crate) struct OpeningFields {
 }
 
 impl FromJson for Checkpoint {
-    ghost use Rattle.slate_script.specs.Databases.{checkpoint_in};
+    ghost use Rattle.slate_script.specs.DatabaseFields.{checkpoint_in};
 
     ghost reads = { checkpoint_in };
 
-    #[tactic(auto, unfolding(crate::specs::Databases::checkpoint_in))]
+    #[tactic(auto, unfolding(crate::specs::DatabaseFields::checkpoint_in))]
     fn from_json(alloc: Global, d: &Value) -> Result<Checkpoint, Refusal> {
         only(d, &["id", "expire", "name"])?;
         let id = required(alloc, d, "id")?;
@@ -49,7 +50,7 @@ impl FromJson for Checkpoint {
     }
 }
 
-#[tactic(auto, unfolding(crate::specs::Databases::opening_fields_in))]
+#[tactic(auto, unfolding(crate::specs::DatabaseFields::opening_fields_in))]
 fn opening_fields(alloc: Global, d: &Value) -> Result<OpeningFields, Refusal>
     ensures { Gives result (opening_fields_in (view d.now)) }
 {
@@ -111,7 +112,7 @@ fn manifest_of(
 }
 
 /// A database, with its first manifest and the tables that stand in the store.
-#[tactic(auto, unfolding(crate::specs::Databases::database_in))]
+#[tactic(auto, unfolding(crate::specs::DatabaseFields::database_in))]
 pub(crate) fn read_database(alloc: Global, d: &Value) -> Result<DbSpec, Refusal>
     ensures { Gives result (database_in (view d.now)) }
 {

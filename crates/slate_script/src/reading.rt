@@ -4,7 +4,7 @@ ghost use Rattle.serde_json.specs.Read.{read};
 ghost use Rattle.serde_json.specs.View.{view, items_view};
 ghost use Rattle.slate_script.specs.Fields.{Gives};
 ghost use Rattle.slate_script.specs.Events.{expand, count_of};
-ghost use Rattle.slate_script.specs.Databases.{database_in};
+ghost use Rattle.slate_script.specs.DatabaseFields.{database_in};
 ghost use Rattle.slate_script.specs.Scripts.{Reads, at_place, databases_from, written_at, events_from, event_limit, top_in, parts_in, script_in, json_of, script_of};
 ghost use Rattle.slate_script.specs.declared.script.ScriptPlace.TheVariants.{Database};
 

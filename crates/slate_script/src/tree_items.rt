@@ -3,8 +3,9 @@ ghost use Rattle.std.specs.Prelude.{◌≡◌, ℕ, List, map};
 ghost use Rattle.std.specs.List.{list_any};
 ghost use Rattle.serde_json.specs.View.{view};
 ghost use Rattle.slate_script.specs.Fields.{Gives};
-ghost use Rattle.slate_script.specs.Databases as databases;
-ghost use Rattle.slate_script.specs.Databases.{tree_items_in};
+ghost use Rattle.slate_script.specs.Databases.{is_marker_of};
+ghost use Rattle.slate_script.specs.DatabaseFields as database_fields;
+ghost use Rattle.slate_script.specs.DatabaseFields.{tree_items_in};
 
 use crate::fields::{defaulted, only, required};
 use crate::refusal::Refusal;
@@ -80,11 +81,11 @@ impl InTree for MarkerItem {
 }
 
 impl FromJson for L0Item {
-    ghost use Rattle.slate_script.specs.Databases.{l0_item_in};
+    ghost use Rattle.slate_script.specs.DatabaseFields.{l0_item_in};
 
     ghost reads = { l0_item_in };
 
-    #[tactic(auto, unfolding(crate::specs::Databases::l0_item_in))]
+    #[tactic(auto, unfolding(crate::specs::DatabaseFields::l0_item_in))]
     fn from_json(alloc: Global, d: &Value) -> Result<L0Item, Refusal> {
         only(d, &["prefix", "view", "table"])?;
         let prefix = defaulted(alloc, d, "prefix", Bytes::new())?;
@@ -99,11 +100,11 @@ impl FromJson for L0Item {
 }
 
 impl FromJson for RunItem {
-    ghost use Rattle.slate_script.specs.Databases.{run_item_in};
+    ghost use Rattle.slate_script.specs.DatabaseFields.{run_item_in};
 
     ghost reads = { run_item_in };
 
-    #[tactic(auto, unfolding(crate::specs::Databases::run_item_in))]
+    #[tactic(auto, unfolding(crate::specs::DatabaseFields::run_item_in))]
     fn from_json(alloc: Global, d: &Value) -> Result<RunItem, Refusal> {
         only(d, &["prefix", "id", "tables"])?;
         let prefix = defaulted(alloc, d, "prefix", Bytes::new())?;
@@ -118,11 +119,11 @@ impl FromJson for RunItem {
 }
 
 impl FromJson for MarkerItem {
-    ghost use Rattle.slate_script.specs.Databases.{marker_item_in};
+    ghost use Rattle.slate_script.specs.DatabaseFields.{marker_item_in};
 
     ghost reads = { marker_item_in };
 
-    #[tactic(auto, unfolding(crate::specs::Databases::marker_item_in))]
+    #[tactic(auto, unfolding(crate::specs::DatabaseFields::marker_item_in))]
     fn from_json(alloc: Global, d: &Value) -> Result<MarkerItem, Refusal> {
         only(d, &["prefix", "view"])?;
         let prefix = defaulted(alloc, d, "prefix", Bytes::new())?;
@@ -133,7 +134,7 @@ impl FromJson for MarkerItem {
 
 // Whether one of the markers is of this prefix.
 fn has_marker(markers: &[MarkerItem], prefix: &[u8]) -> bool
-    ensures { result ≡ list_any (databases.is_marker_of prefix.now) markers.now }
+    ensures { result ≡ list_any (is_marker_of prefix.now) markers.now }
 {
     markers
         .iter()
@@ -142,7 +143,7 @@ fn has_marker(markers: &[MarkerItem], prefix: &[u8]) -> bool
 
 // Whether no prefix has two markers.
 fn one_each(markers: &[MarkerItem]) -> bool
-    ensures { result ≡ databases.one_each markers.now }
+    ensures { result ≡ database_fields.one_each markers.now }
 {
     for i in 0..markers.len() {
         if has_marker(&markers[i + 1..], markers[i].prefix.as_slice()) {
@@ -153,7 +154,7 @@ fn one_each(markers: &[MarkerItem]) -> bool
 }
 
 /// What a database says of its trees.
-#[tactic(auto, unfolding(crate::specs::Databases::tree_items_in))]
+#[tactic(auto, unfolding(crate::specs::DatabaseFields::tree_items_in))]
 pub(crate) fn read_tree_items(alloc: Global, d: &Value) -> Result<TreeItems, Refusal>
     ensures { Gives result (tree_items_in (view d.now)) }
 {

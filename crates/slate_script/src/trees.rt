@@ -1,41 +1,17 @@
-//! The trees of a new database, and the tables in them.
-ghost use Rattle.std.specs.Prelude.{◌≡◌, ◌++◌, true, map, filter, option_map, IfOk, OnOk};
-ghost use Rattle.std.specs.List.{find, flat_map, list_any};
+//! The trees of a new database.
+ghost use Rattle.std.specs.Prelude.{◌≡◌, map, filter, option_map, IfOk};
+ghost use Rattle.std.specs.List.{find};
 ghost use Rattle.slate_model.specs.Segments.{IsAscending};
 ghost use Rattle.slate_script.specs.Databases as databases;
-ghost use Rattle.slate_script.specs.Databases.{view_of, run_of, own_view, is_l0_of, is_run_of, is_marker_of, with_id, same_id};
+ghost use Rattle.slate_script.specs.Databases.{view_of, own_view, is_l0_of, is_run_of, is_marker_of};
 
+use crate::opening_tables::table_of;
 use crate::prefixes::segment_prefixes;
 use crate::tree_items::{L0Item, MarkerItem, RunItem, TreeItems};
 use bytes::Bytes;
 use slate_ids::{Listed, OutOfMemory, Ulid};
-use slate_model::{
-    LsmTreeState, Queue, Segment, SortedRun, SsTableHandle, SsTableId, SsTableInfo, SsTableView,
-};
+use slate_model::{LsmTreeState, Queue, Segment, SortedRun, SsTableView};
 use std::alloc::Global;
-
-const FORMAT_VERSION: u16 = 1;
-
-// What is known of each table.
-fn opening_info() -> SsTableInfo
-    ensures { result ≡ databases.opening_info }
-{
-    let mut info = SsTableInfo::default();
-    info.first_entry = Some(Bytes::from_static(b"a"));
-    info.last_entry = Some(Bytes::from_static(b"z"));
-    info
-}
-
-// The table of an id.
-fn table_of(id: Ulid) -> SsTableHandle
-    ensures { result ≡ databases.table_of id }
-{
-    SsTableHandle {
-        id: SsTableId::Compacted(id),
-        format_version: FORMAT_VERSION,
-        info: opening_info(),
-    }
-}
 
 // The views of these items that are in the tree of a prefix.
 fn views_in(alloc: Global, prefix: &[u8], items: &[L0Item]) -> Result<Vec<SsTableView>, OutOfMemory>
@@ -149,94 +125,4 @@ pub(crate) fn segments_of(alloc: Global, items: &TreeItems) -> Result<Vec<Segmen
 {
     let prefixes = segment_prefixes(alloc, items)?;
     segments_at(alloc, items, prefixes.as_slice())
-}
-
-// Adds the tables of these items.
-fn push_l0_tables(ids: &mut Listed<Ulid>, items: &[L0Item]) -> Result<(), OutOfMemory>
-    ensures { OnOk result (ids.new ≡ ids.old ++ map (λ i. i.table_id) items.now) }
-{
-    for item in items {
-        ids.push(item.table_id)?;
-    }
-    Ok(())
-}
-
-// Adds these ids.
-fn push_ids(ids: &mut Listed<Ulid>, others: &[Ulid]) -> Result<(), OutOfMemory>
-    ensures { OnOk result (ids.new ≡ ids.old ++ others.now) }
-{
-    for id in others {
-        ids.push(*id)?;
-    }
-    Ok(())
-}
-
-// Adds the tables of these runs.
-fn push_run_tables(ids: &mut Listed<Ulid>, items: &[RunItem]) -> Result<(), OutOfMemory>
-    ensures { OnOk result (ids.new ≡ ids.old ++ flat_map (λ i. i.table_ids) items.now) }
-{
-    for item in items {
-        push_ids(ids, item.table_ids.as_slice())?;
-    }
-    Ok(())
-}
-
-// The tables that are named, as often as they are.
-fn named_tables(alloc: Global, items: &TreeItems) -> Result<Listed<Ulid>, OutOfMemory>
-    ensures { IfOk result (λ ids. ids ≡ databases.named_tables items.now) }
-{
-    let mut ids = Listed::new(alloc);
-    push_l0_tables(&mut ids, items.l0.as_slice())?;
-    push_run_tables(&mut ids, items.runs.as_slice())?;
-    Ok(ids)
-}
-
-// Whether two ids are one.
-fn same_id(a: &Ulid, b: &Ulid) -> bool
-    ensures { result ≡ databases.same_id a.now b.now }
-{
-    a.timestamp_ms() == b.timestamp_ms() && a.tail() == b.tail()
-}
-
-// Whether the id is among these.
-fn has_id(ids: &[Ulid], id: &Ulid) -> bool
-    ensures { result ≡ list_any (databases.same_id id.now) ids.now }
-{
-    ids.iter().any(|other| same_id(id, other))
-}
-
-// Each id once, where it comes first.
-fn once(alloc: Global, named: &[Ulid]) -> Result<Listed<Ulid>, OutOfMemory>
-    ensures { IfOk result (λ ids. ids ≡ databases.once named.now) }
-{
-    let mut ids = Listed::new(alloc);
-    for id in named {
-        if !has_id(ids.as_slice(), id) {
-            ids.push(*id)?;
-        }
-    }
-    Ok(ids)
-}
-
-// The tables of these ids, with what is known of them.
-fn with_infos(alloc: Global, ids: &[Ulid]) -> Result<Listed<(Ulid, SsTableInfo)>, OutOfMemory>
-    ensures { IfOk result (λ tables. tables ≡ map databases.with_info ids.now) }
-{
-    let mut tables = Listed::new(alloc);
-    for id in ids {
-        tables.push((*id, opening_info()))?;
-    }
-    Ok(tables)
-}
-
-/// The tables that are named, each once, with what is known of them.
-pub(crate) fn tables_of(
-    alloc: Global,
-    items: &TreeItems,
-) -> Result<Listed<(Ulid, SsTableInfo)>, OutOfMemory>
-    ensures { IfOk result (λ tables. tables ≡ databases.tables_of items.now) }
-{
-    let named = named_tables(alloc, items)?;
-    let ids = once(alloc, named.as_slice())?;
-    with_infos(alloc, ids.as_slice())
 }

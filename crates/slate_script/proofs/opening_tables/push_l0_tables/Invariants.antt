@@ -1,5 +1,5 @@
 use Rattle.std.proofs.Common.{◌≡◌, ◌++◌, map, take}
-use Rattle.slate_script.proofs.trees.push_l0_tables.Given as goal
+use Rattle.slate_script.proofs.opening_tables.push_l0_tables.Given as goal
 
 -- the tables of the items so far are there
 abbrev pub invariant-loop-item : goal.invariant-loop-item

@@ -1,6 +1,6 @@
 use Rattle.std.proofs.Common.{◌≡◌, ◌++◌, take}
 use Rattle.std.specs.List.{flat_map}
-use Rattle.slate_script.proofs.trees.push_run_tables.Given as goal
+use Rattle.slate_script.proofs.opening_tables.push_run_tables.Given as goal
 
 -- the tables of the runs so far are there
 abbrev pub invariant-loop-item : goal.invariant-loop-item

@@ -1,5 +1,5 @@
 use Rattle.std.proofs.Common.{◌≡◌, ◌++◌, take}
-use Rattle.slate_script.proofs.trees.push_ids.Given as goal
+use Rattle.slate_script.proofs.opening_tables.push_ids.Given as goal
 
 -- the ids so far are there
 abbrev pub invariant-loop-id : goal.invariant-loop-id

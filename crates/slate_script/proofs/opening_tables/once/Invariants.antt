@@ -2,7 +2,7 @@ use Rattle.std.proofs.Common.{◌≡◌, drop}
 use Rattle.std.specs.List.{fold}
 use Rattle.slate_script.specs.Databases.{with_id}
 use Rattle.slate_script.specs.Databases as databases
-use Rattle.slate_script.proofs.trees.once.Given as goal
+use Rattle.slate_script.proofs.opening_tables.once.Given as goal
 
 -- the ids that are left still come to those so far
 abbrev pub invariant-loop-id : goal.invariant-loop-id
