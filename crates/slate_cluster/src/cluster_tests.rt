@@ -2,7 +2,7 @@
 
 use crate::test_databases::{database, one_new, one_of};
 use crate::{Cluster, ClusterError, NewError};
-use slate_ids::{CheckpointId, GcMessage, ObjectPath, SlateDBError, StateCause};
+use slate_ids::{CheckpointId, GcMessage, Listed, ObjectPath, SlateDBError, StateCause};
 use slate_layout::decode_manifest;
 use slate_model::{Checkpoint, Manifest, ManifestCore};
 use slate_script::{
@@ -94,7 +94,7 @@ fn goes_on_after_a_bad_event(rt: HostRuntime) -> Result<(), Fail> {
 }
 
 // A collector of `db` that starts a pass.
-fn passing(alloc: Global, pass: GcMessage) -> Result<Vec<Event>, Fail> {
+fn passing(alloc: Global, pass: GcMessage, filter: FilterWord) -> Result<Vec<Event>, Fail> {
     let db = database()?;
     let mut events = Vec::new(alloc);
     events.push(Event::Open {
@@ -108,15 +108,21 @@ fn passing(alloc: Global, pass: GcMessage) -> Result<Vec<Event>, Fail> {
             pass,
             min_age: 0,
             dry_run: false,
-            filter: FilterWord::All,
+            filter,
         },
     })?;
     Ok(events)
 }
 
+// Whether a collector of a new database can't start this pass.
+fn is_bad(alloc: Global, pass: GcMessage, filter: FilterWord) -> Result<bool, Fail> {
+    let mut cluster = Cluster::new(alloc, one_new(alloc)?)?;
+    let ended = cluster.run(alloc, passing(alloc, pass, filter)?.as_slice());
+    Ok(matches!(ended, Err(ClusterError::BadEvent { place: 1 })) && cluster.trail().len() == 1)
+}
+
 #[test]
 fn manifests_alone_have_a_pass(rt: HostRuntime) -> Result<(), Fail> {
-    let alloc = rt.alloc();
     for pass in [
         GcMessage::Wal,
         GcMessage::WalFence,
@@ -124,16 +130,17 @@ fn manifests_alone_have_a_pass(rt: HostRuntime) -> Result<(), Fail> {
         GcMessage::Compactions,
         GcMessage::Detach,
     ] {
-        let script = script(alloc, "")?;
-        let mut cluster = Cluster::new(alloc, script.databases.into_vec())?;
-        assert!(rt;
-            matches!(
-                cluster.run(alloc, passing(alloc, pass)?.as_slice()),
-                Err(ClusterError::BadEvent { place: 1 })
-            )
-        );
-        assert_eq!(rt; cluster.trail().len(), 1);
+        assert!(rt; is_bad(rt.alloc(), pass, FilterWord::All)?);
     }
+    assert!(rt; !is_bad(rt.alloc(), GcMessage::Manifest, FilterWord::All)?);
+    Ok(())
+}
+
+#[test]
+fn filters_allow_all_or_nothing(rt: HostRuntime) -> Result<(), Fail> {
+    let paths = FilterWord::Paths(Listed::new(rt.alloc()));
+    assert!(rt; is_bad(rt.alloc(), GcMessage::Manifest, paths)?);
+    assert!(rt; !is_bad(rt.alloc(), GcMessage::Manifest, FilterWord::Nothing)?);
     Ok(())
 }
 

@@ -136,8 +136,8 @@ fn check_three_opens(
     second: u32,
     orders: u32,
 ) -> Result<(), Fail>
-    requires { first < 3 }
-    requires { second < 3 }
+    requires first { first < 3 }
+    requires second { second < 3 }
 {
     let mut runs = 0u32;
     for rest in 0..59049 {

@@ -10,7 +10,7 @@ use crate::party_calls::{begin_call, step_busy};
 use crate::party_steps::Stepped;
 use slate_ids::{DbPath, GcMessage, Millis, OutOfMemory};
 use slate_protocol::{Facts, Party, State};
-use slate_script::{Call, Entry, PartyKind};
+use slate_script::{Call, Entry, FilterWord, PartyKind};
 use slate_store::{Mark, MemoryStore};
 use std::alloc::Global;
 use std::collections::BTreeMap;
@@ -41,13 +41,14 @@ fn holder_has(call: &Call) -> bool
 fn collector_has(call: &Call) -> bool
     ensures { result ≡ has.collector_has call.now }
 {
-    matches!(
-        call,
+    match call {
         Call::Pass {
             pass: GcMessage::Manifest,
+            filter,
             ..
-        }
-    )
+        } => !matches!(filter, FilterWord::Paths(_)),
+        _ => false,
+    }
 }
 
 /// Whether a kind of party has a call.

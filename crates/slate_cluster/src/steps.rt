@@ -30,12 +30,12 @@ fn checkpoint_reply(id: CheckpointId, manifest: &Manifest) -> Reply
 }
 
 // The options of a pass.
-fn options_of(min_age: u64, dry_run: bool, filter: FilterWord) -> PassOptions
-    ensures { result ≡ pass_options min_age dry_run filter }
+fn options_of(min_age: u64, dry_run: bool, filter: &FilterWord) -> PassOptions
+    ensures { result ≡ pass_options min_age dry_run filter.now }
 {
     let allows = match filter {
         FilterWord::All => true,
-        FilterWord::Nothing => false,
+        FilterWord::Nothing | FilterWord::Paths(_) => false,
     };
     PassOptions {
         min_age,
@@ -66,7 +66,7 @@ fn go_on(
             filter,
             ..
         } => {
-            let options = options_of(*min_age, *dry_run, *filter);
+            let options = options_of(*min_age, *dry_run, filter);
             *purpose = Purpose::Passing;
             *position = Position {
                 db: facts.db,

@@ -12,7 +12,7 @@ use Rattle.slate_store.specs.Machines.{Goes, Stay, End}
 use Rattle.slate_script.specs.declared.call.Call.{Call}
 use Rattle.slate_script.specs.declared.call.Call.TheVariants.{OpenWriter, Flush, WriteCheckpoint, ReplaceCheckpoint, RefreshCheckpoint, DeleteCheckpoint, Pass}
 use Rattle.slate_script.specs.declared.filter_word.FilterWord.{FilterWord}
-use Rattle.slate_script.specs.declared.filter_word.FilterWord.TheVariants.{All, Nothing}
+use Rattle.slate_script.specs.declared.filter_word.FilterWord.TheVariants.{All, Nothing, Paths}
 use Rattle.slate_script.specs.declared.party_kind.PartyKind.{PartyKind}
 use Rattle.slate_script.specs.declared.party_kind.PartyKind.TheVariants.{Writer, Holder, Collector}
 use Rattle.slate_script.specs.declared.reply.Reply.{Reply}
@@ -52,9 +52,15 @@ holder_has (RefreshCheckpoint id lifetime) = is_some lifetime
 holder_has (DeleteCheckpoint id) = true
 holder_has _ = false
 
+-- the filters that passes have so far: all or nothing
+abbrev pub is_all_or_nothing : FilterWord → Bool
+is_all_or_nothing All = true
+is_all_or_nothing Nothing = true
+is_all_or_nothing (Paths paths) = false
+
 -- the call of a collector: so far, the pass of manifests alone
 abbrev pub collector_has : Call → Bool
-collector_has (Pass of.Manifest min_age dry_run filter) = true
+collector_has (Pass of.Manifest min_age dry_run filter) = is_all_or_nothing filter
 collector_has _ = false
 
 -- whether a kind of party has a call
@@ -106,6 +112,7 @@ pub data Next : Type 0 where
 abbrev pub allows : FilterWord → Bool
 allows All = true
 allows Nothing = false
+allows (Paths paths) = false
 
 -- the options of a pass
 abbrev pub options_of : ℕ → Bool → FilterWord → PassOptions

@@ -113,7 +113,7 @@ impl Call {
                 pass: *pass,
                 min_age: *min_age,
                 dry_run: *dry_run,
-                filter: *filter,
+                filter: filter.copy(alloc)?,
             },
         })
     }

@@ -11,6 +11,7 @@ mod entry;
 mod event;
 mod fields;
 mod filter_word;
+mod flush_table;
 #[cfg(test)]
 mod line_tests;
 mod opening_tables;
@@ -39,6 +40,7 @@ pub use db_spec::DbSpec;
 pub use entry::Entry;
 pub use event::Event;
 pub use filter_word::FilterWord;
+pub use flush_table::FlushTable;
 pub use party_kind::PartyKind;
 pub use reading::read_script;
 pub use reply::Reply;
