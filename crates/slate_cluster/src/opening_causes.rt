@@ -72,6 +72,13 @@ fn place_of(own: DbPath, id: &SsTableId, entries: &[ExternalDb]) -> DbPath
     own
 }
 
+// Whether one of the objects is at a path.
+fn is_there(objects: &Objects, path: &ObjectPath) -> bool
+    ensures { result ≡ opens.is_there path.now objects.now.entries }
+{
+    objects.contains_key(path)
+}
+
 // Whether a table of a tree isn't among the objects.
 fn is_absent(objects: &Objects, spec: &DbSpec, id: &SsTableId) -> bool
     ensures { result ≡ opens.is_absent objects.now.entries spec.now id.now }
@@ -80,7 +87,7 @@ fn is_absent(objects: &Objects, spec: &DbSpec, id: &SsTableId) -> bool
         SsTableId::Wal(_) => false,
         SsTableId::Compacted(ulid) => {
             let place = place_of(spec.path, id, spec.manifest.external_dbs.as_slice());
-            !objects.contains_key(&ObjectPath::Table(place, *ulid))
+            !is_there(objects, &ObjectPath::Table(place, *ulid))
         }
     }
 }

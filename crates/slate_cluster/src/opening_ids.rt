@@ -65,16 +65,27 @@ fn are_tables_once(alloc: Global, specs: &[DbSpec]) -> Result<bool, OutOfMemory>
     Ok(true)
 }
 
-// Whether the ids of views differ.
-fn do_views_differ(alloc: Global, views: &VecDeque<SsTableView>) -> Result<bool, OutOfMemory>
-    ensures { IfOk result (λ differ. differ ≡ is_some (opens.seen_from [] (map (λ v. v.id) views.now.items))) }
+// The ids of views, in order.
+fn view_ids(alloc: Global, views: &VecDeque<SsTableView>) -> Result<Vec<Ulid>, OutOfMemory>
+    ensures { IfOk result (λ ids. ids.items ≡ map (λ v. v.id) views.now.items) }
+{
+    let mut ids = Vec::new(alloc);
+    for view in views.iter() {
+        ids.push(view.id)?;
+    }
+    Ok(ids)
+}
+
+// Whether these ids differ.
+fn do_differ(alloc: Global, ids: &[Ulid]) -> Result<bool, OutOfMemory>
+    ensures { IfOk result (λ differ. differ ≡ is_some (opens.seen_from [] ids.now)) }
 {
     let mut seen = BTreeSet::new(alloc);
-    for view in views.iter() {
-        if seen.contains(&view.id) {
+    for id in ids {
+        if seen.contains(id) {
             return Ok(false);
         }
-        seen.insert(view.id)?;
+        seen.insert(*id)?;
     }
     Ok(true)
 }
@@ -100,7 +111,8 @@ fn do_runs_fall(runs: &[SortedRun]) -> bool
 fn is_tree_in_order(alloc: Global, tree: &LsmTreeState) -> Result<bool, OutOfMemory>
     ensures { IfOk result (λ fine. fine ≡ opens.is_tree_in_order tree.now) }
 {
-    let differ = do_views_differ(alloc, tree.l0.as_deque())?;
+    let ids = view_ids(alloc, tree.l0.as_deque())?;
+    let differ = do_differ(alloc, ids.as_slice())?;
     Ok(differ && do_runs_fall(tree.compacted.as_slice()))
 }
 
