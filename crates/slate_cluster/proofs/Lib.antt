@@ -4,6 +4,8 @@ pub mod Events
 pub mod Stepping
 pub mod Carrying
 pub mod Openings
+pub mod Seen
+pub mod Absent
 pub mod Reports
 pub mod Outcomes
 pub mod Reached

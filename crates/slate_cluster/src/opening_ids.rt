@@ -11,7 +11,7 @@ use std::alloc::Global;
 use std::collections::{BTreeSet, VecDeque};
 
 /// Ids of tables or views, in order.
-type Seen = BTreeSet<Ulid>;
+type Seen = BTreeSet<(u64, u128)>;
 
 // Notes the ids of checkpoints. False where one was carried already.
 fn add_ids(carried: &mut Carried, checkpoints: &[Checkpoint]) -> Result<bool, OutOfMemory>
@@ -39,17 +39,36 @@ pub(crate) fn open_carried(alloc: Global, specs: &[DbSpec]) -> Result<Option<Car
     Ok(Some(carried))
 }
 
-// Notes the ids of tables. False where one came already.
-fn add_tables(seen: &mut Seen, tables: &[(Ulid, SsTableInfo)]) -> Result<bool, OutOfMemory>
-    ensures { IfOk result (λ all. (if all then Some seen.new.keys else None) ≡ opens.seen_from seen.old.keys (map (λ t. t.0) tables.now)) }
+// The parts of an id, by which ids are ordered.
+fn parts_of(id: &Ulid) -> (u64, u128)
+    ensures { result ≡ id.now }
 {
-    for table in tables {
-        if seen.contains(&table.0) {
+    (id.timestamp_ms(), id.tail())
+}
+
+// Notes these ids. False where one came already.
+fn add_once(seen: &mut Seen, ids: &[Ulid]) -> Result<bool, OutOfMemory>
+    ensures { IfOk result (λ once. (if once then Some seen.new.keys else None) ≡ opens.seen_from seen.old.keys ids.now) }
+{
+    for id in ids {
+        let parts = parts_of(id);
+        if seen.contains(&parts) {
             return Ok(false);
         }
-        seen.insert(table.0)?;
+        seen.insert(parts)?;
     }
     Ok(true)
+}
+
+// The ids of tables, in order.
+fn table_ids(alloc: Global, tables: &[(Ulid, SsTableInfo)]) -> Result<Vec<Ulid>, OutOfMemory>
+    ensures { IfOk result (λ ids. ids.items ≡ map (λ t. t.0) tables.now) }
+{
+    let mut ids = Vec::new(alloc);
+    for table in tables {
+        ids.push(table.0)?;
+    }
+    Ok(ids)
 }
 
 // Whether no table comes twice.
@@ -58,7 +77,8 @@ fn are_tables_once(alloc: Global, specs: &[DbSpec]) -> Result<bool, OutOfMemory>
 {
     let mut seen = BTreeSet::new(alloc);
     for spec in specs {
-        if !add_tables(&mut seen, spec.tables.as_slice())? {
+        let ids = table_ids(alloc, spec.tables.as_slice())?;
+        if !add_once(&mut seen, ids.as_slice())? {
             return Ok(false);
         }
     }
@@ -81,13 +101,10 @@ fn do_differ(alloc: Global, ids: &[Ulid]) -> Result<bool, OutOfMemory>
     ensures { IfOk result (λ differ. differ ≡ is_some (opens.seen_from [] ids.now)) }
 {
     let mut seen = BTreeSet::new(alloc);
-    for id in ids {
-        if seen.contains(id) {
-            return Ok(false);
-        }
-        seen.insert(*id)?;
+    if add_once(&mut seen, ids)? {
+        return Ok(true);
     }
-    Ok(true)
+    Ok(false)
 }
 
 // Whether the ids of runs fall strictly.
