@@ -48,7 +48,7 @@ pub(crate) struct TreeItems {
 
 /// An item of the tree of a prefix.
 pub(crate) trait InTree {
-    /// The prefix.
+    /// The prefix, as contracts see it.
     ghost its_prefix: { Self → List ℕ };
 
     /// The prefix.
