@@ -1,7 +1,7 @@
 //! One step of a call.
 ghost use Rattle.std.specs.Prelude.{◌≡◌, true, IfOk, OnErr};
 ghost use Rattle.slate_state.specs.Checkpoints.{checkpoint_at};
-ghost use Rattle.slate_protocol.specs.Calls.{done_next, checkpoint_reply as replied, options_of as pass_options};
+ghost use Rattle.slate_protocol.specs.Calls.{Finish, done_next, after_pass, checkpoint_reply as replied, options_of as pass_options};
 ghost use Rattle.slate_protocol.specs.Phrases.{is_due};
 ghost use Rattle.slate_cluster.specs.Recorded.{told_by};
 ghost use Rattle.slate_cluster.specs.Followed.{next_by, Commits, Ends, Followed, Kept};
@@ -9,7 +9,7 @@ ghost use Rattle.slate_cluster.specs.Followed.{next_by, Commits, Ends, Followed,
 use crate::commits::commit_call;
 use crate::phrases::advance;
 use crate::recorder::Recorder;
-use slate_gc::{PassOptions, PassPhase};
+use slate_gc::{PassCounts, PassOptions, PassPhase};
 use slate_ids::{CheckpointId, DbPath, Millis, OutOfMemory, SlateDBError};
 use slate_log::ReadPhase;
 use slate_model::Manifest;
@@ -115,6 +115,20 @@ fn read_version(
     }
 }
 
+// A pass has come to its end.
+fn end_pass(purpose: &Purpose, counts: &PassCounts) -> Reply
+    ensures { after_pass purpose.now counts.now ≡ Finish result }
+{
+    match purpose {
+        Purpose::Passing => Reply::Pass {
+            picked: counts.picked,
+            deleted: counts.deleted,
+            failed: counts.failed,
+        },
+        _ => Reply::Refused(SlateDBError::StoreFault),
+    }
+}
+
 // The phrase under way has ended. Want of memory puts it back to its last phase.
 fn end_phrase(
     alloc: Global,
@@ -128,22 +142,21 @@ fn end_phrase(
 ) -> Result<Option<Reply>, OutOfMemory>
     ensures { Ends facts.now call.now db now purpose.old ended purpose.new position.new result }
 {
-    match (*purpose, ended) {
-        (_, Ended::NoVersion) => Ok(Some(Reply::Refused(
+    match ended {
+        Ended::NoVersion => Ok(Some(Reply::Refused(
             SlateDBError::LatestTransactionalObjectVersionMissing,
         ))),
-        (Purpose::Reading, Ended::Version(n, value)) => {
-            read_version(alloc, facts, call, db, now, purpose, position, n, value)
-        }
-        (Purpose::Committing(_), Ended::Committed(_, value)) => {
-            Ok(go_on(facts, call, purpose, position, &value))
-        }
-        (Purpose::Passing, Ended::Passed(counts)) => Ok(Some(Reply::Pass {
-            picked: counts.picked,
-            deleted: counts.deleted,
-            failed: counts.failed,
-        })),
-        _ => Ok(Some(Reply::Refused(SlateDBError::StoreFault))),
+        Ended::Version(n, value) => match *purpose {
+            Purpose::Reading => {
+                read_version(alloc, facts, call, db, now, purpose, position, n, value)
+            }
+            _ => Ok(Some(Reply::Refused(SlateDBError::StoreFault))),
+        },
+        Ended::Committed(_, value) => match *purpose {
+            Purpose::Committing(_) => Ok(go_on(facts, call, purpose, position, &value)),
+            _ => Ok(Some(Reply::Refused(SlateDBError::StoreFault))),
+        },
+        Ended::Passed(counts) => Ok(Some(end_pass(purpose, &counts))),
     }
 }
 

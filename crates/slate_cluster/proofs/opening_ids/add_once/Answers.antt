@@ -9,4 +9,4 @@ returns-then-contains c =
 pub loop-id-preserved : goal.loop-id-preserved
 loop-id-preserved c =
     seen_once c.loop-id.seen.keys c.args.ids.now c.loop-id.id-index c.id-item.result c.parts_of-parts.result _ c.loop-id-test.true c.id-item.is c.parts_of-parts.ensures c.loop-id.invariant c.insert.new.self.keys
-      (sym c.contains.ensures ∙ c.if-contains.false) c.in_ok-insert.ensures.keys
+    (sym c.contains.ensures ∙ c.if-contains.false) c.in_ok-insert.ensures.keys
