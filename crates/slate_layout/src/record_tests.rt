@@ -11,8 +11,8 @@ use slate_records::{
 use std::alloc::Global;
 
 /// The id of these milliseconds.
-fn id(number: u64) -> Ulid {
-    Ulid::from_parts(number, 0)
+fn id(number: u32) -> Ulid {
+    Ulid::from_parts(number as u64, 0)
 }
 
 #[test]
@@ -246,14 +246,11 @@ fn outputs_are_kept_once_compacted(rt: HostRuntime) -> Result<(), SlateDBError> 
     Ok(())
 }
 
-/// What a worker goes on with: one part, all of whose keys are from "a" on.
+/// What a worker goes on with: one part, all of whose keys begin with "a".
 fn context(alloc: Global, retention: Option<u64>) -> Result<CompactionContext, OutOfMemory> {
     let mut parts = Listed::new(alloc);
     parts.push(Subcompaction {
-        range: BytesRange::new(
-            std::ops::Bound::Included(Bytes::from("a")),
-            std::ops::Bound::Unbounded,
-        ),
+        range: BytesRange::from_prefix(alloc, b"a")?,
         output_ssts: outputs(alloc, SsTableId::Compacted(id(13)))?,
     })?;
     Ok(CompactionContext {
