@@ -98,13 +98,24 @@ fn an_open_raises_the_epoch(rt: HostRuntime) {
     }
 }
 
-/// Whether a flush puts its numbers, and how many pairs the tracker has then.
-fn flushed(alloc: Global, seq: u64, tick: i64) -> Result<(bool, usize), OutOfMemory> {
+/// A manifest whose tracker has one pair.
+fn tracking(alloc: Global) -> Result<Manifest, OutOfMemory> {
     let mut manifest = numbered(alloc, 0, 0, 0);
     manifest.core.sequence_tracker.insert(5, 50)?;
+    Ok(manifest)
+}
+
+/// Whether a manifest has these numbers of the newest flushed table, and how many pairs its tracker has.
+fn told(manifest: &Manifest, seq: u64, tick: i64) -> (bool, usize) {
+    let are_put = manifest.core.last_l0_seq == seq && manifest.core.last_l0_clock_tick == tick;
+    (are_put, manifest.core.sequence_tracker.pairs().len())
+}
+
+/// Whether a flush puts its numbers, and how many pairs the tracker has then.
+fn flushed(alloc: Global, seq: u64, tick: i64) -> Result<(bool, usize), OutOfMemory> {
+    let manifest = tracking(alloc)?;
     let made = flush(alloc, seq, tick, &manifest)?;
-    let are_put = made.core.last_l0_seq == seq && made.core.last_l0_clock_tick == tick;
-    Ok((are_put, made.core.sequence_tracker.pairs().len()))
+    Ok(told(&made, seq, tick))
 }
 
 #[test]
