@@ -78,13 +78,20 @@ fn a_written_checkpoint_names_its_source_s_version(rt: HostRuntime) -> Result<()
     Ok(())
 }
 
+/// Whether a refusal says that the checkpoint of this number is missing.
+fn says_missing(made: &Result<Option<Manifest>, SlateDBError>, number: u64) -> bool {
+    let id = CheckpointId::from_u64(number);
+    match made {
+        Err(SlateDBError::CheckpointMissing(missing)) => missing.is(&id),
+        _ => false,
+    }
+}
+
 /// Whether a write of checkpoint 9 is refused, as its source isn't there.
 fn is_missing(alloc: Global, manifest: &Manifest) -> bool {
     let id = CheckpointId::from_u64(9);
-    match write_checkpoint(alloc, id, of_source(Some(4)), 1, 7, manifest) {
-        Err(SlateDBError::CheckpointMissing(missing)) => missing.is(&CheckpointId::from_u64(4)),
-        _ => false,
-    }
+    let made = write_checkpoint(alloc, id, of_source(Some(4)), 1, 7, manifest);
+    says_missing(&made, 4)
 }
 
 #[test]
