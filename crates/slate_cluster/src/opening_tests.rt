@@ -1,4 +1,5 @@
 //! Databases with fields of their own, with trees and tables, through the program and through `Cluster::new`.
+ghost use Rattle.std.specs.Prelude.{◌<◌};
 
 use crate::checking::{check, run_of};
 use crate::test_databases::database;
