@@ -1,5 +1,5 @@
 -- What a step of a party did.
-use Rattle.std.specs.Prelude.{◌≡◌, ℤ, Bool, false, Option}
+use Rattle.std.specs.Prelude.{◌≡◌, ℤ, Bool, false, Option, Some, None}
 use Rattle.slate_store.specs.Store.{Store, effect}
 use Rattle.slate_store.specs.declared.mark.Mark.{Mark}
 use Rattle.slate_store.specs.declared.made.Made.{Made}
@@ -7,7 +7,7 @@ use Rattle.slate_script.specs.declared.call.Call.{Call}
 use Rattle.slate_script.specs.declared.reply.Reply.{Reply}
 use Rattle.slate_protocol.specs.Phrases.{asks, goes, is_due}
 use Rattle.slate_protocol.specs.Calls.{Next, follow}
-use Rattle.slate_protocol.specs.World.{settled, reply_of}
+use Rattle.slate_protocol.specs.World.{facts_after, settled, reply_of}
 use Rattle.slate_protocol.specs.declared.party.Facts.{Facts}
 use Rattle.slate_protocol.specs.declared.party.Party.{Party}
 use Rattle.slate_protocol.specs.declared.party.Purpose.{Purpose}
@@ -27,6 +27,11 @@ abbrev pub is_busy : State → Bool
 is_busy Resting = false
 is_busy (Busy call purpose position) = is_due position
 is_busy Halted = false
+
+-- a party after a step of its call: a reply ends the call
+abbrev pub after_reply : Party → Option Reply → Party
+after_reply party None = party
+after_reply party (Some reply) = record { facts = facts_after party.facts reply; state = Resting }
 
 -- a party's call went one step, and the party stands there
 pub record Moves (facts : Facts) (under : Call) (purpose : Purpose) (position : Position) (moment : ℤ) (mark : Mark) (old new : Store) (made : Made) (reply : Option Reply) (party : Party) : Type 0 where

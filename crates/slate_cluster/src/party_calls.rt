@@ -2,7 +2,7 @@
 ghost use Rattle.std.specs.Prelude.{◌≡◌, true, IfOk, OnErr};
 ghost use Rattle.slate_protocol.specs.Calls.{begin, read_next, once_open};
 ghost use Rattle.slate_protocol.specs.World.{facts_after, settled, reply_of};
-ghost use Rattle.slate_cluster.specs.Stepped.{is_busy, PartyStepped};
+ghost use Rattle.slate_cluster.specs.Stepped.{is_busy, after_reply, PartyStepped};
 
 use crate::party_steps::{Stepped, step_party};
 use crate::phrases::is_due;
@@ -94,6 +94,16 @@ pub(crate) fn has_due_call(state: &State) -> bool
     }
 }
 
+// A reply ends the party's call.
+fn settle(party: &mut Party, reply: &Option<Reply>)
+    ensures { party.new ≡ after_reply party.old reply.now }
+{
+    if let Some(reply) = reply {
+        take_reply(&mut party.facts, reply);
+        party.state = State::Resting;
+    }
+}
+
 /// Makes the store call that is due, and goes on with the party's call or ends it. Want of memory changes nothing.
 pub(crate) fn step_busy(
     alloc: Global,
@@ -112,10 +122,7 @@ pub(crate) fn step_busy(
         State::Resting | State::Halted => unreachable!(),
         State::Busy(call, purpose, position) => {
             let stepped = step_party(alloc, &facts, call, purpose, position, store, moment, mark)?;
-            if let Some(reply) = &stepped.reply {
-                take_reply(&mut party.facts, reply);
-                party.state = State::Resting;
-            }
+            settle(party, &stepped.reply);
             Ok(stepped)
         }
     }
