@@ -1,12 +1,13 @@
 //! Databases with fields of their own, with trees and tables, through the program and through `Cluster::new`.
-ghost use Rattle.std.specs.Prelude.{◌<◌};
 
 use crate::checking::{check, run_of};
 use crate::test_databases::database;
 use crate::{Cluster, NewError, Status};
 use bytes::Bytes;
-use slate_ids::{Listed, Ulid};
-use slate_model::{Manifest, ManifestCore, SsTableHandle, SsTableId, SsTableInfo, SsTableView};
+use slate_ids::{Listed, OutOfMemory, Ulid};
+use slate_model::{
+    LsmTreeState, Manifest, ManifestCore, SsTableHandle, SsTableId, SsTableInfo, SsTableView,
+};
 use slate_script::{ClusterCause, DbSpec};
 use std::alloc::Global;
 use std::test::Fail;
@@ -121,39 +122,62 @@ fn trees_are_refused(rt: HostRuntime) -> Result<(), Fail> {
     Ok(())
 }
 
-// The table 1:1.
-fn table() -> SsTableHandle {
-    SsTableHandle {
+// What is known of a table that has a first entry.
+fn info() -> SsTableInfo {
+    let mut info = SsTableInfo::default();
+    info.first_entry = Some(Bytes::from("a"));
+    info
+}
+
+// A view of the table 1:1.
+fn view() -> SsTableView {
+    let table = SsTableHandle {
         id: SsTableId::Compacted(Ulid::from_parts(1, 1)),
         format_version: 1,
-        info: SsTableInfo::default(),
-    }
+        info: info(),
+    };
+    SsTableView::new(Ulid::from_parts(2, 2), table)
 }
 
-// A manifest with a view of the table 1:1, which has a first entry.
-fn of_one_view(alloc: Global) -> Result<Manifest, Fail> {
-    let mut manifest = Manifest::initial(alloc, ManifestCore::new(alloc));
-    let mut handle = table();
-    handle.info.first_entry = Some(Bytes::from("a"));
-    let view = SsTableView::new(Ulid::from_parts(2, 2), handle);
-    manifest.core.tree.l0.push_back(view)?;
-    manifest.core.floor = 1;
-    Ok(manifest)
+// A tree with this view.
+fn tree(alloc: Global) -> Result<LsmTreeState, OutOfMemory> {
+    let mut tree = LsmTreeState::new(alloc);
+    tree.l0.push_back(view())?;
+    Ok(tree)
 }
 
-// Why the database `db` with a view of the table 1:1 is refused where this table stands in the store.
-fn refused_beside(alloc: Global, tail: u128) -> Result<Option<ClusterCause>, Fail>
-    requires { tail < 10 }
-{
+// A manifest with this tree, and the watermark for its floor.
+fn manifest(alloc: Global) -> Result<Manifest, OutOfMemory> {
+    let tree = tree(alloc)?;
+    let mut core = ManifestCore::new(alloc);
+    core.tree = tree;
+    core.floor = 1;
+    Ok(Manifest::initial(alloc, core))
+}
+
+// The table of this id alone.
+fn only(alloc: Global, tail: u8) -> Result<Listed<(Ulid, SsTableInfo)>, OutOfMemory> {
     let mut tables = Listed::new(alloc);
-    tables.push((Ulid::from_parts(1, tail), SsTableInfo::default()))?;
-    let mut specs = Vec::new(alloc);
-    specs.push(DbSpec {
-        path: database()?,
-        manifest: of_one_view(alloc)?,
+    tables.push((Ulid::from_parts(1, tail as u128), info()))?;
+    Ok(tables)
+}
+
+// The database `db` with the view, beside which this table stands in the store.
+fn beside(alloc: Global, tail: u8) -> Result<DbSpec, Fail> {
+    let path = database()?;
+    let tables = only(alloc, tail)?;
+    Ok(DbSpec {
+        path,
+        manifest: manifest(alloc)?,
         tables,
         modified: 0,
-    })?;
+    })
+}
+
+// Why a list of this database alone is refused.
+fn cause_of(alloc: Global, spec: DbSpec) -> Result<Option<ClusterCause>, Fail> {
+    let mut specs = Vec::new(alloc);
+    specs.push(spec)?;
     match Cluster::new(alloc, specs) {
         Err(NewError::BadCluster(cause)) => Ok(Some(cause)),
         _ => Ok(None),
@@ -162,7 +186,7 @@ fn refused_beside(alloc: Global, tail: u128) -> Result<Option<ClusterCause>, Fai
 
 #[test]
 fn tables_of_trees_are_present(rt: HostRuntime) -> Result<(), Fail> {
-    assert!(rt; refused_beside(rt.alloc(), 1)?.is_none());
-    assert!(rt; refused_beside(rt.alloc(), 2)? == Some(ClusterCause::Tables));
+    assert!(rt; cause_of(rt.alloc(), beside(rt.alloc(), 1)?)?.is_none());
+    assert!(rt; cause_of(rt.alloc(), beside(rt.alloc(), 2)?)? == Some(ClusterCause::Tables));
     Ok(())
 }
