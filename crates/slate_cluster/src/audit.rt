@@ -1,7 +1,7 @@
 //! An audit of a run by its trail and its store: no reachable version was ever removed.
 ghost use Rattle.std.specs.Prelude.{◌<◌};
 
-use slate_ids::{ByteList, DbPath, ObjectPath, SlateDBError};
+use slate_ids::{ByteList, DbPath, ObjectPath, OutOfMemory, SlateDBError};
 use slate_layout::{decode_manifest, encode_manifest};
 use slate_log::boundary_in;
 use slate_model::{Manifest, ManifestCore};
@@ -68,10 +68,31 @@ fn is_bounded(number: u64, reply: &Reply) -> Option<bool> {
     }
 }
 
+// The bytes of a new manifest.
+fn first_bytes(alloc: Global) -> Result<Vec<u8>, SlateDBError> {
+    encode_manifest(alloc, &Manifest::initial(alloc, ManifestCore::new(alloc)))
+}
+
+// Adds the versions that a manifest's checkpoints name.
+fn push_named(manifest: &Manifest, named: &mut Vec<u64>) -> Result<(), OutOfMemory> {
+    for checkpoint in manifest.core.checkpoints.as_slice() {
+        named.push(checkpoint.manifest_id)?;
+    }
+    Ok(())
+}
+
+// The versions that the checkpoints of a manifest's bytes name.
+fn named_in(alloc: Global, bytes: &[u8]) -> Result<Vec<u64>, SlateDBError> {
+    let mut named = Vec::new(alloc);
+    let manifest = decode_manifest(alloc, bytes)?;
+    push_named(&manifest, &mut named)?;
+    Ok(named)
+}
+
 impl Audit {
     // As a run on a new database begins.
     fn new(alloc: Global, database: DbPath) -> Result<Audit, Fail> {
-        let bytes = encode_manifest(alloc, &Manifest::initial(alloc, ManifestCore::new(alloc)))?;
+        let bytes = first_bytes(alloc)?;
         let mut audit = Audit {
             database,
             versions: Vec::new(alloc),
@@ -123,17 +144,13 @@ impl Audit {
         if number != self.greatest().saturating_add(1) {
             return Err(Fail::from("a number was left out"));
         }
-        let manifest = decode_manifest(alloc, bytes)?;
+        let mut reachable = named_in(alloc, bytes)?;
+        reachable.push(number)?;
         self.versions.push(Version {
             bytes: ByteList::copy_of(alloc, bytes)?,
             stands: true,
             removed: false,
         })?;
-        let mut reachable = Vec::new(alloc);
-        reachable.push(number)?;
-        for checkpoint in manifest.core.checkpoints.as_slice() {
-            reachable.push(checkpoint.manifest_id)?;
-        }
         self.reachable = reachable;
         Ok(())
     }

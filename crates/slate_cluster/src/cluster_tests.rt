@@ -239,6 +239,25 @@ fn no_checkpoint_without_source_before_the_database_is_initialised(
     Ok(())
 }
 
+// Whether a manifest has the checkpoint 7 alone, as the holder's call at moment 1000 made it in version 2.
+fn holds_it(manifest: &Manifest) -> bool {
+    match manifest.core.checkpoints.as_slice() {
+        [found] => {
+            found.id.is(&CheckpointId::from_u64(7))
+                && found.manifest_id == 2
+                && found.expire_time == Some(4000)
+                && found.create_time == 1000
+        }
+        _ => false,
+    }
+}
+
+// Whether bytes are of such a manifest.
+fn tells_it(alloc: Global, bytes: &[u8]) -> Result<bool, SlateDBError> {
+    let manifest = decode_manifest(alloc, bytes)?;
+    Ok(holds_it(&manifest))
+}
+
 // The checkpoint names the version that its commit makes; its moments are read back in whole seconds.
 #[test]
 fn a_checkpoint_stands_in_its_own_version(rt: HostRuntime) -> Result<(), Fail> {
@@ -246,20 +265,8 @@ fn a_checkpoint_stands_in_its_own_version(rt: HostRuntime) -> Result<(), Fail> {
     let mut cluster = Cluster::new(alloc, one_new(alloc)?)?;
     let events = writes_checkpoint(alloc)?;
     cluster.run(alloc, events.as_slice())?;
-    let db = database()?;
-    let object = cluster
-        .store()
-        .object(&ObjectPath::Manifest(db, 2))
-        .ok_or("no object")?;
-    let manifest = decode_manifest(alloc, object.bytes.as_slice())?;
-    let found = manifest
-        .core
-        .checkpoints
-        .as_slice()
-        .first()
-        .ok_or("no checkpoint")?;
-    assert!(rt; found.id.is(&CheckpointId::from_u64(7)) && found.manifest_id == 2);
-    assert!(rt; found.expire_time == Some(4000) && found.create_time == 1000);
-    assert!(rt; manifest.core.checkpoints.as_slice().len() == 1);
+    let path = ObjectPath::Manifest(database()?, 2);
+    let object = cluster.store().object(&path).ok_or("no object")?;
+    assert!(rt; tells_it(alloc, object.bytes.as_slice())?);
     Ok(())
 }
