@@ -9,7 +9,7 @@ use Rattle.slate_ids.specs.Twenty.{twenty}
 abbrev tens : List ℕ
 tens = codes "0123456789"
 
-digit : (d : ℕ) → d < 10 → get_or tens d 0 ≡ 48 + d
+pub digit : (d : ℕ) → d < 10 → get_or tens d 0 ≡ 48 + d
 digit d h = get_or-map-range_with_len (λ k. 48 + k) 0 10 d d 0 h (omega arith)
 
 zeros : (k : ℕ) → numeral tens k 0 ≡ replicate k 48

@@ -8,6 +8,17 @@ use Rattle.slate_ids.specs.UlidText.{ulid_text}
 use Rattle.slate_ids.specs.declared.object_path.ObjectPath.{ObjectPath}
 use Rattle.slate_ids.specs.declared.object_path.ObjectPath.TheVariants.{Manifest, Record, ManifestBoundary, RecordBoundary, Table, Wal, Marker, Other}
 
+-- the database of a path
+abbrev pub db_of : ObjectPath → List ℕ
+db_of (Manifest db n) = db
+db_of (Record db n) = db
+db_of (ManifestBoundary db) = db
+db_of (RecordBoundary db) = db
+db_of (Table db id) = db
+db_of (Wal db n) = db
+db_of (Marker db) = db
+db_of (Other db rest) = db
+
 -- the text of a path
 abbrev pub path_text : ObjectPath → List ℕ
 path_text (Manifest db n) = db ++ codes "/manifest/" ++ twenty n ++ codes ".manifest"

@@ -19,6 +19,7 @@ mod numeral;
 mod object_path;
 mod out_of_memory;
 mod path_kind;
+mod path_order;
 mod path_pieces;
 mod path_rest;
 mod path_text;

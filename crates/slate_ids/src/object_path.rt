@@ -4,11 +4,11 @@ ghost use Rattle.std.specs.Ordering.{eq_by_cmp, as_partial_cmp};
 ghost use Rattle.std.specs.Cmp.{partial_equiv_from_equiv, partial_order_from_total};
 ghost use Rattle.std.specs.Cmp.Lexicographic.{on_texts};
 ghost use Rattle.std.proofs.lemmas.Cmp.{eq_by_cmp_equiv};
-ghost use Rattle.slate_ids.specs.PathText.{path_cmp, path_text};
+ghost use Rattle.slate_ids.specs.PathText.{db_of, path_cmp, path_text};
 
 use crate::db_path::DbPath;
 use crate::out_of_memory::OutOfMemory;
-use crate::path_pieces::{Name, Pieces};
+use crate::path_order::compare;
 use crate::path_rest::PathRest;
 use crate::ulid::Ulid;
 use std::alloc::Global;
@@ -37,6 +37,22 @@ pub enum ObjectPath {
 }
 
 impl ObjectPath {
+    /// The database.
+    pub fn db(&self) -> &DbPath
+        ensures { result.now ≡ db_of self.now }
+    {
+        match self {
+            ObjectPath::Manifest(db, _) => db,
+            ObjectPath::Record(db, _) => db,
+            ObjectPath::ManifestBoundary(db) => db,
+            ObjectPath::RecordBoundary(db) => db,
+            ObjectPath::Table(db, _) => db,
+            ObjectPath::Wal(db, _) => db,
+            ObjectPath::Marker(db) => db,
+            ObjectPath::Other(db, _) => db,
+        }
+    }
+
     /// An equal value.
     pub fn copy(&self, alloc: Global) -> Result<ObjectPath, OutOfMemory>
         ensures { IfOk result (λ copied. copied ≡ self.now) }
@@ -89,9 +105,7 @@ impl Ord for ObjectPath {
     ghost matches_eq = { λ _ _. refl };
 
     fn cmp(&self, other: &ObjectPath) -> Ordering {
-        let own = Name::of(self);
-        let others = Name::of(other);
-        Pieces::of(self, &own).compare(&Pieces::of(other, &others))
+        compare(self, other)
     }
 }
 

@@ -192,6 +192,8 @@ fn paths_order_as_texts(rt: HostRuntime) -> Result<(), OutOfMemory> {
             "a/manifest/00000000000000000010.manifest",
         ),
         ("a/manifest", "a/manifest/00000000000000000009.manifest"),
+        ("a/wal/00000000000000000001.sst", "a/wal/18446744073709551615.sst"),
+        ("aa/wal/00000000000000000001.sst", "b/.deleting"),
     ] {
         assert!(rt;
             path(alloc, one)?.cmp(&path(alloc, other)?) == Ordering::Less,

@@ -1,20 +1,12 @@
 -- Which paths a folder lists.
-use Rattle.std.specs.Prelude.{ℕ, List, Bool, false, bytes_eq}
+use Rattle.std.specs.Prelude.{ℕ, List, Bool, false, bytes_eq, codes}
+use Rattle.std.specs.declared.ops.Bound.{Bound}
+use Rattle.std.specs.declared.ops.Bound.TheVariants.{Included, Excluded, Unbounded}
+use Rattle.slate_ids.specs.PathText.{db_of}
 use Rattle.slate_ids.specs.declared.object_path.ObjectPath.{ObjectPath}
-use Rattle.slate_ids.specs.declared.object_path.ObjectPath.TheVariants.{Manifest, Record, ManifestBoundary, RecordBoundary, Table, Wal, Marker, Other}
+use Rattle.slate_ids.specs.declared.object_path.ObjectPath.TheVariants.{Manifest, Record, Table, Wal, Other}
 use Rattle.slate_store.specs.declared.list_dir.ListDir.{ListDir}
 use Rattle.slate_store.specs.declared.list_dir.ListDir.TheVariants.{Manifests, Records, Tables, Wals, All}
-
--- the database of a path
-abbrev pub db_of : ObjectPath → List ℕ
-db_of (Manifest db n) = db
-db_of (Record db n) = db
-db_of (ManifestBoundary db) = db
-db_of (RecordBoundary db) = db
-db_of (Table db id) = db
-db_of (Wal db n) = db
-db_of (Marker db) = db
-db_of (Other db rest) = db
 
 -- whether a folder lists a path
 abbrev pub is_in : ListDir → ObjectPath → Bool
@@ -24,3 +16,15 @@ is_in (Tables db) (Table of id) = bytes_eq db of
 is_in (Wals db) (Wal of n) = bytes_eq db of
 is_in (All db) path = bytes_eq db (db_of path)
 is_in _ _ = false
+
+-- the paths whose rest is from one text on, and below another one
+abbrev pub from_to : List ℕ → List ℕ → List ℕ → Bound ObjectPath × Bound ObjectPath
+from_to db from to = (Included (Other db from), Excluded (Other db to))
+
+-- between which paths, in the order of texts, those of a folder stand: `0` comes next after `/`
+abbrev pub bounds_of : ListDir → Bound ObjectPath × Bound ObjectPath
+bounds_of (Manifests db) = from_to db (codes "manifest/") (codes "manifest0")
+bounds_of (Records db) = from_to db (codes "compactions/") (codes "compactions0")
+bounds_of (Tables db) = from_to db (codes "compacted/") (codes "compacted0")
+bounds_of (Wals db) = from_to db (codes "wal/") (codes "wal0")
+bounds_of (All db) = (Unbounded, Unbounded)

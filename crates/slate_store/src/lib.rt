@@ -5,6 +5,7 @@
 #[cfg(test)]
 mod ends_tests;
 mod list_dir;
+mod listing;
 mod made;
 mod mark;
 mod marks;

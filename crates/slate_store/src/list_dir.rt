@@ -20,22 +20,6 @@ fn is_same(a: &DbPath, b: &DbPath) -> bool
     a.letters() == b.letters()
 }
 
-// The database of a path.
-fn db_of(path: &ObjectPath) -> &DbPath
-    ensures { result.now ≡ Rattle.slate_store.specs.Folders.db_of path.now }
-{
-    match path {
-        ObjectPath::Manifest(db, _) => db,
-        ObjectPath::Record(db, _) => db,
-        ObjectPath::ManifestBoundary(db) => db,
-        ObjectPath::RecordBoundary(db) => db,
-        ObjectPath::Table(db, _) => db,
-        ObjectPath::Wal(db, _) => db,
-        ObjectPath::Marker(db) => db,
-        ObjectPath::Other(db, _) => db,
-    }
-}
-
 impl ListDir {
     /// Whether the folder lists this path.
     pub fn lists(&self, path: &ObjectPath) -> bool
@@ -46,7 +30,7 @@ impl ListDir {
             (ListDir::Records(db), ObjectPath::Record(of, _)) => is_same(db, of),
             (ListDir::Tables(db), ObjectPath::Table(of, _)) => is_same(db, of),
             (ListDir::Wals(db), ObjectPath::Wal(of, _)) => is_same(db, of),
-            (ListDir::All(db), any) => is_same(db, db_of(any)),
+            (ListDir::All(db), any) => is_same(db, any.db()),
             _ => false,
         }
     }

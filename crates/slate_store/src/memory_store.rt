@@ -13,6 +13,7 @@ ghost use Rattle.slate_store.specs.declared.store_call.StoreCall.TheVariants as 
 ghost use Rattle.slate_store.specs.declared.store_answer.StoreAnswer.TheVariants as answers;
 
 use crate::list_dir::ListDir;
+use crate::listing::listing;
 use crate::mark::Mark;
 use crate::marks::Marks;
 use crate::object::{ObjectMetadata, StoredObject};
@@ -83,37 +84,6 @@ fn has_tag(objects: &Objects, path: &ObjectPath, tag: u64) -> bool
         Some(object) => object.e_tag == tag,
         None => false,
     }
-}
-
-fn metadata_of(
-    alloc: Global,
-    path: &ObjectPath,
-    object: &StoredObject,
-) -> Result<ObjectMetadata, OutOfMemory>
-    ensures { IfOk result (λ found. found ≡ metadata (path.now, object.now)) }
-{
-    Ok(ObjectMetadata {
-        location: path.copy(alloc)?,
-        last_modified: object.last_modified,
-        size: object.bytes.as_slice().len() as u64,
-        e_tag: object.e_tag,
-    })
-}
-
-fn listing(
-    alloc: Global,
-    objects: &Objects,
-    dir: &ListDir,
-) -> Result<Vec<ObjectMetadata>, OutOfMemory>
-    ensures { IfOk result (λ found. found.items ≡ map metadata (filter (λ o. is_in dir.now o.0) objects.now.entries)) }
-{
-    let mut found = Vec::new(alloc);
-    for (path, object) in objects {
-        if dir.lists(path) {
-            found.push(metadata_of(alloc, path, object)?)?;
-        }
-    }
-    Ok(found)
 }
 
 // Equal paths of all objects, ascending.

@@ -164,3 +164,41 @@ fn lists_by_kind(rt: HostRuntime) -> Result<(), Fail> {
     lists(&rt, alloc, &mut store, &ListDir::All(a), &[4, 3, 2, 1])?;
     has_tags(&rt, alloc, &mut store, &[5, 4, 3, 2, 1])
 }
+
+// Puts an object with no bytes at the path of a text.
+fn put_at(alloc: Global, store: &mut MemoryStore, text: &str) -> Result<(), Fail> {
+    let path = ObjectPath::from_text(alloc, text)?.ok_or("no path of an object")?;
+    store.put(alloc, &path, b"", 1)?;
+    Ok(())
+}
+
+#[test]
+fn lists_what_stands_at_the_ends_of_a_folder(rt: HostRuntime) -> Result<(), Fail> {
+    let alloc = rt.alloc();
+    let texts = [
+        "a/manifest/00000000000000000000.manifest",
+        "a/manifest/18446744073709551615.manifest",
+        "a/manifest/",
+        "a/manifest/~",
+        "a/manifest0",
+        "a/compactions/00000000000000000000.compactions",
+        "a/compactions/18446744073709551615.compactions",
+        "a/compacted/00000000000000000000000000.sst",
+        "a/compacted/7ZZZZZZZZZZZZZZZZZZZZZZZZZ.sst",
+        "a/compacted0",
+        "a/wal/00000000000000000000.sst",
+        "a/wal/18446744073709551615.sst",
+        "a/wal/x",
+        "a-b/manifest/00000000000000000001.manifest",
+        "a0/wal/00000000000000000001.sst",
+    ];
+    let mut store = MemoryStore::new(alloc, Vec::new(alloc));
+    for text in &texts {
+        put_at(alloc, &mut store, text)?;
+    }
+    let a = db("a")?;
+    lists(&rt, alloc, &mut store, &ListDir::Manifests(a), &[1, 2])?;
+    lists(&rt, alloc, &mut store, &ListDir::Records(a), &[6, 7])?;
+    lists(&rt, alloc, &mut store, &ListDir::Tables(a), &[8, 9])?;
+    lists(&rt, alloc, &mut store, &ListDir::Wals(a), &[11, 12])
+}

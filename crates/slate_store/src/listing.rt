@@ -1,0 +1,85 @@
+//! What a folder lists of a map of objects.
+ghost use Rattle.std.specs.Prelude.{◌≡◌, true, codes, map, filter, IfOk};
+ghost use Rattle.slate_ids.specs.PathKind.{is_rest};
+ghost use Rattle.slate_ids.specs.declared.object_path.ObjectPath.TheVariants.{Other};
+ghost use Rattle.slate_store.specs.Folders.{is_in, from_to, bounds_of as bounds_in};
+ghost use Rattle.slate_store.specs.Store.{metadata};
+
+use crate::list_dir::ListDir;
+use crate::object::{ObjectMetadata, StoredObject};
+use slate_ids::{DbPath, ObjectPath, OutOfMemory, PathRest};
+use std::alloc::Global;
+use std::collections::BTreeMap;
+use std::ops::Bound;
+
+type Bounds = (Bound<ObjectPath>, Bound<ObjectPath>);
+
+fn metadata_of(
+    alloc: Global,
+    path: &ObjectPath,
+    object: &StoredObject,
+) -> Result<ObjectMetadata, OutOfMemory>
+    ensures { IfOk result (λ found. found ≡ metadata (path.now, object.now)) }
+{
+    Ok(ObjectMetadata {
+        location: path.copy(alloc)?,
+        last_modified: object.last_modified,
+        size: object.bytes.as_slice().len() as u64,
+        e_tag: object.e_tag,
+    })
+}
+
+// The path of a rest that has the form of no kind.
+fn other(alloc: Global, db: &DbPath, rest: &str) -> Result<ObjectPath, OutOfMemory>
+    requires { is_rest rest.now ≡ true }
+    ensures { IfOk result (λ path. path ≡ Other db.now rest.now) }
+{
+    match PathRest::from_text(alloc, rest)? {
+        Some(rest) => Ok(ObjectPath::Other(*db, rest)),
+        None => unreachable!(),
+    }
+}
+
+// The paths whose rest is from one text on, and below another one.
+fn from_to(alloc: Global, db: &DbPath, from: &str, to: &str) -> Result<Bounds, OutOfMemory>
+    requires from { is_rest from.now ≡ true }
+    requires to { is_rest to.now ≡ true }
+    ensures { IfOk result (λ bounds. bounds ≡ from_to db.now from.now to.now) }
+{
+    let from = Bound::Included(other(alloc, db, from)?);
+    let to = Bound::Excluded(other(alloc, db, to)?);
+    Ok((from, to))
+}
+
+// Between which paths those of a folder stand.
+#[tactic(auto, using(crate::proofs::Folders::manifests_from, crate::proofs::Folders::manifests_to, crate::proofs::Folders::records_from, crate::proofs::Folders::records_to, crate::proofs::Folders::tables_from, crate::proofs::Folders::tables_to, crate::proofs::Folders::wals_from, crate::proofs::Folders::wals_to))]
+fn bounds_of(alloc: Global, dir: &ListDir) -> Result<Bounds, OutOfMemory>
+    ensures { IfOk result (λ bounds. bounds ≡ bounds_in dir.now) }
+{
+    match dir {
+        ListDir::Manifests(db) => from_to(alloc, db, "manifest/", "manifest0"),
+        ListDir::Records(db) => from_to(alloc, db, "compactions/", "compactions0"),
+        ListDir::Tables(db) => from_to(alloc, db, "compacted/", "compacted0"),
+        ListDir::Wals(db) => from_to(alloc, db, "wal/", "wal0"),
+        ListDir::All(_) => Ok((Bound::Unbounded, Bound::Unbounded)),
+    }
+}
+
+/// What a folder lists, in order. Of the map only the paths between its bounds are looked at.
+#[tactic(auto, using(crate::proofs::Folders::within, crate::proofs::Folders::forward))]
+pub(crate) fn listing(
+    alloc: Global,
+    objects: &BTreeMap<ObjectPath, StoredObject>,
+    dir: &ListDir,
+) -> Result<Vec<ObjectMetadata>, OutOfMemory>
+    ensures { IfOk result (λ found. found.items ≡ map metadata (filter (λ o. is_in dir.now o.0) objects.now.entries)) }
+{
+    let bounds = bounds_of(alloc, dir)?;
+    let mut found = Vec::new(alloc);
+    for (path, object) in objects.range(bounds) {
+        if dir.lists(path) {
+            found.push(metadata_of(alloc, path, object)?)?;
+        }
+    }
+    Ok(found)
+}
