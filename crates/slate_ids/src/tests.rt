@@ -192,7 +192,10 @@ fn paths_order_as_texts(rt: HostRuntime) -> Result<(), OutOfMemory> {
             "a/manifest/00000000000000000010.manifest",
         ),
         ("a/manifest", "a/manifest/00000000000000000009.manifest"),
-        ("a/wal/00000000000000000001.sst", "a/wal/18446744073709551615.sst"),
+        (
+            "a/wal/00000000000000000001.sst",
+            "a/wal/18446744073709551615.sst",
+        ),
         ("aa/wal/00000000000000000001.sst", "b/.deleting"),
     ] {
         assert!(rt;
