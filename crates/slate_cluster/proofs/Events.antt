@@ -6,7 +6,7 @@ use Rattle.slate_script.specs.declared.event.Event.{Event}
 use Rattle.slate_script.specs.declared.entry.Entry.{Entry}
 use Rattle.slate_protocol.specs.World.{World, Done, happens}
 use Rattle.slate_protocol.specs.Runs.{Course, Ran, going_on, run}
-use Rattle.slate_cluster.specs.Ran.{Happened}
+use Rattle.slate_cluster.specs.Ran.{Happened, Extends}
 
 -- what a run makes of its next event
 abbrev next : List Event → ℕ → Course → Option Done → Ran
@@ -80,8 +80,12 @@ drop_front (x ∷ xs) ys = drop_front xs ys
 tail_slice : (p : ℕ) (xs : List Entry) → take (length xs - p) (drop p xs) ≡ drop p xs
 tail_slice p xs = ap (λ n. take n (drop p xs)) (sym (length-drop p xs)) ∙ take-length (drop p xs)
 
--- the entries that were added are the end of the trail
-pub added_entries : (es : List Event) (i : ℕ) (old now : Course) → Goes es i old now → (entries : List Entry) → entries ≡ take (length now.trail - length old.trail) (drop (length old.trail) now.trail) → now.trail ≡ old.trail ++ entries
-added_entries es i old now g entries h =
-    let t : drop (length old.trail) now.trail ≡ g.added = ap (drop (length old.trail)) g.grown ∙ drop_front old.trail g.added in
-    g.grown ∙ ap (λ (xs : List Entry). old.trail ++ xs) (sym (h ∙ (tail_slice (length old.trail) now.trail ∙ t)))
+-- a trail with entries at its end has them from the former length on
+pub added_entries : (old now : List Entry) → Extends old now → (entries : List Entry) → entries ≡ take (length now - length old) (drop (length old) now) → now ≡ old ++ entries
+added_entries old now g entries h =
+    let t : drop (length old) now ≡ g.0 = ap (drop (length old)) g.1 ∙ drop_front old g.0 in
+    g.1 ∙ ap (λ (xs : List Entry). old ++ xs) (sym (h ∙ (tail_slice (length old) now ∙ t)))
+
+-- the entries of the events so far were added
+pub extended : (es : List Event) (i : ℕ) (old now : Course) → Goes es i old now → Extends old.trail now.trail
+extended es i old now g = (g.added, g.grown)

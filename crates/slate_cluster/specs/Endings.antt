@@ -11,9 +11,9 @@ use Rattle.slate_protocol.specs.Runs.{Ran, opening, run}
 use Rattle.slate_protocol.specs.Specs.{cause_of_specs}
 use Rattle.slate_protocol.specs.Lawful.{Lawful}
 use Rattle.slate_protocol.specs.Reports.{report_text}
-use Rattle.slate_cluster.specs.Commands.{help_text, version_text}
+use Rattle.slate_cluster.specs.Commands.{help_text, run_help_text, version_text}
 use Rattle.slate_cluster.specs.declared.command.Command.{Command}
-use Rattle.slate_cluster.specs.declared.command.Command.TheVariants.{Run, Help, Version}
+use Rattle.slate_cluster.specs.declared.command.Command.TheVariants.{Run, RunHelp, Help, Version}
 use Rattle.slate_cluster.specs.declared.status.Status.{Status}
 use Rattle.slate_cluster.specs.declared.status.Status.TheVariants as status
 
@@ -170,6 +170,7 @@ Runs source source' sink sink' status.BadWords = ⊥
 -- how the program ends: what it read of the source and wrote to the sink, each as it was and as it is
 abbrev pub Outcome : Option Command → End → End → End → End → Status → Type 0
 Outcome None source source' sink sink' st = (st ≡ status.BadWords) × Stays source source' × Stays sink sink'
+Outcome (Some RunHelp) source source' sink sink' st = Stays source source' × Delivers run_help_text status.Ok sink sink' st
 Outcome (Some Help) source source' sink sink' st = Stays source source' × Delivers help_text status.Ok sink sink' st
 Outcome (Some Version) source source' sink sink' st = Stays source source' × Delivers version_text status.Ok sink sink' st
 Outcome (Some Run) source source' sink sink' st = Runs source source' sink sink' st

@@ -19,3 +19,13 @@ abbrev pub HasRun : Course → List Event → Result Report ClusterError → Cou
 HasRun old es (Ok report) new = (run es 0 old ≡ record { course = new; bad = None }) × (new.trail ≡ old.trail ++ report.entries.items)
 HasRun old es (Err (BadEvent place)) new = run es 0 old ≡ record { course = new; bad = Some place }
 HasRun old es (Err (OutOfMemory place)) new = run (take place es) 0 old ≡ record { course = new; bad = None }
+
+-- as `HasRun`, without the report
+abbrev pub HasDone : Course → List Event → Result (Unit {0}) ClusterError → Course → Type 0
+HasDone old es (Ok _) new = run es 0 old ≡ record { course = new; bad = None }
+HasDone old es (Err (BadEvent place)) new = run es 0 old ≡ record { course = new; bad = Some place }
+HasDone old es (Err (OutOfMemory place)) new = run (take place es) 0 old ≡ record { course = new; bad = None }
+
+-- entries were added, and no other was touched
+abbrev pub Extends : List Entry → List Entry → Type 0
+Extends old new = (added : List Entry) × (new ≡ old ++ added)

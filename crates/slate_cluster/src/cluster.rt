@@ -2,7 +2,7 @@
 ghost use Rattle.std.specs.Prelude.{◌≡◌};
 ghost use Rattle.slate_protocol.specs.Lawful.{Lawful};
 ghost use Rattle.slate_cluster.specs.Opened.{Opens};
-ghost use Rattle.slate_cluster.specs.Ran.{HasRun};
+ghost use Rattle.slate_cluster.specs.Ran.{HasDone, HasRun};
 
 use crate::opening::names;
 use crate::progress::Progress;
@@ -91,6 +91,17 @@ impl Cluster {
         stops();
         lawful();
         self.progress.run(alloc, events)
+    }
+
+    /// As `run`, without the report: no entry is copied.
+    pub(crate) fn advance(&mut self, alloc: Global, events: &[Event]) -> Result<(), ClusterError>
+        ensures done { HasDone self.old events.now result self.new }
+        ensures lawful { Lawful self.new }
+    {
+        goes_on();
+        stops();
+        lawful();
+        self.progress.advance(alloc, events)
     }
 
     /// The entries of all events since the cluster was made.

@@ -7,6 +7,8 @@ ghost use Rattle.slate_cluster.specs.Commands.{command_of};
 pub enum Command {
     /// Runs the script of the input and writes its report.
     Run,
+    /// Writes what a script has.
+    RunHelp,
     /// Writes what the program does and how it is called.
     Help,
     /// Writes the name and the version of the program.
@@ -25,12 +27,24 @@ fn word_command(word: &str) -> Option<Command>
     }
 }
 
-/// The command of the words of a command line, without the program's name. A command is one word.
+// The command of two words.
+fn words_command(word: &str, next: &str) -> Option<Command>
+    ensures { result ≡ Rattle.slate_cluster.specs.Commands.words_command word.now next.now }
+{
+    if word == "run" && next == "--help" {
+        Some(Command::RunHelp)
+    } else {
+        None
+    }
+}
+
+/// The command of the words of a command line, without the program's name. A command is one word or two.
 pub(crate) fn command_in(words: &[String]) -> Option<Command>
     ensures { result ≡ command_of words.now }
 {
     match words {
         [word] => word_command(word.as_str()),
+        [word, next] => words_command(word.as_str(), next.as_str()),
         _ => None,
     }
 }

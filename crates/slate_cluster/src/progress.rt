@@ -1,7 +1,7 @@
 //! What a cluster did so far, event by event.
 ghost use Rattle.std.specs.Prelude.{◌≡◌, ◌++◌, ◌∷◌, [], ◌<◌, IfOk, OnOk, vec_len, vec_capacity, map};
 ghost use Rattle.slate_cluster.specs.Opened.{Opens};
-ghost use Rattle.slate_cluster.specs.Ran.{HasRun};
+ghost use Rattle.slate_cluster.specs.Ran.{Extends, HasDone, HasRun};
 
 use crate::cluster::{ClusterError, NewError, Report};
 use crate::opening::opened;
@@ -62,11 +62,11 @@ impl Progress {
         })
     }
 
-    /// Does the events in order, up to the first bad one.
-    pub fn run(&mut self, alloc: Global, events: &[Event]) -> Result<Report, ClusterError>
-        ensures { HasRun self.old events.now result self.new }
+    /// Does the events in order, up to the first bad one, and copies no entry.
+    pub fn advance(&mut self, alloc: Global, events: &[Event]) -> Result<(), ClusterError>
+        ensures done { HasDone self.old events.now result self.new }
+        ensures grown { OnOk result (Extends self.old.trail self.new.trail) }
     {
-        let before = self.trail.len();
         for (i, event) in events.iter().enumerate() {
             let place = i as u64;
             if self.trail.reserve(1).is_err() {
@@ -78,6 +78,15 @@ impl Progress {
                 Ok(Some(entry)) => keep(&mut self.trail, entry),
             }
         }
+        Ok(())
+    }
+
+    /// Does the events in order, up to the first bad one.
+    pub fn run(&mut self, alloc: Global, events: &[Event]) -> Result<Report, ClusterError>
+        ensures { HasRun self.old events.now result self.new }
+    {
+        let before = self.trail.len();
+        self.advance(alloc, events)?;
         match copy_entries(alloc, &self.trail[before..]) {
             Ok(entries) => Ok(Report { entries }),
             Err(_) => Err(ClusterError::OutOfMemory {

@@ -86,8 +86,8 @@ fn done(alloc: Global, cluster: &mut Cluster, events: &[Event]) -> Result<Option
     ensures run { IfOk result (λ bad. run events.now 0 cluster.old ≡ record { course = cluster.new; bad = bad }) }
     ensures lawful { Lawful cluster.new }
 {
-    match cluster.run(alloc, events) {
-        Ok(_) => Ok(None),
+    match cluster.advance(alloc, events) {
+        Ok(()) => Ok(None),
         Err(ClusterError::BadEvent { place }) => Ok(Some(place)),
         Err(ClusterError::OutOfMemory { .. }) => Err(OutOfMemory),
     }

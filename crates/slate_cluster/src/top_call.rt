@@ -2,7 +2,7 @@
 ghost use Rattle.std.specs.Prelude.{◌≡◌, ◌≢◌, ◌↔◌, ◌≤◌, ◌<◌, List, None, Some, IfSome, length};
 ghost use Rattle.slate_store.specs.Counts.{Rose};
 ghost use Rattle.slate_script.specs.Scripts.{script_of};
-ghost use Rattle.slate_cluster.specs.Commands.{command_of, help_text, version_text};
+ghost use Rattle.slate_cluster.specs.Commands.{command_of, help_text, run_help_text, version_text};
 ghost use Rattle.slate_cluster.specs.Endings.{end, Answers, Delivers, EndsTooLong, ExactlyEnds, IfAnswered, IsLawfulRun, Outcome, Runs, limit};
 
 use crate::command::{Command, command_in};
@@ -18,15 +18,40 @@ const HELP: &str = "\
 Runs a script of parties at an object store, and reports.
 
   slate run < script.json   reads a script, writes its report
+  slate run --help          writes what a script has
   slate --help              writes this text
   slate --version           writes the version
 
 Exit codes: 0 done, 2 no such command, 3 reading failed,
 4 writing failed, 5 more than 64 MiB of input, 6 no script,
 7 refused databases, 8 a bad event, 9 out of memory.
+With each but 0, a line on standard error says why.
+
+Example:
+  echo '{\"databases\":[{\"path\":\"db\"}],\"events\":[]}' > script.json
+  slate run < script.json
 ";
 
-const VERSION: &str = "buqtarel 0.1.0\n";
+const RUN_HELP: &str = "\
+Reads a script from standard input, one JSON text of at most 64 MiB:
+an object with the arrays \"databases\" and \"events\". Writes a line for
+each event, the greatest committed numbers, the count of deletes and
+the paths of the objects left, and then ok or the first bad event.
+
+  database  {\"path\":\"db\"}
+  open      {\"open\":1,\"kind\":\"writer\",\"db\":\"db\"}
+  start     {\"start\":1,\"call\":\"open_writer\"}
+  step      {\"step\":1,\"at\":1000}, with \"times\" up to 1000 of them,
+            and with \"mark\" \"fail\" or \"lost\" a call that faults
+  stop      {\"stop\":1}
+
+A writer has the calls open_writer and flush; a holder has
+write_checkpoint, replace_checkpoint, refresh_checkpoint and
+delete_checkpoint; a collector has pass. A script has at most
+1000000 events. docs/FORMAT.md has all fields and lines.
+";
+
+const VERSION: &str = "buqtarel 0.1.0\nrattle-kit-13f logic dac8208d650f15bf\n";
 
 // Writes a text. A fault is told only where all else went well.
 fn deliver<K: Sink>(text: &str, asked: Status, sink: &mut K) -> Status
@@ -71,6 +96,14 @@ fn help<K: Sink>(sink: &mut K) -> Status
     deliver(HELP, Status::Ok, sink)
 }
 
+#[tactic(auto, unfolding(crate::specs::Commands::run_help_text))]
+fn run_help<K: Sink>(sink: &mut K) -> Status
+    ensures { Delivers run_help_text Status.Ok (end (K.written sink.old) (K.faults sink.old))
+        (end (K.written sink.new) (K.faults sink.new)) result }
+{
+    deliver(RUN_HELP, Status::Ok, sink)
+}
+
 #[tactic(auto, unfolding(crate::specs::Commands::version_text))]
 fn version<K: Sink>(sink: &mut K) -> Status
     ensures { Delivers version_text Status.Ok (end (K.written sink.old) (K.faults sink.old))
@@ -92,6 +125,7 @@ fn ended<S: Source, K: Sink>(
 {
     match command_in(words) {
         Some(Command::Run) => run(alloc, source, sink),
+        Some(Command::RunHelp) => run_help(sink),
         Some(Command::Help) => help(sink),
         Some(Command::Version) => version(sink),
         None => Status::BadWords,
@@ -101,7 +135,7 @@ fn ended<S: Source, K: Sink>(
 /// All that the program does: one command, given by the words of the command line without the program's name.
 ///
 /// `run` reads a script from the source to its end, does its events on a cluster of its own, and writes the report to the
-/// sink. `--help` and `--version` write a text and read nothing. The text is made whole before the first write: where
+/// sink. `run --help`, `--help` and `--version` write a text and read nothing. The text is made whole before the first write: where
 /// memory runs out nothing was written, and where a write fails a front of the text was.
 pub fn program<S: Source, K: Sink>(
     alloc: Global,

@@ -1,11 +1,16 @@
-//! Makes the ends of the program and calls it.
+//! Makes the ends of the program and calls it, and says on standard error why it failed.
 #![tactic(auto)]
+
+mod why;
+#[cfg(test)]
+mod why_tests;
 
 use slate_cluster::{Status, program};
 use slate_store::{StdSink, StdSource};
 use std::io::ErrorKind;
 use std::process::ExitCode;
 use std::{env, io};
+use why::Why;
 
 // The words of the command line, without the program's name. A word that is not UTF-8 belongs to no command.
 fn words(rt: &HostRuntime) -> Result<Vec<String>, Status> {
@@ -32,5 +37,8 @@ fn main(rt: HostRuntime) -> ExitCode {
         }
         Err(status) => status,
     };
+    if status != Status::Ok {
+        let _ = rt.eprintln(Why(status));
+    }
     ExitCode::from(status.exit_code())
 }
