@@ -1,2 +1,4 @@
+pub mod Keeping
 pub mod Greatest
+pub mod Named
 pub mod PassFaults

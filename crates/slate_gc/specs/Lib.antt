@@ -1,3 +1,4 @@
 pub mod Queue
+pub mod Named
 pub mod Picks
 pub mod Pass

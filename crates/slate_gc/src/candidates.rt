@@ -1,5 +1,7 @@
 //! Which versions a pass collects.
-ghost use Rattle.std.specs.Prelude.{◌≡◌, IfOk};
+ghost use Rattle.std.specs.Prelude.{◌≡◌, ◌++◌, ◌∷◌, [], List, IfOk, OnOk, if◌then◌else◌};
+ghost use Rattle.slate_model.specs.declared.checkpoint.Checkpoint.{Checkpoint as AnyCheckpoint};
+ghost use Rattle.slate_gc.specs.Named.{IsSetOf};
 ghost use Rattle.slate_gc.specs.Picks as picking;
 
 use crate::numbers::Numbers;
@@ -7,9 +9,9 @@ use crate::pass_options::PassOptions;
 use slate_ids::{Listed, Millis, OutOfMemory};
 use slate_log::LogKind;
 use slate_model::Checkpoint;
-use slate_state::is_named;
 use slate_store::ObjectMetadata;
 use std::alloc::Global;
+use std::collections::BTreeSet;
 
 /// Whether what was modified at a moment is now older than `min_age` milliseconds. The age saturates at 64 bits.
 pub fn is_aged(min_age: u64, now: Millis, modified: Millis) -> bool
@@ -36,19 +38,36 @@ pub fn dated(
     Ok(listed)
 }
 
-/// Whether a version may go: it is below the greatest, no checkpoint names it, and it is older than `min_age` milliseconds.
-/// Takes no memory.
-pub fn is_candidate(
+// The versions that checkpoints name.
+fn named_versions(alloc: Global, checkpoints: &[Checkpoint]) -> Result<BTreeSet<u64>, OutOfMemory>
+    ensures { IfOk result (λ named. IsSetOf named checkpoints.now) }
+{
+    let mut named = BTreeSet::new(alloc);
+    for checkpoint in checkpoints {
+        named.insert(checkpoint.manifest_id)?;
+    }
+    Ok(named)
+}
+
+// Whether a version may go: it is below the greatest, it isn't named, and it is older than `min_age` milliseconds.
+fn may_go(
     min_age: u64,
     now: Millis,
     greatest: u64,
-    checkpoints: &[Checkpoint],
+    named: &BTreeSet<u64>,
     version: &(u64, Millis),
 ) -> bool
-    ensures { result ≡ picking.is_candidate min_age now greatest checkpoints.now version.now }
+    ensures { (cs : List AnyCheckpoint) → IsSetOf named.now cs → result ≡ picking.is_candidate min_age now greatest cs version.now }
 {
     let (n, modified) = *version;
-    n < greatest && !is_named(n, checkpoints) && is_aged(min_age, now, modified)
+    n < greatest && !named.contains(&n) && is_aged(min_age, now, modified)
+}
+
+// Adds a number at the end, where it goes.
+fn push_if(goes: bool, numbers: &mut Numbers, n: u64) -> Result<(), OutOfMemory>
+    ensures { OnOk result (numbers.new ≡ (if goes then numbers.old ++ n ∷ [] else numbers.old)) }
+{
+    if goes { numbers.push(n) } else { Ok(()) }
 }
 
 /// The numbers of the versions that may go, in the order of the list.
@@ -62,11 +81,11 @@ pub fn candidates_of(
 ) -> Result<Numbers, OutOfMemory>
     ensures { IfOk result (λ numbers. numbers ≡ picking.candidates min_age now greatest checkpoints.now listed.now) }
 {
+    let named = named_versions(alloc, checkpoints)?;
     let mut numbers = Numbers::new(alloc);
     for version in listed {
-        if is_candidate(min_age, now, greatest, checkpoints, version) {
-            numbers.push(version.0)?;
-        }
+        let goes = may_go(min_age, now, greatest, &named, version);
+        push_if(goes, &mut numbers, version.0)?;
     }
     Ok(numbers)
 }

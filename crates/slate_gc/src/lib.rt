@@ -10,7 +10,7 @@ mod pass_phase;
 #[cfg(test)]
 mod pass_tests;
 
-pub use candidates::{candidates_of, dated, is_aged, is_candidate, picks};
+pub use candidates::{candidates_of, dated, is_aged, picks};
 pub use numbers::Numbers;
 pub use pass_counts::PassCounts;
 pub use pass_options::PassOptions;
