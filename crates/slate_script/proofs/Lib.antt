@@ -1,3 +1,4 @@
 pub mod Ascending
+pub mod Ids
 pub mod Lists
 pub mod NoItems
