@@ -1,4 +1,5 @@
 pub mod Ascending
 pub mod Ids
 pub mod Lists
+pub mod Markers
 pub mod NoItems
