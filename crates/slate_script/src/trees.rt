@@ -6,7 +6,7 @@ ghost use Rattle.slate_script.specs.Databases as databases;
 ghost use Rattle.slate_script.specs.Databases.{view_of, own_view, is_l0_of, is_run_of, is_marker_of};
 
 use crate::opening_tables::table_of;
-use crate::prefixes::segment_prefixes;
+use crate::prefixes::{Prefixes, segment_prefixes};
 use crate::tree_items::{L0Item, MarkerItem, RunItem, TreeItems};
 use bytes::Bytes;
 use slate_ids::{Listed, OutOfMemory, Ulid};
@@ -105,13 +105,13 @@ fn segment_of(alloc: Global, items: &TreeItems, prefix: &Bytes) -> Result<Segmen
 fn segments_at(
     alloc: Global,
     items: &TreeItems,
-    prefixes: &[Bytes],
+    prefixes: &Prefixes,
 ) -> Result<Vec<Segment>, OutOfMemory>
     ensures { IfOk result
-        (λ segments. segments.items ≡ map (databases.segment_of items.now) prefixes.now) }
+        (λ segments. segments.items ≡ map (databases.segment_of items.now) prefixes.now.keys) }
 {
     let mut segments = Vec::new(alloc);
-    for prefix in prefixes {
+    for prefix in prefixes.iter() {
         segments.push(segment_of(alloc, items, prefix)?)?;
     }
     Ok(segments)
@@ -124,5 +124,5 @@ pub(crate) fn segments_of(alloc: Global, items: &TreeItems) -> Result<Vec<Segmen
     ensures ascending { IsAscending (databases.segments_of items.now) }
 {
     let prefixes = segment_prefixes(alloc, items)?;
-    segments_at(alloc, items, prefixes.as_slice())
+    segments_at(alloc, items, &prefixes)
 }
