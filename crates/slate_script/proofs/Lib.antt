@@ -1,4 +1,5 @@
 pub mod Ascending
+pub mod Grouped
 pub mod Ids
 pub mod Lists
 pub mod Markers

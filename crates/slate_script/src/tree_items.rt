@@ -45,6 +45,44 @@ pub(crate) struct TreeItems {
     pub(crate) markers: Listed<MarkerItem>,
 }
 
+impl L0Item {
+    /// An equal item.
+    pub(crate) fn copy(&self) -> Result<L0Item, OutOfMemory>
+        ensures { IfOk result (λ copied. copied ≡ self.now) }
+    {
+        Ok(L0Item {
+            prefix: self.prefix.clone()?,
+            view_id: self.view_id,
+            table_id: self.table_id,
+        })
+    }
+}
+
+impl RunItem {
+    /// An equal item.
+    pub(crate) fn copy(&self, alloc: Global) -> Result<RunItem, OutOfMemory>
+        ensures { IfOk result (λ copied. copied ≡ self.now) }
+    {
+        Ok(RunItem {
+            prefix: self.prefix.clone()?,
+            id: self.id,
+            table_ids: self.table_ids.copy(alloc)?,
+        })
+    }
+}
+
+impl MarkerItem {
+    /// An equal item.
+    pub(crate) fn copy(&self) -> Result<MarkerItem, OutOfMemory>
+        ensures { IfOk result (λ copied. copied ≡ self.now) }
+    {
+        Ok(MarkerItem {
+            prefix: self.prefix.clone()?,
+            view_id: self.view_id,
+        })
+    }
+}
+
 /// An item of the tree of a prefix.
 pub(crate) trait InTree {
     /// The prefix, as contracts see it.
