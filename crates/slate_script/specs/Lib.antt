@@ -4,6 +4,7 @@ pub mod Calls
 pub mod Events
 pub mod WrittenIds
 pub mod Databases
+pub mod Groups
 pub mod DatabaseFields
 pub mod Scripts
 pub mod Lines

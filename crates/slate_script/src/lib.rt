@@ -12,6 +12,7 @@ mod event;
 mod fields;
 mod filter_word;
 mod flush_table;
+mod groups;
 #[cfg(test)]
 mod line_tests;
 mod opening_tables;

@@ -1,6 +1,6 @@
 //! The tables that stand in the store as a run begins.
-ghost use Rattle.std.specs.Prelude.{◌≡◌, ◌++◌, map, IfOk, OnOk};
-ghost use Rattle.std.specs.List.{flat_map, list_any};
+ghost use Rattle.std.specs.Prelude.{◌≡◌, ◌++◌, ◌∷◌, [], map, IfOk, OnOk, if◌then◌else◌};
+ghost use Rattle.std.specs.List.{flat_map};
 ghost use Rattle.slate_script.specs.Databases as databases;
 
 use crate::tree_items::{L0Item, RunItem, TreeItems};
@@ -8,6 +8,7 @@ use bytes::Bytes;
 use slate_ids::{Listed, OutOfMemory, Ulid};
 use slate_model::{SsTableHandle, SsTableId, SsTableInfo};
 use std::alloc::Global;
+use std::collections::BTreeSet;
 
 const FORMAT_VERSION: u16 = 1;
 
@@ -72,29 +73,25 @@ fn named_tables(alloc: Global, items: &TreeItems) -> Result<Listed<Ulid>, OutOfM
     Ok(ids)
 }
 
-// Whether two ids are one.
-fn same_id(a: &Ulid, b: &Ulid) -> bool
-    ensures { result ≡ databases.same_id a.now b.now }
+// Adds an id, where it is new.
+fn push_new(ids: &mut Listed<Ulid>, id: Ulid, is_new: bool) -> Result<(), OutOfMemory>
+    ensures { OnOk result (ids.new ≡ (if is_new then ids.old ++ id ∷ [] else ids.old)) }
 {
-    a.timestamp_ms() == b.timestamp_ms() && a.tail() == b.tail()
-}
-
-// Whether the id is among these.
-fn has_id(ids: &[Ulid], id: &Ulid) -> bool
-    ensures { result ≡ list_any (databases.same_id id.now) ids.now }
-{
-    ids.iter().any(|other| same_id(id, other))
+    if is_new {
+        ids.push(id)?;
+    }
+    Ok(())
 }
 
 // Each id once, where it comes first.
 fn once(alloc: Global, named: &[Ulid]) -> Result<Listed<Ulid>, OutOfMemory>
     ensures { IfOk result (λ ids. ids ≡ databases.once named.now) }
 {
+    let mut seen = BTreeSet::new(alloc);
     let mut ids = Listed::new(alloc);
     for id in named {
-        if !has_id(ids.as_slice(), id) {
-            ids.push(*id)?;
-        }
+        let is_new = seen.insert(*id)?;
+        push_new(&mut ids, *id, is_new)?;
     }
     Ok(ids)
 }

@@ -1,14 +1,19 @@
 //! The prefixes of a database's segments.
-ghost use Rattle.std.specs.Prelude.{◌≡◌, ◌≤◌, ◌++◌, length, map, IfOk, OnOk, bytes_eq};
-ghost use Rattle.std.specs.List.{list_any, prefix_len};
-ghost use Rattle.slate_ids.specs.Keys.{key_lt};
+ghost use Rattle.std.specs.Prelude.{◌≡◌, ◌++◌, map, IfOk, OnOk, if◌then◌else◌};
+ghost use Rattle.std.specs.Ordering.{nat_cmp};
+ghost use Rattle.std.specs.Cmp.Lexicographic.{slice_cmp};
+ghost use Rattle.std.specs.BTreeSet.{insert_key};
 ghost use Rattle.slate_script.specs.Databases as databases;
-ghost use Rattle.slate_script.specs.Databases.{with_prefix};
+ghost use Rattle.slate_script.specs.Databases.{is_some_prefix};
 
 use crate::tree_items::{InTree, TreeItems};
 use bytes::Bytes;
 use slate_ids::{Listed, OutOfMemory};
 use std::alloc::Global;
+use std::collections::BTreeSet;
+
+/// Prefixes, in order.
+pub(crate) type Prefixes = BTreeSet<Bytes>;
 
 // Adds the prefixes of these items.
 fn push_prefixes<T: InTree>(prefixes: &mut Listed<Bytes>, items: &[T]) -> Result<(), OutOfMemory>
@@ -31,55 +36,31 @@ fn named_prefixes(alloc: Global, items: &TreeItems) -> Result<Listed<Bytes>, Out
     Ok(named)
 }
 
-// How many prefixes, from the first on, stand before this one.
-fn place_of(prefixes: &[Bytes], prefix: &[u8]) -> usize
-    ensures place { result ≡ prefix_len (λ q. key_lt q prefix.now) prefixes.now }
-    ensures within { result ≤ length prefixes.now }
+// Adds a prefix, where it is another than "".
+fn add_prefix(prefixes: &mut Prefixes, prefix: &Bytes) -> Result<(), OutOfMemory>
+    ensures { OnOk result (prefixes.new.keys ≡ (if is_some_prefix prefix.now then insert_key (slice_cmp nat_cmp) prefixes.old.keys prefix.now else prefixes.old.keys)) }
 {
-    for (i, other) in prefixes.iter().enumerate() {
-        if !other.as_slice().cmp(prefix).is_lt() {
-            return i;
-        }
+    if !prefix.is_empty() {
+        prefixes.insert(prefix.clone()?)?;
     }
-    prefixes.len()
-}
-
-// Whether a prefix is among these.
-fn has_prefix(prefixes: &[Bytes], prefix: &[u8]) -> bool
-    ensures { result ≡ list_any (λ q. bytes_eq q prefix.now) prefixes.now }
-{
-    prefixes.iter().any(|other| other.as_slice() == prefix)
-}
-
-// Puts a prefix before those of ascending ones that stand above it, where it is not there yet.
-fn add_prefix(prefixes: &mut Vec<Bytes>, prefix: &Bytes) -> Result<(), OutOfMemory>
-    ensures { OnOk result (prefixes.new.items ≡ with_prefix prefixes.old.items prefix.now) }
-{
-    if has_prefix(prefixes.as_slice(), prefix.as_slice()) {
-        return Ok(());
-    }
-    let place = place_of(prefixes.as_slice(), prefix.as_slice());
-    prefixes.insert(place, prefix.clone()?)?;
     Ok(())
 }
 
 // The prefixes other than "", each once, ascending.
-fn ascending(alloc: Global, named: &[Bytes]) -> Result<Vec<Bytes>, OutOfMemory>
-    ensures { IfOk result (λ prefixes. prefixes.items ≡ databases.segment_prefixes named.now) }
+fn ascending(alloc: Global, named: &[Bytes]) -> Result<Prefixes, OutOfMemory>
+    ensures { IfOk result (λ prefixes. prefixes.keys ≡ databases.segment_prefixes named.now) }
 {
-    let mut prefixes = Vec::new(alloc);
+    let mut prefixes = BTreeSet::new(alloc);
     for prefix in named {
-        if !prefix.is_empty() {
-            add_prefix(&mut prefixes, prefix)?;
-        }
+        add_prefix(&mut prefixes, prefix)?;
     }
     Ok(prefixes)
 }
 
 /// The prefixes other than "" that are named, each once, ascending.
-pub(crate) fn segment_prefixes(alloc: Global, items: &TreeItems) -> Result<Vec<Bytes>, OutOfMemory>
+pub(crate) fn segment_prefixes(alloc: Global, items: &TreeItems) -> Result<Prefixes, OutOfMemory>
     ensures { IfOk result
-        (λ prefixes. prefixes.items ≡ databases.segment_prefixes (databases.named_prefixes items.now)) }
+        (λ prefixes. prefixes.keys ≡ databases.segment_prefixes (databases.named_prefixes items.now)) }
 {
     let named = named_prefixes(alloc, items)?;
     ascending(alloc, named.as_slice())

@@ -1,9 +1,7 @@
 //! What an item of a script says of a database's trees.
-ghost use Rattle.std.specs.Prelude.{◌≡◌, ℕ, List, map};
-ghost use Rattle.std.specs.List.{list_any};
+ghost use Rattle.std.specs.Prelude.{◌≡◌, ℕ, List, IfOk};
 ghost use Rattle.serde_json.specs.View.{view};
 ghost use Rattle.slate_script.specs.Fields.{Gives};
-ghost use Rattle.slate_script.specs.Databases.{is_marker_of};
 ghost use Rattle.slate_script.specs.DatabaseFields as database_fields;
 ghost use Rattle.slate_script.specs.DatabaseFields.{tree_items_in};
 
@@ -12,8 +10,9 @@ use crate::refusal::Refusal;
 use crate::values::FromJson;
 use bytes::Bytes;
 use serde_json::Value;
-use slate_ids::{Listed, Ulid};
+use slate_ids::{Listed, OutOfMemory, Ulid};
 use std::alloc::Global;
+use std::collections::BTreeSet;
 
 /// A view of a table that a flush wrote, in the tree of a prefix.
 #[derive(Debug, Drop)]
@@ -44,6 +43,44 @@ pub(crate) struct TreeItems {
     pub(crate) l0: Listed<L0Item>,
     pub(crate) runs: Listed<RunItem>,
     pub(crate) markers: Listed<MarkerItem>,
+}
+
+impl L0Item {
+    /// An equal item.
+    pub(crate) fn copy(&self) -> Result<L0Item, OutOfMemory>
+        ensures { IfOk result (λ copied. copied ≡ self.now) }
+    {
+        Ok(L0Item {
+            prefix: self.prefix.clone()?,
+            view_id: self.view_id,
+            table_id: self.table_id,
+        })
+    }
+}
+
+impl RunItem {
+    /// An equal item.
+    pub(crate) fn copy(&self, alloc: Global) -> Result<RunItem, OutOfMemory>
+        ensures { IfOk result (λ copied. copied ≡ self.now) }
+    {
+        Ok(RunItem {
+            prefix: self.prefix.clone()?,
+            id: self.id,
+            table_ids: self.table_ids.copy(alloc)?,
+        })
+    }
+}
+
+impl MarkerItem {
+    /// An equal item.
+    pub(crate) fn copy(&self) -> Result<MarkerItem, OutOfMemory>
+        ensures { IfOk result (λ copied. copied ≡ self.now) }
+    {
+        Ok(MarkerItem {
+            prefix: self.prefix.clone()?,
+            view_id: self.view_id,
+        })
+    }
 }
 
 /// An item of the tree of a prefix.
@@ -132,25 +169,19 @@ impl FromJson for MarkerItem {
     }
 }
 
-// Whether one of the markers is of this prefix.
-fn has_marker(markers: &[MarkerItem], prefix: &[u8]) -> bool
-    ensures { result ≡ list_any (is_marker_of prefix.now) markers.now }
-{
-    markers
-        .iter()
-        .any(|marker| marker.prefix.as_slice() == prefix)
-}
-
 // Whether no prefix has two markers.
-fn one_each(markers: &[MarkerItem]) -> bool
-    ensures { result ≡ database_fields.one_each markers.now }
+fn one_each(alloc: Global, markers: &[MarkerItem]) -> Result<bool, OutOfMemory>
+    ensures { IfOk result (λ once. once ≡ database_fields.one_each markers.now) }
 {
-    for i in 0..markers.len() {
-        if has_marker(&markers[i + 1..], markers[i].prefix.as_slice()) {
-            return false;
+    let mut seen = BTreeSet::new(alloc);
+    let mut i = markers.len();
+    while i > 0 {
+        i -= 1;
+        if !seen.insert(markers[i].prefix.clone()?)? {
+            return Ok(false);
         }
     }
-    true
+    Ok(true)
 }
 
 /// What a database says of its trees.
@@ -161,7 +192,7 @@ pub(crate) fn read_tree_items(alloc: Global, d: &Value) -> Result<TreeItems, Ref
     let l0 = defaulted(alloc, d, "l0", Listed::new(alloc))?;
     let runs = defaulted(alloc, d, "runs", Listed::new(alloc))?;
     let markers: Listed<MarkerItem> = defaulted(alloc, d, "markers", Listed::new(alloc))?;
-    if !one_each(markers.as_slice()) {
+    if !one_each(alloc, markers.as_slice())? {
         return Err(Refusal::Malformed);
     }
     Ok(TreeItems { l0, runs, markers })

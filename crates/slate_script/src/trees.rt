@@ -4,9 +4,11 @@ ghost use Rattle.std.specs.List.{find};
 ghost use Rattle.slate_model.specs.Segments.{IsAscending};
 ghost use Rattle.slate_script.specs.Databases as databases;
 ghost use Rattle.slate_script.specs.Databases.{view_of, own_view, is_l0_of, is_run_of, is_marker_of};
+ghost use Rattle.slate_script.specs.Groups.{group_at};
 
+use crate::groups::{Groups, groups_of};
 use crate::opening_tables::table_of;
-use crate::prefixes::segment_prefixes;
+use crate::prefixes::{Prefixes, segment_prefixes};
 use crate::tree_items::{L0Item, MarkerItem, RunItem, TreeItems};
 use bytes::Bytes;
 use slate_ids::{Listed, OutOfMemory, Ulid};
@@ -93,26 +95,38 @@ pub(crate) fn tree_of(
     })
 }
 
-// The segment of a prefix.
-fn segment_of(alloc: Global, items: &TreeItems, prefix: &Bytes) -> Result<Segment, OutOfMemory>
-    ensures { IfOk result (λ segment. segment ≡ databases.segment_of items.now prefix.now) }
+// The tree of a prefix, of the items that its group has.
+fn tree_in(alloc: Global, groups: &Groups, prefix: &Bytes) -> Result<LsmTreeState, OutOfMemory>
+    ensures { IfOk result
+        (λ tree. tree ≡ databases.tree_of prefix.now (group_at groups.now prefix.now)) }
 {
-    let tree = tree_of(alloc, prefix.as_slice(), items)?;
+    match groups.get(prefix) {
+        Some(group) => tree_of(alloc, prefix.as_slice(), group),
+        None => Ok(LsmTreeState::new(alloc)),
+    }
+}
+
+// The segment of a prefix.
+fn segment_of(alloc: Global, groups: &Groups, prefix: &Bytes) -> Result<Segment, OutOfMemory>
+    ensures { IfOk result
+        (λ segment. segment ≡ databases.segment_of (group_at groups.now prefix.now) prefix.now) }
+{
+    let tree = tree_in(alloc, groups, prefix)?;
     Ok(Segment::new(prefix.clone()?, tree))
 }
 
 // The segments of these prefixes.
 fn segments_at(
     alloc: Global,
-    items: &TreeItems,
-    prefixes: &[Bytes],
+    groups: &Groups,
+    prefixes: &Prefixes,
 ) -> Result<Vec<Segment>, OutOfMemory>
     ensures { IfOk result
-        (λ segments. segments.items ≡ map (databases.segment_of items.now) prefixes.now) }
+        (λ segments. segments.items ≡ map (λ p. databases.segment_of (group_at groups.now p) p) prefixes.now.keys) }
 {
     let mut segments = Vec::new(alloc);
-    for prefix in prefixes {
-        segments.push(segment_of(alloc, items, prefix)?)?;
+    for prefix in prefixes.iter() {
+        segments.push(segment_of(alloc, groups, prefix)?)?;
     }
     Ok(segments)
 }
@@ -123,6 +137,7 @@ pub(crate) fn segments_of(alloc: Global, items: &TreeItems) -> Result<Vec<Segmen
     ensures segments { IfOk result (λ segments. segments.items ≡ databases.segments_of items.now) }
     ensures ascending { IsAscending (databases.segments_of items.now) }
 {
+    let groups = groups_of(alloc, items)?;
     let prefixes = segment_prefixes(alloc, items)?;
-    segments_at(alloc, items, prefixes.as_slice())
+    segments_at(alloc, &groups, &prefixes)
 }

@@ -1,7 +1,8 @@
-use Rattle.std.proofs.Common.{◌≡◌, map, take}
+use Rattle.std.proofs.Common.{◌≡◌, ◌++◌, map}
 use Rattle.slate_script.specs.Databases.{segment_of}
+use Rattle.slate_script.specs.Groups.{group_at}
 use Rattle.slate_script.proofs.trees.segments_at.Given as goal
 
--- the segments of the prefixes so far are there
+-- the segments so far and the prefixes that are left
 abbrev pub invariant-loop-prefix : goal.invariant-loop-prefix
-invariant-loop-prefix l = l.segments.items ≡ map (segment_of l.items) (take l.prefix-index l.prefixes)
+invariant-loop-prefix l = l.segments.items ++ map (λ p. segment_of (group_at l.groups p) p) l.prefix-iterator ≡ map (λ p. segment_of (group_at l.groups p) p) l.prefixes.keys
