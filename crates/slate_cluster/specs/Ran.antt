@@ -13,18 +13,20 @@ abbrev pub Happened : World → Event → Option Entry → World → Type 0
 Happened old e None new = (happens old e ≡ None) × (new ≡ old)
 Happened old e (Some entry) new = happens old e ≡ Some (record { entry = entry; world = new })
 
--- all events were done, and the report has their entries; or the first bad event ended the run; or memory ran out, and
--- what was done before its place stands
+-- the first bad event ended the run; or memory ran out, and what was done before its place stands
+abbrev pub Stopped : Course → List Event → ClusterError → Course → Type 0
+Stopped old es (BadEvent place) new = run es 0 old ≡ record { course = new; bad = Some place }
+Stopped old es (OutOfMemory place) new = run (take place es) 0 old ≡ record { course = new; bad = None }
+
+-- all events were done, and the report has their entries; or the run stopped
 abbrev pub HasRun : Course → List Event → Result Report ClusterError → Course → Type 0
 HasRun old es (Ok report) new = (run es 0 old ≡ record { course = new; bad = None }) × (new.trail ≡ old.trail ++ report.entries.items)
-HasRun old es (Err (BadEvent place)) new = run es 0 old ≡ record { course = new; bad = Some place }
-HasRun old es (Err (OutOfMemory place)) new = run (take place es) 0 old ≡ record { course = new; bad = None }
+HasRun old es (Err e) new = Stopped old es e new
 
 -- as `HasRun`, without the report
 abbrev pub HasDone : Course → List Event → Result (Unit {0}) ClusterError → Course → Type 0
 HasDone old es (Ok _) new = run es 0 old ≡ record { course = new; bad = None }
-HasDone old es (Err (BadEvent place)) new = run es 0 old ≡ record { course = new; bad = Some place }
-HasDone old es (Err (OutOfMemory place)) new = run (take place es) 0 old ≡ record { course = new; bad = None }
+HasDone old es (Err e) new = Stopped old es e new
 
 -- entries were added, and no other was touched
 abbrev pub Extends : List Entry → List Entry → Type 0
