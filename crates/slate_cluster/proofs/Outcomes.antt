@@ -7,10 +7,10 @@ use Rattle.slate_script.specs.declared.script.Script.{Script}
 use Rattle.slate_script.specs.declared.cluster_cause.ClusterCause.{ClusterCause}
 use Rattle.slate_script.specs.declared.script.ScriptPlace.{ScriptPlace}
 use Rattle.slate_protocol.specs.Specs.{cause_of_specs}
-use Rattle.slate_cluster.specs.Commands.{help_text, version_text}
+use Rattle.slate_cluster.specs.Commands.{help_text, run_help_text, version_text}
 use Rattle.slate_cluster.specs.Endings.{End, GoesWell, Stays, Fails, ReadsWhole, ReadsTooLong, WritesWhole, WritesFront, Writes, after_fault, Delivers, Answers, IfAnswered, Runs, Outcome, ExactlyEnds, EndsTooLong, text_for, status_for, script_status, run_status, ran_of, limit}
 use Rattle.slate_cluster.specs.declared.command.Command.{Command}
-use Rattle.slate_cluster.specs.declared.command.Command.TheVariants.{Run, Help, Version}
+use Rattle.slate_cluster.specs.declared.command.Command.TheVariants.{Run, RunHelp, Help, Version}
 use Rattle.slate_cluster.specs.declared.status.Status.{Status}
 use Rattle.slate_cluster.specs.declared.status.Status.TheVariants as status
 
@@ -178,6 +178,7 @@ run-tells source source' sink sink' status.OutOfMemory h = record { words = (λ 
 
 pub tells : (command : Option Command) (source source' sink sink' : End) (st : Status) → Outcome command source source' sink sink' st → Tells command source source' sink sink' st
 tells None source source' sink sink' st h = record { words = (λ e. refl, λ e. h.0); read_fault = λ e. cc; no_read_fault = λ e. h.1.1; write_fault = λ e. cc; no_write_fault = λ e. cc }
+tells (Some RunHelp) source source' sink sink' st h = print-tells RunHelp source source' sink sink' st h.0 (printed run_help_text sink sink' st h.1)
 tells (Some Help) source source' sink sink' st h = print-tells Help source source' sink sink' st h.0 (printed help_text sink sink' st h.1)
 tells (Some Version) source source' sink sink' st h = print-tells Version source source' sink sink' st h.0 (printed version_text sink sink' st h.1)
 tells (Some Run) source source' sink sink' st h = run-tells source source' sink sink' st h
