@@ -1,11 +1,11 @@
-pub mod Around
-pub mod NeverMemory
-pub mod Events
-pub mod Stepping
-pub mod Carrying
-pub mod Openings
-pub mod Seen
-pub mod Absent
-pub mod Reports
-pub mod Outcomes
-pub mod Reached
+mod Around
+mod NeverMemory
+mod Events
+mod Stepping
+mod Carrying
+mod Openings
+mod Seen
+mod Absent
+mod Reports
+mod Outcomes
+mod Reached

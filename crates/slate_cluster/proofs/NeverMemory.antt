@@ -7,7 +7,7 @@ use Rattle.slate_ids.specs.declared.error.SlateDBError.TheVariants.{Corrupt, Inv
 use Rattle.slate_ids.specs.declared.error.FormatName.TheVariants.{Manifest as ManifestFormat}
 use Rattle.slate_model.specs.declared.manifest.Manifest.{Manifest}
 use Rattle.slate_layout.specs.Decoding.{decoded_manifest}
-use Rattle.slate_layout.specs.Decoding.{or_corrupt, by_version, after_version}
+use Rattle.slate_layout.specs.Decoding.{or_corrupt, after_version}
 use Rattle.slate_layout.specs.ManifestParts.{second_version}
 use Rattle.slate_layout.specs.OldManifests.{first_version}
 use Rattle.slate_layout.specs.Reading.{u16_in}

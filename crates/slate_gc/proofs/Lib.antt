@@ -1,4 +1,4 @@
-pub mod Keeping
-pub mod Greatest
-pub mod Named
-pub mod PassFaults
+mod Keeping
+mod Greatest
+mod Named
+mod PassFaults

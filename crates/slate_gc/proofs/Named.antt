@@ -1,6 +1,5 @@
 -- A set takes the versions that checkpoints name one by one.
-use Rattle.std.specs.Prelude.{ℕ, ◌+◌, ◌<◌, ◌||◌, ◌==◌, cond, Bool, true, false, List, [], ◌∷◌, length}
-use Rattle.std.specs.List.{list_any}
+use Rattle.std.specs.Prelude.{ℕ, ◌+◌, ◌<◌, ◌||◌, ◌==◌, cond, Bool, true, false, List, ◌∷◌, length}
 use Rattle.std.specs.Ordering.{nat_cmp, is_eq}
 use Rattle.std.proofs.Common.{◌≡◌, refl, sym, ◌∙◌, ap, arith, drop, get_or}
 use Rattle.std.proofs.lemmas.Bool.Decides.{nat_tests}

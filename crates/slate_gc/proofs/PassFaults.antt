@@ -12,7 +12,7 @@ use Rattle.slate_ids.specs.declared.error.SlateDBError.{SlateDBError}
 use Rattle.slate_ids.specs.declared.error.SlateDBError.TheVariants.{LatestTransactionalObjectVersionMissing, ManifestMissing, Corrupt, StoreFault}
 use Rattle.slate_log.proofs.Advances.{advance_faults}
 use Rattle.slate_log.proofs.Faults.{OnlyFaults, Fine, fine_stay, fine_ok, fine_err, sound_at, list_answers, get_answers}
-use Rattle.slate_log.specs.Advance.{AdvanceGoes, advance_asks, advance_goes, advance_due}
+use Rattle.slate_log.specs.Advance.{AdvanceGoes, advance_goes, advance_due}
 use Rattle.slate_log.specs.Boundary.{boundary_got, greatest}
 use Rattle.slate_log.proofs.Steps.{is_reading}
 use Rattle.slate_log.specs.Due.{NoFault, WhereOut}

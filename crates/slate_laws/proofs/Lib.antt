@@ -1,37 +1,37 @@
-pub mod Stores
-pub mod Links
-pub mod Facts
-pub mod Frame
-pub mod Paths
-pub mod Spares
-pub mod Puts
-pub mod Moves
-pub mod Lists
-pub mod Turns
-pub mod Maps
-pub mod Manifests
-pub mod Advances
-pub mod Passes
-pub mod Steps
-pub mod Calls
-pub mod Tallies
-pub mod Epochs
-pub mod Runs
-pub mod Due
-pub mod Rows
-pub mod Trails
-pub mod GoingOn
-pub mod Beginnings
-pub mod OpeningTables
-pub mod Opening
-pub mod Deletes
-pub mod Exact
-pub mod Safety
-pub mod EveryRun
-pub mod Listed
-pub mod Changes
-pub mod Ordered
-pub mod Left
-pub mod Alone
-pub mod Undisturbed
-pub mod Holding
+mod Stores
+mod Links
+mod Facts
+mod Frame
+mod Paths
+mod Spares
+mod Puts
+mod Moves
+mod Lists
+mod Turns
+mod Maps
+mod Manifests
+mod Advances
+mod Passes
+mod Steps
+mod Calls
+mod Tallies
+mod Epochs
+mod Runs
+mod Due
+mod Rows
+mod Trails
+mod GoingOn
+mod Beginnings
+mod OpeningTables
+mod Opening
+mod Deletes
+mod Exact
+mod Safety
+mod EveryRun
+mod Listed
+mod Changes
+mod Ordered
+mod Left
+mod Alone
+mod Undisturbed
+mod Holding

@@ -1,5 +1,5 @@
 -- Segments of normal trees stand as before.
-use Rattle.std.specs.Prelude.{◌≡◌, ℕ, ◌&&◌, true, List, [], ◌∷◌, map, refl}
+use Rattle.std.specs.Prelude.{◌≡◌, ℕ, ◌&&◌, List, [], ◌∷◌, map, refl}
 use Rattle.std.proofs.Common.{ap, ◌∙◌}
 use Rattle.slate_ids.specs.Keys.{key_lt}
 use Rattle.slate_model.specs.Segments.{Prefixed, ascend_from, IsAscending}

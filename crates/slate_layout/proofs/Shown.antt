@@ -4,7 +4,7 @@ use Rattle.std.proofs.Common.{subst, inl, inr}
 use Rattle.std.proofs.lemmas.Bool.{and_from}
 use Rattle.slate_ids.specs.KeyRange.{KeyRange, IsRange, is_proper, no_keys}
 use Rattle.slate_tables.specs.declared.ss_table_handle.SsTableHandle.{SsTableHandle}
-use Rattle.slate_tables.specs.Views.{MayShow, IsProjection, starts_with_key}
+use Rattle.slate_tables.specs.Views.{MayShow, starts_with_key}
 use Rattle.slate_layout.specs.Typed.{is_shown}
 
 -- where all is visible

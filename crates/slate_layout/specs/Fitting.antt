@@ -1,34 +1,32 @@
 -- Values of their types that have bytes fit.
-use Rattle.std.specs.Prelude.{◌≡◌, ℕ, ℤ, pos, negsuc, ◌<◌, ◌≤◌, ◌^◌, ◌*◌, ◌+◌, ◌/◌, ◌%◌, ◌==◌, ◌&&◌, nat_lt, nat_le, Bool, true, false, List, [], ◌∷◌, length, Option, Some, None, is_some, if◌then◌else◌, refl}
+use Rattle.std.specs.Prelude.{◌≡◌, ℕ, ℤ, pos, negsuc, ◌<◌, ◌^◌, ◌*◌, ◌+◌, ◌/◌, ◌%◌, ◌==◌, ◌&&◌, nat_lt, nat_le, Bool, true, false, List, [], ◌∷◌, length, Option, Some, None, refl}
 use Rattle.std.specs.List.{list_all}
-use Rattle.std.specs.Option.{option_map}
 use Rattle.std.specs.Str.{is_utf8}
 use Rattle.std.specs.declared.ops.Bound.{Bound}
 use Rattle.std.specs.declared.ops.Bound.TheVariants.{Included, Excluded, Unbounded}
-use Rattle.std.proofs.Common.{ap, sym, ◌∙◌, arith, ltb-true}
-use Rattle.std.proofs.lemmas.Bool.{and_parts, and_from}
+use Rattle.std.proofs.Common.{ap, arith, ltb-true}
+use Rattle.std.proofs.lemmas.Bool.{and_parts}
 use Rattle.std.proofs.lemmas.Bool.Decides.{nat_tests}
 use Rattle.slate_ids.specs.Ids.{is_db_path, is_path_char}
-use Rattle.slate_ids.specs.KeyRange.{KeyRange, is_proper, ranges_meet}
+use Rattle.slate_ids.specs.KeyRange.{KeyRange, is_proper}
 use Rattle.slate_tables.specs.declared.ss_table_id.SsTableId.{SsTableId}
 use Rattle.slate_tables.specs.declared.ss_table_id.SsTableId.TheVariants.{Wal, Compacted}
 use Rattle.slate_tables.specs.declared.ss_table_info.SsTableInfo.{SsTableInfo}
 use Rattle.slate_tables.specs.declared.ss_table_handle.SsTableHandle.{SsTableHandle}
-use Rattle.slate_tables.specs.Tables.{physical_range, is_compacted}
-use Rattle.slate_tables.specs.Views.{starts_with_key}
+use Rattle.slate_tables.specs.Tables.{is_compacted}
 use Rattle.slate_model.specs.declared.checkpoint.Checkpoint.{Checkpoint}
 use Rattle.slate_model.specs.declared.external_db.ExternalDb.{ExternalDb}
 use Rattle.slate_model.specs.Sequences.{is_kept, in_order}
 use Rattle.slate_layout.specs.Tables.{table_id}
 use Rattle.slate_layout.specs.Bytes.{is_u64, is_i64}
 use Rattle.slate_layout.specs.Parts.{u64_is}
-use Rattle.slate_layout.specs.Reads.{OptionFits, EachFits, ListFits, PairFits}
-use Rattle.slate_layout.specs.Texts.{IsShort, TextFits, PathFits, IdFits, id_of, id_halves}
+use Rattle.slate_layout.specs.Reads.{OptionFits, EachFits, PairFits}
+use Rattle.slate_layout.specs.Texts.{TextFits, PathFits, IdFits}
 use Rattle.slate_layout.specs.RangeParts.{BoundFits, RangeFits}
-use Rattle.slate_layout.specs.InfoParts.{are_entries, parts_of, InfoFits, HandleFits, handle_of}
+use Rattle.slate_layout.specs.InfoParts.{are_entries, InfoFits, HandleFits}
 use Rattle.slate_layout.specs.InfoCodec.{IsTyped, is_short, first_field, info_fits}
-use Rattle.slate_layout.specs.CheckpointParts.{second_of, moment_of, IsU32, CheckpointFits, checkpoint_of, checkpoint_parts, TableFits, table_of, EntryFits, MomentFits, TrackerFits, tracker_of}
-use Rattle.slate_layout.specs.Typed.{both, none_or, is_u16, is_u32, is_id, is_sixteen, is_path, are_two, is_info, is_handle, is_table, is_checkpoint, is_entry, is_tracker}
+use Rattle.slate_layout.specs.CheckpointParts.{second_of, moment_of, IsU32, CheckpointFits, TableFits, EntryFits, MomentFits, TrackerFits}
+use Rattle.slate_layout.specs.Typed.{both, none_or, is_u16, is_id, is_sixteen, is_path, are_two, is_info, is_handle, is_table, is_checkpoint, is_entry, is_tracker}
 use Rattle.slate_layout.specs.Unencodable.{has_second, has_later_second, has_expiry, few, short_bound, short_range}
 use Rattle.slate_layout.specs.Normal.{whole_second, normal_checkpoint}
 

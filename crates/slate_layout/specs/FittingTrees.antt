@@ -1,32 +1,29 @@
 -- Trees of views whose tables were gathered fit among those tables.
-use Rattle.std.specs.Prelude.{◌≡◌, ℕ, ◌<◌, ◌^◌, ◌&&◌, Bool, true, List, [], ◌∷◌, ◌++◌, map, length, Option, Some, None, is_some, if◌then◌else◌, refl}
+use Rattle.std.specs.Prelude.{◌≡◌, ◌&&◌, true, List, [], ◌∷◌, ◌++◌, map, length, Option, Some, None, is_some, if◌then◌else◌, refl}
 use Rattle.std.specs.List.{list_all, flat_map}
-use Rattle.std.specs.Map.{lookup}
-use Rattle.std.specs.BTreeMap.{is_at}
-use Rattle.std.proofs.Common.{ap, sym, ◌∙◌, subst}
+use Rattle.std.proofs.Common.{ap, ◌∙◌}
 use Rattle.std.proofs.lemmas.Bool.{and_parts, and_from}
 use Rattle.slate_ids.specs.KeyRange.{KeyRange, is_proper, ranges_meet}
 use Rattle.slate_tables.specs.declared.ss_table_handle.SsTableHandle.{SsTableHandle}
-use Rattle.slate_tables.specs.Tables.{physical_range, is_compacted}
+use Rattle.slate_tables.specs.Tables.{physical_range}
 use Rattle.slate_tables.specs.Views.{View, starts_with_key}
 use Rattle.slate_tables.specs.Runs.{Run}
 use Rattle.slate_model.specs.declared.lsm_tree_state.LsmTreeState.{LsmTreeState}
 use Rattle.slate_model.specs.Segments.{Prefixed}
 use Rattle.slate_model.specs.Trees.{views_of_tree}
 use Rattle.slate_layout.specs.Tables.{table_id, table_at}
-use Rattle.slate_layout.specs.UsedTables.{id_cmp}
-use Rattle.slate_layout.specs.Reads.{OptionFits, EachFits, ListFits, PairFits}
-use Rattle.slate_layout.specs.Texts.{IsShort, IdFits}
+use Rattle.slate_layout.specs.Reads.{OptionFits, EachFits}
+use Rattle.slate_layout.specs.Texts.{IdFits}
 use Rattle.slate_layout.specs.RangeParts.{RangeFits}
 use Rattle.slate_layout.specs.InfoParts.{are_entries}
 use Rattle.slate_layout.specs.InfoCodec.{is_short}
-use Rattle.slate_layout.specs.TreeParts.{may_show, shown, ViewFits, RunFits, TreeFits, SegmentFits, view_of, view_parts}
+use Rattle.slate_layout.specs.TreeParts.{may_show, shown, ViewFits, RunFits, TreeFits, SegmentFits, view_parts}
 use Rattle.slate_layout.specs.Typed.{none_or, is_u32, is_id, is_table, is_shown, is_view, is_run, is_tree, is_segment}
 use Rattle.slate_layout.specs.Unencodable.{has_keys, few, short_range, short_view, short_run, short_tree, short_segment}
 use Rattle.slate_layout.specs.Normal.{normal_tree, normal_segment}
 use Rattle.slate_layout.specs.Gathered.{ById}
 use Rattle.slate_layout.specs.GatheredLaws.{values, Keyed, At, EachHas, at_id}
-use Rattle.slate_layout.specs.Fitting.{option_fits, each_of_two, few_is, id_fits, range_fits}
+use Rattle.slate_layout.specs.Fitting.{option_fits, few_is, id_fits, range_fits}
 
 -- ---- each of a list
 

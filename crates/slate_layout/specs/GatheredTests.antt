@@ -1,12 +1,12 @@
 -- What holds of the table of each view holds of those that were gathered.
-use Rattle.std.specs.Prelude.{◌≡◌, ℕ, ◌==◌, ◌&&◌, ◌||◌, Bool, true, false, List, [], ◌∷◌, ◌++◌, map, length, Option, Some, None, if◌then◌else◌, refl}
-use Rattle.std.specs.List.{list_all, list_any, flat_map}
+use Rattle.std.specs.Prelude.{◌≡◌, ℕ, ◌&&◌, ◌||◌, Bool, true, false, List, [], ◌∷◌, ◌++◌, map, length, Option, Some, None, if◌then◌else◌, refl}
+use Rattle.std.specs.List.{list_all, flat_map}
 use Rattle.std.specs.Map.{lookup}
 use Rattle.std.specs.BTreeMap.{insert_entry, is_at}
 use Rattle.std.specs.Ordering.{match_ordering}
 use Rattle.std.specs.declared.cmp.Ordering.{Ordering}
 use Rattle.std.specs.declared.cmp.Ordering.TheVariants.{Less, Equal, Greater}
-use Rattle.std.proofs.Common.{ap, sym, ◌∙◌, subst, arith}
+use Rattle.std.proofs.Common.{◌∙◌, subst, arith}
 use Rattle.std.proofs.lemmas.Bool.{and_parts, and_from}
 use Rattle.std.proofs.lemmas.Bool.Decides.{nat_tests}
 use Rattle.std.proofs.lemmas.List.Folds.{list_all-append}
@@ -25,7 +25,7 @@ use Rattle.slate_layout.specs.InfoParts.{are_entries}
 use Rattle.slate_layout.specs.InfoCodec.{is_short}
 use Rattle.slate_layout.specs.Gathered.{ById, with_table, with_view, gathered, same_handle}
 use Rattle.slate_layout.specs.GatheredLaws.{values}
-use Rattle.slate_layout.specs.Fitting.{has_bytes, is_writable}
+use Rattle.slate_layout.specs.Fitting.{is_writable}
 use Rattle.slate_layout.specs.Unencodable.{has_keys, few, short_range, short_view, short_run, short_tree, short_segment}
 
 -- ---- tests of the gathered tables

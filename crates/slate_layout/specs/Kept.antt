@@ -1,14 +1,13 @@
 -- What the normal form keeps: the bytes, and whether a field has none.
-use Rattle.std.specs.Prelude.{◌≡◌, ℕ, ℤ, pos, negsuc, ◌*◌, ◌/◌, ◌^◌, ◌&&◌, ◌==◌, ◌++◌, nat_lt, not, Bool, true, List, [], ◌∷◌, map, length, Option, Some, None, if◌then◌else◌, refl}
+use Rattle.std.specs.Prelude.{◌≡◌, ℕ, ℤ, pos, negsuc, ◌*◌, ◌/◌, ◌^◌, ◌&&◌, ◌==◌, ◌++◌, nat_lt, not, Bool, List, [], ◌∷◌, map, length, Option, Some, None, if◌then◌else◌, refl}
 use Rattle.std.specs.List.{list_all, flat_map}
 use Rattle.std.specs.Option.{option_map}
-use Rattle.std.proofs.Common.{ap, sym, ◌∙◌, arith}
+use Rattle.std.proofs.Common.{ap, ◌∙◌, arith}
 use Rattle.std.proofs.lemmas.List.{length-map}
 use Rattle.slate_ids.specs.declared.error.FieldName.{FieldName}
 use Rattle.slate_ids.specs.declared.error.FieldName.TheVariants.{ExpireTime, CreateTime, WalId, NoKeys, NextWal, Length}
 use Rattle.slate_tables.specs.Tables.{is_compacted}
 use Rattle.slate_ids.specs.Keys.{key_lt}
-use Rattle.slate_model.specs.declared.lsm_tree_state.LsmTreeState.{LsmTreeState}
 use Rattle.slate_model.specs.declared.checkpoint.Checkpoint.{Checkpoint}
 use Rattle.slate_model.specs.declared.manifest.Manifest.{Manifest}
 use Rattle.slate_model.specs.Cores.{Core}
@@ -20,7 +19,7 @@ use Rattle.slate_layout.specs.CheckpointParts.{second_of, expiry_second, id_name
 use Rattle.slate_layout.specs.InfoCodec.{is_short, unless_field}
 use Rattle.slate_layout.specs.InfoParts.{handle_bytes}
 use Rattle.slate_layout.specs.ManifestParts.{body_of, head_bytes, middle_bytes, body_bytes}
-use Rattle.slate_layout.specs.Normal.{whole_second, normal_checkpoint, normal_tree, normal_segment, normal_core, normal_manifest}
+use Rattle.slate_layout.specs.Normal.{whole_second, normal_checkpoint, normal_segment, normal_core, normal_manifest}
 use Rattle.slate_layout.specs.Unencodable.{has_second, has_later_second, has_expiry, no_wal_ids, has_keys, few, short_tree, short_segment, are_short, early_field, late_field, manifest_bytes, encoded_with, unless_early, encoded_manifest}
 use Rattle.slate_layout.specs.Gathered.{ById, gathered}
 

@@ -1,5 +1,5 @@
 -- What is read back of a manifest.
-use Rattle.std.specs.Prelude.{ℤ, pos, negsuc, ◌/◌, ◌*◌, ◌%◌, ◌==◌, ◌&&◌, Bool, true, List, map, Option, Some, None, is_none}
+use Rattle.std.specs.Prelude.{ℤ, pos, negsuc, ◌/◌, ◌*◌, ◌%◌, ◌==◌, ◌&&◌, Bool, true, map, Option, Some, None, is_none}
 use Rattle.std.specs.List.{list_all}
 use Rattle.std.specs.Option.{option_map}
 use Rattle.slate_model.specs.declared.checkpoint.Checkpoint.{Checkpoint}

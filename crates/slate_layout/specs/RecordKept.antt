@@ -1,12 +1,10 @@
 -- The normal form of a record has the same bytes.
-use Rattle.std.specs.Prelude.{◌≡◌, ℕ, ◌&&◌, ◌++◌, not, Bool, true, false, List, [], ◌∷◌, map, length, Option, Some, None, Result, Ok, if◌then◌else◌, refl}
+use Rattle.std.specs.Prelude.{◌≡◌, ℕ, ◌&&◌, ◌++◌, not, Bool, true, false, List, [], ◌∷◌, map, length, Option, Some, None, Ok, if◌then◌else◌, refl}
 use Rattle.std.specs.List.{list_all, flat_map}
 use Rattle.std.specs.Option.{option_map}
-use Rattle.std.proofs.Common.{ap, sym, ◌∙◌, subst}
+use Rattle.std.proofs.Common.{ap, sym, ◌∙◌}
 use Rattle.std.proofs.lemmas.Bool.{and_parts, and_from}
 use Rattle.std.proofs.lemmas.List.{length-map}
-use Rattle.slate_ids.specs.declared.error.SlateDBError.{SlateDBError}
-use Rattle.slate_ids.specs.declared.error.FieldName.{FieldName}
 use Rattle.slate_ids.specs.declared.error.FieldName.TheVariants.{WalId, NoKeys, Length}
 use Rattle.slate_tables.specs.declared.ss_table_handle.SsTableHandle.{SsTableHandle}
 use Rattle.slate_tables.specs.Tables.{is_compacted}
@@ -21,7 +19,7 @@ use Rattle.slate_layout.specs.Unencodable.{few}
 use Rattle.slate_layout.specs.Typed.{none_or}
 use Rattle.slate_layout.specs.Bytes.{u32_bytes, u64_bytes}
 use Rattle.slate_layout.specs.RecordParts.{views_in, runs_in, views_back, runs_back}
-use Rattle.slate_layout.specs.Records.{has_outputs, kept_outputs, raw_bytes, raw_of, entries_bytes}
+use Rattle.slate_layout.specs.Records.{has_outputs, raw_bytes, raw_of}
 use Rattle.slate_layout.specs.RecordNormal.{normal_sources, normal_spec, normal_context, normal_compaction, normal_record}
 use Rattle.slate_layout.specs.RecordFields.{of_context, of_outputs, has_entries, has_ranges, has_keys_of, short_handle, short_spec, short_worker, short_context, short_compaction, record_field, record_bytes, encoded_record}
 use Rattle.slate_layout.specs.RecordFitting.{normal_raw, bytes_kept, kept_pass, kept_few, kept_twice}

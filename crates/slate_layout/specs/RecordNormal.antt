@@ -1,5 +1,5 @@
 -- What is read back of a record.
-use Rattle.std.specs.Prelude.{ℕ, List, map, Option, Some, unwrap_or}
+use Rattle.std.specs.Prelude.{List, map, Some, unwrap_or}
 use Rattle.std.specs.Option.{option_map}
 use Rattle.slate_records.specs.declared.source_id.SourceId.{SourceId}
 use Rattle.slate_records.specs.declared.compaction_spec.CompactionSpec.{CompactionSpec}

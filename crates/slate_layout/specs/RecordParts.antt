@@ -1,7 +1,6 @@
 -- The bytes of compactions.
-use Rattle.std.specs.Prelude.{◌≡◌, ℕ, ◌≤◌, ◌<◌, ◌^◌, ◌++◌, ◌==◌, ◌&&◌, nat_lt, Bool, true, false, List, [], ◌∷◌, length, map, fold, Option, Some, None, unwrap_or, if◌then◌else◌, refl}
-use Rattle.std.specs.Option.{option_map}
-use Rattle.std.proofs.Common.{ap, sym, ◌∙◌, subst, arith}
+use Rattle.std.specs.Prelude.{◌≡◌, ℕ, ◌≤◌, ◌<◌, ◌^◌, ◌++◌, ◌==◌, Bool, true, false, List, [], ◌∷◌, length, map, Option, Some, None, unwrap_or, if◌then◌else◌, refl}
+use Rattle.std.proofs.Common.{ap, sym, ◌∙◌, arith}
 use Rattle.std.proofs.lemmas.Bool.Decides.{nat_tests}
 use Rattle.slate_ids.specs.KeyRange.{KeyRange}
 use Rattle.slate_tables.specs.declared.ss_table_handle.SsTableHandle.{SsTableHandle}
@@ -14,11 +13,10 @@ use Rattle.slate_records.specs.declared.compaction_status.CompactionStatus.TheVa
 use Rattle.slate_records.specs.declared.worker_spec.WorkerSpec.{WorkerSpec}
 use Rattle.slate_records.specs.declared.subcompaction.Subcompaction.{Subcompaction}
 use Rattle.slate_records.specs.declared.compaction_context.CompactionContext.{CompactionContext}
-use Rattle.slate_records.specs.declared.compaction.Compaction.{Compaction}
-use Rattle.slate_layout.specs.Bytes.{is_u64, byte_bytes, u32_bytes, u64_bytes, counted_bytes, option_bytes, list_bytes, pair_bytes}
-use Rattle.slate_layout.specs.Reading.{◌>>=◌, byte_in, u32_in, u64_in, counted_in, option_in, list_in, pair_in, made_in}
-use Rattle.slate_layout.specs.Parts.{AreBytes, AreBytes-rest, IsFront, same_found}
-use Rattle.slate_layout.specs.Reads.{Reads, IsRead, OptionFits, ListFits, PairFits, MadeFits, option_reads, list_reads, pair_reads, made_reads}
+use Rattle.slate_layout.specs.Bytes.{is_u64, byte_bytes, u32_bytes, u64_bytes, counted_bytes, list_bytes, pair_bytes}
+use Rattle.slate_layout.specs.Reading.{◌>>=◌, byte_in, u32_in, u64_in, counted_in, list_in, pair_in, made_in}
+use Rattle.slate_layout.specs.Parts.{AreBytes, AreBytes-rest, IsFront}
+use Rattle.slate_layout.specs.Reads.{Reads, IsRead, ListFits, PairFits, MadeFits, list_reads, pair_reads, made_reads}
 use Rattle.slate_layout.specs.Atoms.{u32_reads, u64_reads, counted_reads}
 use Rattle.slate_layout.specs.Texts.{IsShort, text_in, TextFits, text_reads, id_bytes, id_in, IdFits, id_reads}
 use Rattle.slate_layout.specs.RangeParts.{range_bytes, range_in, RangeFits, range_reads}

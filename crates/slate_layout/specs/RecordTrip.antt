@@ -1,20 +1,17 @@
 -- What was encoded of a record is read back as its normal form, which has the same bytes.
-use Rattle.std.specs.Prelude.{◌≡◌, ℕ, ◌<◌, ◌≤◌, ◌^◌, ◌&&◌, ◌++◌, nat_le, not, Bool, true, false, List, [], ◌∷◌, map, length, Option, Some, None, Result, Ok, if◌then◌else◌, refl}
+use Rattle.std.specs.Prelude.{◌≡◌, ℕ, ◌<◌, ◌≤◌, ◌^◌, ◌&&◌, ◌++◌, nat_le, not, Bool, true, false, List, [], ◌∷◌, map, length, Option, Some, None, Ok, if◌then◌else◌, refl}
 use Rattle.std.specs.List.{list_all, flat_map}
-use Rattle.std.specs.Option.{option_map}
 use Rattle.std.proofs.Common.{ap, sym, ◌∙◌, subst, arith}
 use Rattle.std.proofs.lemmas.Bool.{and_parts, and_from}
 use Rattle.std.proofs.lemmas.Bool.Decides.{nat_tests}
 use Rattle.std.proofs.lemmas.List.{length-map}
-use Rattle.slate_ids.specs.declared.error.SlateDBError.{SlateDBError}
 use Rattle.slate_ids.specs.declared.error.FieldName.{FieldName}
 use Rattle.slate_ids.specs.declared.error.FieldName.TheVariants.{WalId, NoKeys, Length}
-use Rattle.slate_tables.specs.declared.ss_table_handle.SsTableHandle.{SsTableHandle}
 use Rattle.slate_tables.specs.Tables.{is_compacted}
 use Rattle.slate_records.specs.declared.compaction.Compaction.{Compaction}
 use Rattle.slate_records.specs.Records.{Record, is_before, are_ascending}
-use Rattle.slate_layout.specs.Bytes.{is_u64, u32_bytes, u64_bytes, list_bytes}
-use Rattle.slate_layout.specs.Reading.{◌>>=◌, u16_in, u64_in, list_in, whole}
+use Rattle.slate_layout.specs.Bytes.{is_u64, u32_bytes, u64_bytes}
+use Rattle.slate_layout.specs.Reading.{◌>>=◌, u16_in, whole}
 use Rattle.slate_layout.specs.Parts.{bind_at}
 use Rattle.slate_layout.specs.Reads.{Reads, EachFits, ListFits, PairFits, list_reads, pair_reads}
 use Rattle.slate_layout.specs.Atoms.{u64_reads}

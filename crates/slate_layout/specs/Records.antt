@@ -1,5 +1,5 @@
 -- The bytes of records: versions 2 and 1.
-use Rattle.std.specs.Prelude.{◌≡◌, ℕ, ◌==◌, ◌&&◌, nat_le, Bool, true, false, List, [], ◌∷◌, map, Option, Some, None, Result, Err, ok_or, if◌then◌else◌}
+use Rattle.std.specs.Prelude.{ℕ, ◌==◌, ◌&&◌, nat_le, Bool, true, false, List, [], ◌∷◌, map, Option, Some, None, Result, Err, ok_or, if◌then◌else◌}
 use Rattle.slate_ids.specs.declared.error.SlateDBError.{SlateDBError}
 use Rattle.slate_ids.specs.declared.error.SlateDBError.TheVariants.{Corrupt, InvalidCompaction, InvalidVersion}
 use Rattle.slate_ids.specs.declared.error.FormatName.TheVariants as format

@@ -1,12 +1,11 @@
 -- What was encoded of a manifest is read back as its normal form.
-use Rattle.std.specs.Prelude.{◌≡◌, ℕ, ◌+◌, ◌-◌, ◌<◌, ◌≤◌, ◌^◌, ◌&&◌, ◌==◌, ◌++◌, nat_le, not, Bool, true, false, List, [], ◌∷◌, map, length, Option, Some, None, Result, Ok, if◌then◌else◌, refl}
+use Rattle.std.specs.Prelude.{◌≡◌, ℕ, ◌+◌, ◌-◌, ◌<◌, ◌≤◌, ◌^◌, ◌&&◌, ◌==◌, ◌++◌, nat_le, not, Bool, true, false, List, [], ◌∷◌, map, length, Option, Some, None, Ok, if◌then◌else◌, refl}
 use Rattle.std.specs.List.{list_all}
 use Rattle.std.specs.Str.{is_utf8}
 use Rattle.std.proofs.Common.{ap, sym, ◌∙◌, subst, arith}
 use Rattle.std.proofs.lemmas.Bool.{and_parts, and_from}
 use Rattle.std.proofs.lemmas.Bool.Decides.{nat_tests}
 use Rattle.std.proofs.lemmas.List.{length-map}
-use Rattle.slate_ids.specs.declared.error.SlateDBError.{SlateDBError}
 use Rattle.slate_ids.specs.declared.error.FieldName.{FieldName}
 use Rattle.slate_ids.specs.declared.error.FieldName.TheVariants.{ExpireTime, CreateTime, WalId, NoKeys, NextWal, Length}
 use Rattle.slate_tables.specs.declared.ss_table_handle.SsTableHandle.{SsTableHandle}
@@ -19,7 +18,7 @@ use Rattle.slate_model.specs.Trees.{views_of_tree, views_of}
 use Rattle.slate_layout.specs.Tables.{table_id, ascend}
 use Rattle.slate_layout.specs.UsedTables.{any_of}
 use Rattle.slate_layout.specs.Bytes.{is_u64, is_i64, list_bytes}
-use Rattle.slate_layout.specs.Reading.{◌>>=◌, u16_in, list_in, whole}
+use Rattle.slate_layout.specs.Reading.{◌>>=◌, u16_in, whole}
 use Rattle.slate_layout.specs.Parts.{bind_at}
 use Rattle.slate_layout.specs.Reads.{EachFits, ListFits, list_reads}
 use Rattle.slate_layout.specs.InfoParts.{handle_bytes, handle_in, handle_reads, HandleFits}

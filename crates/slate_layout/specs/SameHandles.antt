@@ -1,5 +1,5 @@
 -- Handles that are told equal are equal.
-use Rattle.std.specs.Prelude.{◌≡◌, ℕ, ◌==◌, ◌&&◌, Bool, true, false, List, Option, Some, None, refl}
+use Rattle.std.specs.Prelude.{◌≡◌, ℕ, ◌==◌, true, List, Option, Some, None, refl}
 use Rattle.std.proofs.Common.{ap, sym, ◌∙◌, arith}
 use Rattle.std.proofs.lemmas.Bool.{and_parts}
 use Rattle.std.proofs.lemmas.Bool.Decides.{nat_tests}
@@ -12,7 +12,7 @@ use Rattle.slate_tables.specs.declared.table_tags.CompressionTag.{CompressionTag
 use Rattle.slate_tables.specs.declared.table_tags.SstType.{SstType}
 use Rattle.slate_tables.specs.declared.table_tags.FilterFormat.{FilterFormat}
 use Rattle.slate_model.specs.Externals.{same_table}
-use Rattle.slate_layout.specs.InfoParts.{Parts, joined, parts_of, codec_of, codec_number, type_of, type_number, format_of, format_number}
+use Rattle.slate_layout.specs.InfoParts.{joined, parts_of, codec_of, codec_number, type_of, type_number, format_of, format_number}
 use Rattle.slate_layout.specs.InfoCodec.{codec_fits, type_fits, format_fits}
 use Rattle.slate_layout.specs.Gathered.{same_key, same_info, same_handle}
 

@@ -1,5 +1,5 @@
 -- Values of their types: numbers have their bits, texts are UTF-8, views show what a view may show.
-use Rattle.std.specs.Prelude.{ℕ, ℤ, ◌^◌, ◌==◌, ◌&&◌, nat_lt, Bool, true, List, [], length, map, Option, Some, None, is_some}
+use Rattle.std.specs.Prelude.{ℕ, ℤ, ◌^◌, ◌==◌, ◌&&◌, nat_lt, Bool, true, List, [], length, map, Option, Some, None}
 use Rattle.std.specs.List.{list_all}
 use Rattle.std.specs.Str.{is_utf8}
 use Rattle.slate_ids.specs.Ids.{is_db_path}

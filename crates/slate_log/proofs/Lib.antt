@@ -1,11 +1,11 @@
 pub mod Decimals
-pub mod Ascend
+mod Ascend
 pub mod Steps
-pub mod Once
+mod Once
 pub mod Faults
 pub mod ReadFaults
 pub mod Commits
 pub mod Advances
-pub mod Stored
-pub mod Reached
-pub mod Deletes
+mod Stored
+mod Reached
+mod Deletes

@@ -1,8 +1,8 @@
-pub mod Trackers
-pub mod Joined
-pub mod Latest
-pub mod Ascending
-pub mod Nestings
-pub mod Placing
-pub mod Apart
-pub mod Chosen
+mod Trackers
+mod Joined
+mod Latest
+mod Ascending
+mod Nestings
+mod Placing
+mod Apart
+mod Chosen

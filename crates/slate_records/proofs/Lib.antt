@@ -1,4 +1,4 @@
-pub mod Ids
-pub mod Ordered
-pub mod Inserted
-pub mod Kept
+mod Ids
+mod Ordered
+mod Inserted
+mod Kept

@@ -1,6 +1,6 @@
-pub mod Ascending
-pub mod Grouped
-pub mod Ids
-pub mod Lists
-pub mod Markers
-pub mod NoItems
+mod Ascending
+mod Grouped
+mod Ids
+mod Lists
+mod Markers
+mod NoItems

@@ -1,1 +1,1 @@
-pub mod Expired
+mod Expired

@@ -1,3 +1,3 @@
-pub mod Folders
-pub mod InMemory
-pub mod Slices
+mod Folders
+mod InMemory
+mod Slices

@@ -1,8 +1,8 @@
-pub mod Projections
-pub mod KeyOrder
-pub mod Slots
-pub mod Covers
-pub mod Spans
-pub mod Counting
-pub mod Overlaps
-pub mod Ascents
+mod Projections
+mod KeyOrder
+mod Slots
+mod Covers
+mod Spans
+mod Counting
+mod Overlaps
+mod Ascents

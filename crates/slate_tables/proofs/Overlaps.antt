@@ -1,7 +1,6 @@
 -- The most views that are open at a start are the most that show one key.
-use Rattle.std.specs.Prelude.{ℕ, zero, suc, ◌+◌, ◌-◌, ◌<◌, ◌≤◌, ◌⊎◌, Bool, true, false, not, ◌&&◌, nat_lt, cond, List, [], ◌∷◌, ◌++◌, length, get_or, count_by}
-use Rattle.std.proofs.Common.{◌≡◌, refl, sym, ap, ◌∙◌, subst, arith, inl, inr}
-use Rattle.std.specs.List.{flat_map}
+use Rattle.std.specs.Prelude.{ℕ, zero, suc, ◌+◌, ◌-◌, ◌<◌, ◌≤◌, ◌⊎◌, Bool, true, false, not, ◌&&◌, nat_lt, cond, List, [], ◌∷◌, length, get_or, count_by}
+use Rattle.std.proofs.Common.{◌≡◌, refl, sym, ap, ◌∙◌, arith, inl, inr}
 use Rattle.std.specs.List.Sorted.{IsSorted, IsPartitionedBy, IsPermutation}
 use Rattle.std.specs.Ordering.{nat_cmp}
 use Rattle.std.specs.Cmp.Lexicographic.{slice_cmp}
@@ -12,7 +11,7 @@ use Rattle.std.proofs.lemmas.Bool.Decides.{nat_tests}
 use Rattle.std.specs.declared.ops.Bound.{Bound}
 use Rattle.std.specs.declared.ops.Bound.TheVariants.{Included, Excluded, Unbounded}
 use Rattle.slate_ids.specs.Keys.{key_lt, key_le, is_past, is_up_to}
-use Rattle.slate_ids.specs.KeyRange.{KeyRange, has_key}
+use Rattle.slate_ids.specs.KeyRange.{has_key}
 use Rattle.slate_tables.specs.Views.{View, effective_range, shows_key}
 use Rattle.slate_tables.specs.Runs.{all_show}
 use Rattle.slate_tables.specs.Overlap.{showing, IsGreatestOverlap, included_in, excluded_in, start_keys, end_keys, limit_keys, closed_at, open_at, IsMostOpen}

@@ -1,8 +1,8 @@
 -- A range that meets the keys of a table may be shown of it.
-use Rattle.std.specs.Prelude.{ℕ, List, Bool, true, false, ◌&&◌, Option, Some, None, is_some}
+use Rattle.std.specs.Prelude.{ℕ, List, true, ◌&&◌, Option, Some, None, is_some}
 use Rattle.std.proofs.Common.{◌≡◌, refl, sym, ◌∙◌, subst}
 use Rattle.slate_ids.specs.Keys.{is_ordered}
-use Rattle.slate_ids.specs.KeyRange.{KeyRange, is_proper, ranges_meet, no_keys}
+use Rattle.slate_ids.specs.KeyRange.{KeyRange, is_proper, ranges_meet}
 use Rattle.slate_tables.specs.declared.ss_table_handle.SsTableHandle.{SsTableHandle}
 use Rattle.slate_tables.specs.Tables.{keys_between, physical_range}
 use Rattle.slate_tables.specs.Views.{starts_with_key, IsProjection}

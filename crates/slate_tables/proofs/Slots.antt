@@ -1,13 +1,13 @@
 -- The slots of a run's views: each is proper, holds its view's effective range, and ends no later than the next one.
 use Rattle.std.specs.Prelude.{ℕ, Bool, true, false, ◌&&◌, List, [], ◌∷◌, if◌then◌else◌}
-use Rattle.std.proofs.Common.{◌≡◌, refl, sym, ap, ◌∙◌, subst}
+use Rattle.std.proofs.Common.{◌≡◌, refl, sym, ap, ◌∙◌}
 use Rattle.std.specs.declared.ops.Bound.{Bound}
 use Rattle.std.specs.declared.ops.Bound.TheVariants.{Included, Excluded, Unbounded}
 use Rattle.slate_ids.specs.Keys.{key_lt, key_le, is_past, is_up_to, is_ordered}
 use Rattle.slate_ids.specs.KeyRange.{KeyRange, has_key}
 use Rattle.slate_tables.specs.Views.{View, effective_range, has_first_key, shows_key}
 use Rattle.slate_tables.specs.Runs.{end_at, slot_end, slot, ends_by, ends_before_next}
-use Rattle.slate_tables.proofs.KeyOrder.{le_trans, le_refl, lt_le, lt_le_trans, le_lt_trans, not_lt, same_key}
+use Rattle.slate_tables.proofs.KeyOrder.{le_trans, le_refl, lt_le, lt_le_trans, le_lt_trans, same_key}
 
 -- a range that has its first key
 pub record Begins (r : KeyRange) : Type 0 where

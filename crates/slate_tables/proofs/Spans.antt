@@ -1,6 +1,6 @@
 -- The first and the last of views, as a slice gives them.
-use Rattle.std.specs.Prelude.{ℕ, suc, ◌-◌, List, [], ◌∷◌, length, slice_get, Option, Some, None}
-use Rattle.std.proofs.Common.{◌≡◌, refl, sym, ap, ◌∙◌, arith}
+use Rattle.std.specs.Prelude.{◌-◌, List, [], ◌∷◌, length, slice_get, Some}
+use Rattle.std.proofs.Common.{◌≡◌, ap, ◌∙◌, arith}
 use Rattle.slate_ids.specs.KeyRange.{KeyRange, ranges_meet}
 use Rattle.slate_tables.specs.Views.{View, effective_range}
 use Rattle.slate_tables.specs.Runs.{last_of, spans_meet}

@@ -1,11 +1,11 @@
-pub mod Updates
-pub mod Standing
-pub mod Loads
-pub mod Inits
-pub mod ApplyRuns
-pub mod ApplyFaults
-pub mod Fences
-pub mod Refreshes
-pub mod FencedRefreshes
-pub mod FencedUpdates
-pub mod FencedApplies
+mod Updates
+mod Standing
+mod Loads
+mod Inits
+mod ApplyRuns
+mod ApplyFaults
+mod Fences
+mod Refreshes
+mod FencedRefreshes
+mod FencedUpdates
+mod FencedApplies

@@ -1,7 +1,6 @@
-use Rattle.std.specs.Prelude.{◌≡◌, ◌++◌, ◌∷◌, List, [], map, true}
-use Rattle.std.proofs.Common.{rules, ap, sym, ◌∙◌, subst}
-use Rattle.slate_records.specs.declared.compaction.Compaction.{Compaction}
-use Rattle.slate_records.specs.Records.{Record, are_ascending, inserted}
+use Rattle.std.specs.Prelude.{◌≡◌, ◌++◌, ◌∷◌, map}
+use Rattle.std.proofs.Common.{rules, ap, ◌∙◌}
+use Rattle.slate_records.specs.Records.{Record, inserted}
 use Rattle.slate_layout.specs.RecordNormal.{normal_compaction}
 use Rattle.slate_layout.proofs.RecordOrder.{put_last, normal_ascend}
 use Rattle.slate_layout.proofs.record_normal.normal_entries.Goals as goal

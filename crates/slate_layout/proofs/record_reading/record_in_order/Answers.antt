@@ -1,9 +1,7 @@
-use Rattle.std.specs.Prelude.{◌≡◌, ◌++◌, ◌∷◌, List, [], map, true}
-use Rattle.std.proofs.Common.{rules, ap, sym, ◌∙◌, subst}
-use Rattle.std.proofs.lemmas.List.{append_assoc}
+use Rattle.std.specs.Prelude.{◌≡◌, ◌++◌, ◌∷◌, map}
+use Rattle.std.proofs.Common.{rules, ap, ◌∙◌}
 use Rattle.std.specs.Vec.Iter.{into_iter_items}
-use Rattle.slate_records.specs.declared.compaction.Compaction.{Compaction}
-use Rattle.slate_records.specs.Records.{Record, are_ascending, inserted}
+use Rattle.slate_records.specs.Records.{Record, inserted}
 use Rattle.slate_layout.specs.Records as records
 use Rattle.slate_layout.proofs.RecordOrder.{put_last}
 use Rattle.slate_layout.proofs.record_reading.record_in_order.Goals as goal

@@ -1,5 +1,5 @@
-use Rattle.std.proofs.Common.{rules, ◌≡◌, true}
-use Rattle.slate_tables.proofs.Covers.{InOrder, covering_found, covering_empty, covering_none, part_found, part_empty, part_of_none}
+use Rattle.std.proofs.Common.{rules, true}
+use Rattle.slate_tables.proofs.Covers.{covering_found, covering_empty, covering_none, part_found, part_empty, part_of_none}
 use Rattle.slate_tables.proofs.covering.covering_part.Goals as goal
 
 pub returns-then-not-is_proper-clause-covering : goal.returns-then-not-is_proper-clause-covering

@@ -1,6 +1,4 @@
-use Rattle.std.proofs.Common.{◌≡◌, ◌+◌, ◌-◌, ◌/◌, ◌<◌, ◌≤◌, ◌∙◌, ℕ, Bool, true, false, sym, arith}
-use Rattle.slate_ids.specs.Keys.{is_ordered}
-use Rattle.slate_tables.specs.Slots.{slot_at}
+use Rattle.std.proofs.Common.{◌+◌, ◌-◌, ◌/◌, ◌∙◌, true, false, sym, arith}
 use Rattle.slate_tables.proofs.Covers.{reach_later, not_reached_earlier}
 use Rattle.slate_tables.proofs.covering.first_reached.Goals as goal
 

@@ -1,7 +1,6 @@
 use Rattle.std.proofs.Common.{rules, ◌+◌, ◌∙◌, ap, Some, None}
 use Rattle.std.specs.List.{slice_get}
 use Rattle.std.proofs.lemmas.List.{take_rest}
-use Rattle.slate_tables.specs.Views.{View}
 use Rattle.slate_tables.proofs.Covers.{slot_end_by}
 use Rattle.slate_tables.proofs.covering.slot_end.Goals as goal
 

@@ -1,5 +1,4 @@
-use Rattle.std.proofs.Common.{rules, sym, subst, List, ℕ}
-use Rattle.std.specs.List.Sorted.{IsPermutation}
+use Rattle.std.proofs.Common.{rules}
 use Rattle.slate_tables.proofs.Overlaps.{is_greatest}
 use Rattle.slate_tables.proofs.l0_overlap.max_l0_overlap.Goals as goal
 

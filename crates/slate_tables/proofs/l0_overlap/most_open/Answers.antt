@@ -1,6 +1,6 @@
 use Rattle.std.proofs.Common.{◌≡◌, ◌⊎◌, ◌∙◌, ◌+◌, ◌<◌, ◌≤◌, ℕ, Bool, true, false, List, length, nat_lt, inl, inr, refl, arith}
 use Rattle.std.proofs.lemmas.Bool.Decides.{nat_tests}
-use Rattle.slate_tables.specs.Overlap.{open_at, IsMostOpen}
+use Rattle.slate_tables.specs.Overlap.{open_at}
 use Rattle.slate_tables.proofs.l0_overlap.most_open.Goals as goal
 
 -- the most of some starts

@@ -1,4 +1,4 @@
-use Rattle.std.proofs.Common.{rules, ◌≡◌, ◌≤◌, ◌&&◌, ◌∙◌, Bool, true, false, ℕ, List, length, drop, sym, ap, refl, arith}
+use Rattle.std.proofs.Common.{rules, ◌≡◌, ◌≤◌, ◌&&◌, ◌∙◌, Bool, true, false, ℕ, List, length, drop, sym, ap, arith}
 use Rattle.std.proofs.lemmas.List.{drop_all}
 use Rattle.slate_tables.specs.Views.{View}
 use Rattle.slate_tables.specs.Runs.{ascend}

@@ -1,4 +1,4 @@
-use Rattle.std.proofs.Common.{rules, ◌≡◌, sym}
+use Rattle.std.proofs.Common.{rules}
 use Rattle.slate_tables.proofs.Slots.{own_first}
 use Rattle.slate_tables.proofs.ss_table_view.has_first_key.Goals as goal
 

@@ -1,4 +1,4 @@
-use Rattle.std.proofs.Common.{rules, sym, ◌∙◌}
+use Rattle.std.proofs.Common.{rules}
 use Rattle.slate_tables.proofs.Projections.{projection_of}
 use Rattle.slate_tables.proofs.ss_table_view.SsTableView.try_with_visible_range.Goals as goal
 
