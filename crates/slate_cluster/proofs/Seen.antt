@@ -2,7 +2,7 @@
 use Rattle.std.proofs.Common.{◌≡◌, ℕ, ◌+◌, ◌<◌, Bool, true, false, List, length, get_or, drop, Option, None, sym, ap, ◌∙◌}
 use Rattle.std.specs.Prelude.{if◌then◌else◌}
 use Rattle.std.specs.BTreeSet.{insert_key}
-use Rattle.slate_layout.specs.UsedTables.{id_cmp}
+use Rattle.slate_ids.specs.Ulids.{id_cmp}
 use Rattle.slate_protocol.specs.Specs.{is_seen, seen_from}
 use Rattle.slate_cluster.proofs.Openings.{next_item}
 

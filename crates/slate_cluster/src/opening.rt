@@ -2,7 +2,8 @@
 ghost use Rattle.std.specs.Prelude.{◌≡◌, [], true, IfOk, option_map};
 ghost use Rattle.std.specs.List.{list_all};
 ghost use Rattle.slate_protocol.specs.Specs as opens;
-ghost use Rattle.slate_protocol.specs.Specs.{is_ulid, is_named_spec};
+ghost use Rattle.slate_protocol.specs.Specs.{is_named_spec};
+ghost use Rattle.slate_ids.specs.Ulids.{is_id};
 ghost use Rattle.slate_cluster.specs.Opened.{OpensState};
 
 use crate::cluster::NewError;
@@ -25,7 +26,7 @@ const FIRST: Tally = Tally {
 
 // The ids of tables are ids.
 fn ids_fit(tables: &[(Ulid, SsTableInfo)])
-    ensures { list_all (λ t. is_ulid t.0) tables.now ≡ true }
+    ensures { list_all (λ t. is_id t.0) tables.now ≡ true }
 {
     for table in tables {
         let _ = table.0.timestamp_ms();

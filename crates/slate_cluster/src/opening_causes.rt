@@ -1,7 +1,6 @@
 //! Why databases whose values have bytes can't be the beginning of a run.
 ghost use Rattle.std.specs.Prelude.{◌≡◌};
 ghost use Rattle.std.specs.List.{list_any, flat_map};
-ghost use Rattle.slate_model.specs.Externals.{same_table, lists};
 ghost use Rattle.slate_model.specs.Trees.{views_of_tree, tables_of_views};
 ghost use Rattle.slate_protocol.specs.Specs as opens;
 
@@ -39,33 +38,12 @@ fn one_names_other(specs: &[DbSpec]) -> bool
     specs.iter().any(|spec| names_other(spec))
 }
 
-// Whether two ids are of one table.
-fn is_same(a: &SsTableId, b: &SsTableId) -> bool
-    ensures { result ≡ same_table a.now b.now }
-{
-    match (a, b) {
-        (SsTableId::Wal(a), SsTableId::Wal(b)) => a == b,
-        (SsTableId::Compacted(a), SsTableId::Compacted(b)) => {
-            a.timestamp_ms() == b.timestamp_ms() && a.tail() == b.tail()
-        }
-        _ => false,
-    }
-}
-
-// Whether an entry lists a table.
-fn does_list(id: &SsTableId, entry: &ExternalDb) -> bool
-    ensures { result ≡ lists id.now entry.now }
-{
-    let ids = entry.sst_ids.as_slice();
-    ids.iter().any(|listed| is_same(id, listed))
-}
-
 // The database at whose path a table stands.
 fn place_of(own: DbPath, id: &SsTableId, entries: &[ExternalDb]) -> DbPath
     ensures { result ≡ opens.place_of own id.now entries.now }
 {
     for entry in entries {
-        if does_list(id, entry) {
+        if entry.lists(id) {
             return entry.path;
         }
     }

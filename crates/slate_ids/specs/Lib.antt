@@ -7,6 +7,7 @@ pub mod Codes
 pub mod Answers
 pub mod Numerals
 pub mod UlidText
+pub mod Ulids
 pub mod Twenty
 pub mod PathText
 pub mod PathKind

@@ -17,7 +17,8 @@ use Rattle.slate_log.specs.declared.log_kind.LogKind.TheVariants.{Manifest as Ma
 use Rattle.slate_store.specs.Store.{Store, object_at, stored}
 use Rattle.slate_script.specs.declared.db_spec.DbSpec.{DbSpec}
 use Rattle.slate_protocol.specs.Chains.{bytes_of}
-use Rattle.slate_protocol.specs.Specs.{First, is_ulid, is_named_spec, first_tally, tallies_from, and_more, first_bytes, first_added, firsts_from, listed_or_none, store_from}
+use Rattle.slate_protocol.specs.Specs.{First, is_named_spec, first_tally, tallies_from, and_more, first_bytes, first_added, firsts_from, listed_or_none, store_from}
+use Rattle.slate_ids.specs.Ulids.{is_id}
 use Rattle.slate_protocol.specs.World.{db_cmp, tally_of}
 use Rattle.slate_protocol.specs.declared.tally.Tally.{Tally}
 use Rattle.slate_laws.proofs.Stores.{IsTidy, bytes_same, no_bytes, same_name, finds, passes_by, same_found, tidy_put, put_object, at_put, at_else}
@@ -47,13 +48,13 @@ both false b h = absurd cc
 -- what the names of databases say of the first
 pub record IsNamed (spec : DbSpec) (specs : List DbSpec) : Type 0 where
   pub path : is_db_path spec.path ≡ true
-  pub tables : list_all (λ t. is_ulid t.0) spec.tables ≡ true
+  pub tables : list_all (λ t. is_id t.0) spec.tables ≡ true
   pub rest : AllNamed specs
 
 pub named_parts : (spec : DbSpec) (specs : List DbSpec) → AllNamed (spec ∷ specs) → IsNamed spec specs
 named_parts spec specs h =
     let all = both (is_named_spec spec) (list_all is_named_spec specs) h in
-    let own = both (is_db_path spec.path) (list_all (λ t. is_ulid t.0) spec.tables) all.0 in
+    let own = both (is_db_path spec.path) (list_all (λ t. is_id t.0) spec.tables) all.0 in
     record { path = own.0; tables = own.1; rest = all.1 }
 
 -- ---- the databases by path

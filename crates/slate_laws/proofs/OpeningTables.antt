@@ -15,11 +15,12 @@ use Rattle.slate_ids.proofs.PathsApart.{same_path}
 use Rattle.slate_ids.proofs.UlidTexts.{ulid_read}
 use Rattle.slate_tables.specs.declared.ss_table_info.SsTableInfo.{SsTableInfo}
 use Rattle.slate_script.specs.declared.db_spec.DbSpec.{DbSpec}
-use Rattle.slate_protocol.specs.Specs.{First, is_ulid, and_more, table_bytes, table_added, tables_from, all_tables_from}
+use Rattle.slate_protocol.specs.Specs.{First, and_more, table_bytes, table_added, tables_from, all_tables_from}
+use Rattle.slate_ids.specs.Ulids.{is_id}
 use Rattle.slate_laws.proofs.Beginnings.{AllNamed, Firsts, last_at, last_else, named_parts, AllFine, fine_put}
 
 -- an id is read back from its text
-ulid_back : (id : ℕ × ℕ) → is_ulid id ≡ true → ulid_of (ulid_text id) ≡ Some id
+ulid_back : (id : ℕ × ℕ) → is_id id ≡ true → ulid_of (ulid_text id) ≡ Some id
 ulid_back id h =
     let p = and_parts (nat_lt id.0 (2 ^ 48)) (nat_lt id.1 (2 ^ 80)) h in
     ulid_read id (grind (arith, nat_tests)) (grind (arith, nat_tests))
@@ -29,7 +30,7 @@ Table = (ℕ × ℕ) × SsTableInfo
 
 -- the ids of tables are ids
 abbrev AllIds : List Table → Type 0
-AllIds tables = list_all (λ t. is_ulid t.0) tables ≡ true
+AllIds tables = list_all (λ t. is_id t.0) tables ≡ true
 
 -- what there is, and what more came of it
 record HasMore (o : Option Firsts) (f : Firsts → Option Firsts) (objects : Firsts) : Type 0 where
@@ -43,7 +44,7 @@ has_more (Some more) f objects h = record { more = more; is = refl; rest = h }
 
 -- what each table that is added keeps, all of them keep
 module _ (P : Firsts → Type 0) (keeps : (db : List ℕ) (id : ℕ × ℕ) (v : First) (os : Firsts) → IsFine (paths.Table db id) → P os → P (insert_entry path_cmp os (paths.Table db id) v)) where
-  one_keeps : (firsts : Firsts) (spec : DbSpec) (id : ℕ × ℕ) (o : Option (List ℕ)) (objects : Firsts) → is_db_path spec.path ≡ true → is_ulid id ≡ true → table_added firsts spec id o ≡ Some objects → P firsts → P objects
+  one_keeps : (firsts : Firsts) (spec : DbSpec) (id : ℕ × ℕ) (o : Option (List ℕ)) (objects : Firsts) → is_db_path spec.path ≡ true → is_id id ≡ true → table_added firsts spec id o ≡ Some objects → P firsts → P objects
   one_keeps firsts spec id None objects named is h p = absurd cc
   one_keeps firsts spec id (Some bytes) objects named is h p =
       let same : insert_entry path_cmp firsts (paths.Table spec.path id) (bytes, spec.modified) ≡ objects = cc in
@@ -52,7 +53,7 @@ module _ (P : Firsts → Type 0) (keeps : (db : List ℕ) (id : ℕ × ℕ) (v :
   tables_keep : (firsts : Firsts) (spec : DbSpec) (tables : List Table) (objects : Firsts) → is_db_path spec.path ≡ true → AllIds tables → tables_from firsts spec tables ≡ Some objects → P firsts → P objects
   tables_keep firsts spec [] objects named ids h p = let same : firsts ≡ objects = cc in subst P same p
   tables_keep firsts spec (t ∷ tables) objects named ids h p =
-      let both = and_parts (is_ulid t.0) (list_all (λ u. is_ulid u.0) tables) ids in
+      let both = and_parts (is_id t.0) (list_all (λ u. is_id u.0) tables) ids in
       let first = has_more (table_added firsts spec t.0 (table_bytes t.1)) (λ (more : Firsts). tables_from more spec tables) objects h in
       tables_keep first.more spec tables objects named both.1 first.rest (one_keeps firsts spec t.0 (table_bytes t.1) first.more named both.0 first.is p)
 

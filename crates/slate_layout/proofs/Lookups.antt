@@ -7,7 +7,8 @@ use Rattle.std.proofs.lemmas.Bool.Decides.{nat_tests}
 use Rattle.std.proofs.lemmas.List.{drop_more}
 use Rattle.std.proofs.lemmas.List.Sums.{prefix_len_is}
 use Rattle.slate_tables.specs.declared.ss_table_handle.SsTableHandle.{SsTableHandle}
-use Rattle.slate_layout.specs.Tables.{table_id, id_lt, same_id, is_before, stands_before, ascend, table_at, of_id, place_of}
+use Rattle.slate_layout.specs.Tables.{table_id, is_before, stands_before, ascend, table_at, of_id, place_of}
+use Rattle.slate_ids.specs.Ulids.{id_lt, same_id}
 
 chained : (a b c : ℕ × ℕ) → id_lt a b ≡ true → id_lt b c ≡ true → id_lt a c ≡ true
 chained a b c h k = grind (arith, nat_tests)

@@ -6,7 +6,8 @@ use Rattle.std.proofs.lemmas.List.Folds.{list_any-append}
 use Rattle.slate_tables.specs.Views.{View}
 use Rattle.slate_model.specs.Segments.{Prefixed}
 use Rattle.slate_model.specs.Trees.{views_of_tree}
-use Rattle.slate_layout.specs.Tables.{table_id, same_id}
+use Rattle.slate_layout.specs.Tables.{table_id}
+use Rattle.slate_ids.specs.Ulids.{same_id}
 use Rattle.slate_layout.specs.UsedTables.{any_of}
 
 -- the views of segments, through their trees or one by one

@@ -26,7 +26,8 @@ use Rattle.slate_layout.specs.RangeParts.{BoundFits, RangeFits}
 use Rattle.slate_layout.specs.InfoParts.{are_entries, InfoFits, HandleFits}
 use Rattle.slate_layout.specs.InfoCodec.{IsTyped, is_short, first_field, info_fits}
 use Rattle.slate_layout.specs.CheckpointParts.{second_of, moment_of, IsU32, CheckpointFits, TableFits, EntryFits, MomentFits, TrackerFits}
-use Rattle.slate_layout.specs.Typed.{both, none_or, is_u16, is_id, is_sixteen, is_path, are_two, is_info, is_handle, is_table, is_checkpoint, is_entry, is_tracker}
+use Rattle.slate_layout.specs.Typed.{both, none_or, is_u16, is_sixteen, is_path, are_two, is_info, is_handle, is_table, is_checkpoint, is_entry, is_tracker}
+use Rattle.slate_ids.specs.Ulids.{is_id}
 use Rattle.slate_layout.specs.Unencodable.{has_second, has_later_second, has_expiry, few, short_bound, short_range}
 use Rattle.slate_layout.specs.Normal.{whole_second, normal_checkpoint}
 

@@ -18,7 +18,8 @@ use Rattle.slate_layout.specs.RangeParts.{RangeFits}
 use Rattle.slate_layout.specs.InfoParts.{are_entries}
 use Rattle.slate_layout.specs.InfoCodec.{is_short}
 use Rattle.slate_layout.specs.TreeParts.{may_show, shown, ViewFits, RunFits, TreeFits, SegmentFits, view_parts}
-use Rattle.slate_layout.specs.Typed.{none_or, is_u32, is_id, is_table, is_shown, is_view, is_run, is_tree, is_segment}
+use Rattle.slate_layout.specs.Typed.{none_or, is_u32, is_table, is_shown, is_view, is_run, is_tree, is_segment}
+use Rattle.slate_ids.specs.Ulids.{is_id}
 use Rattle.slate_layout.specs.Unencodable.{has_keys, few, short_range, short_view, short_run, short_tree, short_segment}
 use Rattle.slate_layout.specs.Normal.{normal_tree, normal_segment}
 use Rattle.slate_layout.specs.Gathered.{ById}

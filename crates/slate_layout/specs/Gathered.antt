@@ -8,7 +8,7 @@ use Rattle.slate_tables.specs.Views.{View}
 use Rattle.slate_model.specs.Externals.{same_table}
 use Rattle.slate_layout.specs.Tables.{table_id}
 use Rattle.slate_layout.specs.InfoParts.{codec_number, type_number, format_number}
-use Rattle.slate_layout.specs.UsedTables.{id_cmp}
+use Rattle.slate_ids.specs.Ulids.{id_cmp}
 use Rattle.slate_layout.specs.Reading.{◌>>=◌}
 
 -- whether two keys, of which each may be missing, are equal

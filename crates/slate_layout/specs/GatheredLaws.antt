@@ -10,8 +10,8 @@ use Rattle.std.proofs.lemmas.Bool.{and_parts, and_from}
 use Rattle.std.proofs.lemmas.Bool.Decides.{nat_tests}
 use Rattle.slate_tables.specs.declared.ss_table_handle.SsTableHandle.{SsTableHandle}
 use Rattle.slate_tables.specs.Views.{View}
-use Rattle.slate_layout.specs.Tables.{table_id, id_lt, same_id, is_before, stands_before, ascend, table_at}
-use Rattle.slate_layout.specs.UsedTables.{id_cmp}
+use Rattle.slate_layout.specs.Tables.{table_id, is_before, stands_before, ascend, table_at}
+use Rattle.slate_ids.specs.Ulids.{id_lt, same_id, id_cmp}
 use Rattle.slate_layout.specs.Gathered.{ById, with_table, with_view, gathered, same_handle}
 use Rattle.slate_layout.specs.SameHandles.{handle_is}
 use Rattle.slate_layout.specs.Parts.{steps}

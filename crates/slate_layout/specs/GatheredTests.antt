@@ -18,8 +18,9 @@ use Rattle.slate_model.specs.declared.lsm_tree_state.LsmTreeState.{LsmTreeState}
 use Rattle.slate_model.specs.Segments.{Prefixed}
 use Rattle.slate_model.specs.Cores.{Core}
 use Rattle.slate_model.specs.Trees.{views_of_tree, views_of}
-use Rattle.slate_layout.specs.Tables.{table_id, same_id}
-use Rattle.slate_layout.specs.UsedTables.{id_cmp, any_of}
+use Rattle.slate_layout.specs.Tables.{table_id}
+use Rattle.slate_ids.specs.Ulids.{same_id, id_cmp}
+use Rattle.slate_layout.specs.UsedTables.{any_of}
 use Rattle.slate_layout.specs.Parts.{steps}
 use Rattle.slate_layout.specs.InfoParts.{are_entries}
 use Rattle.slate_layout.specs.InfoCodec.{is_short}

@@ -21,7 +21,8 @@ use Rattle.slate_layout.specs.Bytes.{is_u64}
 use Rattle.slate_layout.specs.InfoParts.{are_entries}
 use Rattle.slate_layout.specs.InfoCodec.{is_short, unless_field}
 use Rattle.slate_layout.specs.Unencodable.{few, short_bound}
-use Rattle.slate_layout.specs.Typed.{none_or, is_id, is_u32, is_handle}
+use Rattle.slate_layout.specs.Typed.{none_or, is_u32, is_handle}
+use Rattle.slate_ids.specs.Ulids.{is_id}
 use Rattle.slate_layout.specs.RecordParts.{views_in, runs_in}
 use Rattle.slate_layout.specs.Records.{raw_of, entries_bytes}
 

@@ -21,7 +21,8 @@ use Rattle.slate_layout.specs.Bytes.{is_u64, byte_bytes, u32_bytes, option_bytes
 use Rattle.slate_layout.specs.Reads.{Reads, OptionFits, EachFits, ListFits, PairFits, option_reads, list_reads, pair_reads}
 use Rattle.slate_layout.specs.Texts.{IdFits, id_bytes, id_in, id_reads}
 use Rattle.slate_layout.specs.InfoParts.{TagFits, handle_bytes, handle_in, HandleFits, handle_reads}
-use Rattle.slate_layout.specs.Typed.{none_or, is_id, is_u32, is_handle}
+use Rattle.slate_layout.specs.Typed.{none_or, is_u32, is_handle}
+use Rattle.slate_ids.specs.Ulids.{is_id}
 use Rattle.slate_layout.specs.Fitting.{each_fits, each_of_two, few_is, id_fits, text_fits, handle_fits, is_writable, range_fits}
 use Rattle.slate_layout.specs.Unencodable.{few, short_bound}
 use Rattle.slate_layout.specs.RecordParts.{Scope, views_in, runs_in, sources_of, views_back, runs_back, scope_of, scope_bytes, ScopeFits, status_of, status_number, status_reads, spec_in, spec_bytes, SpecFits, spec_reads, worker_in, worker_bytes, WorkerFits, worker_reads, PartFits, context_in, context_bytes, ContextFits, context_reads}

@@ -9,7 +9,8 @@ use Rattle.slate_ids.specs.declared.error.FieldName.{FieldName}
 use Rattle.slate_ids.specs.declared.error.FieldName.TheVariants.{WalId, NoKeys, Length}
 use Rattle.slate_tables.specs.Tables.{is_compacted}
 use Rattle.slate_records.specs.declared.compaction.Compaction.{Compaction}
-use Rattle.slate_records.specs.Records.{Record, is_before, are_ascending}
+use Rattle.slate_records.specs.Records.{Record, are_ascending}
+use Rattle.slate_ids.specs.Ulids.{id_lt}
 use Rattle.slate_layout.specs.Bytes.{is_u64, u32_bytes, u64_bytes}
 use Rattle.slate_layout.specs.Reading.{◌>>=◌, u16_in, whole}
 use Rattle.slate_layout.specs.Parts.{bind_at}
@@ -71,14 +72,14 @@ entries_kept epoch cs =
     ap (λ n. u64_bytes epoch ++ (u32_bytes n ++ flat_map raw_bytes (map normal_raw cs))) (same_count cs)
     ∙ ap (λ (l : List ℕ). u64_bytes epoch ++ (u32_bytes (length (map raw_of cs)) ++ l)) (raws_kept cs)
 
-leads_all : (id : ℕ × ℕ) (cs : List Compaction) → list_all (λ d. is_before id d.id) cs ≡ true → leads id (map normal_raw cs) ≡ true
+leads_all : (id : ℕ × ℕ) (cs : List Compaction) → list_all (λ d. id_lt id d.id) cs ≡ true → leads id (map normal_raw cs) ≡ true
 leads_all id [] h = refl
-leads_all id (c ∷ cs) h = (and_parts (is_before id c.id) (list_all (λ d. is_before id d.id) cs) h).0
+leads_all id (c ∷ cs) h = (and_parts (id_lt id c.id) (list_all (λ d. id_lt id d.id) cs) h).0
 
 raws_in_order : (cs : List Compaction) → are_ascending cs ≡ true → raws_ascend (map normal_raw cs) ≡ true
 raws_in_order [] h = refl
 raws_in_order (c ∷ cs) h =
-    let p = and_parts (list_all (λ d. is_before c.id d.id) cs) (are_ascending cs) h in
+    let p = and_parts (list_all (λ d. id_lt c.id d.id) cs) (are_ascending cs) h in
     and_from _ _ (leads_all c.id cs p.0) (raws_in_order cs p.1)
 
 compactions_back : (cs : List Compaction) → map compaction_of (map normal_raw cs) ≡ map normal_compaction cs

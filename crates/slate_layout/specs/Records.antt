@@ -12,7 +12,7 @@ use Rattle.slate_records.specs.declared.worker_spec.WorkerSpec.{WorkerSpec}
 use Rattle.slate_records.specs.declared.compaction_context.CompactionContext.{CompactionContext}
 use Rattle.slate_records.specs.declared.compaction.Compaction.{Compaction}
 use Rattle.slate_records.specs.Records.{Record}
-use Rattle.slate_layout.specs.Tables.{id_lt}
+use Rattle.slate_ids.specs.Ulids.{id_lt}
 use Rattle.slate_layout.specs.Bytes.{byte_bytes, u64_bytes, option_bytes, list_bytes, pair_bytes}
 use Rattle.slate_layout.specs.Reading.{◌>>=◌, u16_in, u64_in, option_in, list_in, pair_in, whole}
 use Rattle.slate_layout.specs.Texts.{id_bytes, id_in}

@@ -1,6 +1,7 @@
 -- The tables that the views of a manifest are of, ascending by their ids.
-use Rattle.std.specs.Prelude.{ℕ, ◌==◌, ◌&&◌, ◌||◌, nat_lt, Bool, true, List, [], ◌∷◌, Option, Some, None, if◌then◌else◌}
+use Rattle.std.specs.Prelude.{ℕ, ◌&&◌, Bool, true, List, [], ◌∷◌, Option, Some, None, if◌then◌else◌}
 use Rattle.std.specs.List.{find, prefix_len}
+use Rattle.slate_ids.specs.Ulids.{same_id, id_lt}
 use Rattle.slate_tables.specs.declared.ss_table_id.SsTableId.{SsTableId}
 use Rattle.slate_tables.specs.declared.ss_table_id.SsTableId.TheVariants.{Wal, Compacted}
 use Rattle.slate_tables.specs.declared.ss_table_handle.SsTableHandle.{SsTableHandle}
@@ -9,14 +10,6 @@ use Rattle.slate_tables.specs.declared.ss_table_handle.SsTableHandle.{SsTableHan
 abbrev pub table_id : SsTableId → ℕ × ℕ
 table_id (Compacted id) = id
 table_id (Wal n) = (0, 0)
-
--- whether an id stands before another
-abbrev pub id_lt : ℕ × ℕ → ℕ × ℕ → Bool
-id_lt a b = nat_lt a.0 b.0 || ((a.0 == b.0) && nat_lt a.1 b.1)
-
--- whether two ids are equal
-abbrev pub same_id : ℕ × ℕ → ℕ × ℕ → Bool
-same_id a b = (a.0 == b.0) && (a.1 == b.1)
 
 -- whether a table stands before an id
 abbrev pub is_before : ℕ × ℕ → SsTableHandle → Bool

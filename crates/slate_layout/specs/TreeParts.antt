@@ -10,7 +10,8 @@ use Rattle.slate_tables.specs.Views.{View, starts_with_key}
 use Rattle.slate_tables.specs.Runs.{Run}
 use Rattle.slate_model.specs.declared.lsm_tree_state.LsmTreeState.{LsmTreeState}
 use Rattle.slate_model.specs.Segments.{Prefixed}
-use Rattle.slate_layout.specs.Tables.{table_id, same_id, table_at}
+use Rattle.slate_layout.specs.Tables.{table_id, table_at}
+use Rattle.slate_ids.specs.Ulids.{same_id}
 use Rattle.slate_layout.specs.Bytes.{u32_bytes, counted_bytes, option_bytes, list_bytes, pair_bytes}
 use Rattle.slate_layout.specs.Reading.{u32_in, counted_in, option_in, list_in, pair_in, made_in}
 use Rattle.slate_layout.specs.Reads.{Reads, OptionFits, ListFits, PairFits, MadeFits, option_reads, list_reads, pair_reads, made_reads}

@@ -4,6 +4,7 @@ use Rattle.std.specs.List.{list_all}
 use Rattle.std.specs.Str.{is_utf8}
 use Rattle.slate_ids.specs.Ids.{is_db_path}
 use Rattle.slate_ids.specs.KeyRange.{KeyRange, is_proper, ranges_meet}
+use Rattle.slate_ids.specs.Ulids.{is_id}
 use Rattle.slate_tables.specs.declared.ss_table_id.SsTableId.{SsTableId}
 use Rattle.slate_tables.specs.declared.ss_table_info.SsTableInfo.{SsTableInfo}
 use Rattle.slate_tables.specs.declared.ss_table_handle.SsTableHandle.{SsTableHandle}
@@ -47,10 +48,6 @@ is_u16 n = nat_lt n (2 ^ 16)
 -- a number of 32 bits
 abbrev pub is_u32 : ℕ → Bool
 is_u32 n = nat_lt n (2 ^ 32)
-
--- 48 bits of milliseconds and 80 of the tail
-abbrev pub is_id : ℕ × ℕ → Bool
-is_id id = nat_lt id.0 (2 ^ 48) && nat_lt id.1 (2 ^ 80)
 
 -- sixteen bytes
 abbrev pub is_sixteen : List ℕ → Bool

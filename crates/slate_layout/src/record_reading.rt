@@ -2,7 +2,7 @@
 ghost use Rattle.std.specs.Prelude.{◌≡◌, map, true, IfOk, OnOk};
 ghost use Rattle.slate_ids.specs.Answers.{Gives};
 ghost use Rattle.slate_records.specs.Records.{are_ascending};
-ghost use Rattle.slate_layout.specs.Tables.{id_lt};
+ghost use Rattle.slate_ids.specs.Ulids.{id_lt};
 ghost use Rattle.slate_layout.specs.Records as records;
 ghost use Rattle.slate_layout.specs.Records.{decoded_record};
 

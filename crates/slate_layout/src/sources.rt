@@ -2,6 +2,7 @@
 ghost use Rattle.std.specs.Prelude.{◌≡◌, ◌++◌, length, map, true, OnOk, IfOk};
 ghost use Rattle.std.specs.List.{flat_map, list_all};
 ghost use Rattle.std.proofs.Common.{arith};
+ghost use Rattle.slate_ids.specs.Ulids as ulids;
 ghost use Rattle.slate_records.specs.declared.source_id.SourceId.TheVariants.{SstView, SortedRun};
 ghost use Rattle.slate_layout.specs.Bytes.{u32_bytes};
 ghost use Rattle.slate_layout.specs.Texts.{id_bytes};
@@ -47,7 +48,7 @@ pub(crate) fn run_count(sources: &[SourceId]) -> usize
 // Adds the ids of the views among the sources at the end.
 fn write_views(sources: &[SourceId], out: &mut Vec<u8>) -> Result<(), OutOfMemory>
     ensures bytes { OnOk result (out.new.items ≡ out.old.items ++ flat_map id_bytes (records.views_in sources.now)) }
-    ensures typed { OnOk result (list_all typed.is_id (records.views_in sources.now) ≡ true) }
+    ensures typed { OnOk result (list_all ulids.is_id (records.views_in sources.now) ≡ true) }
 {
     for source in sources {
         if let SourceId::SstView(id) = source {

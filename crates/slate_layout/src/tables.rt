@@ -1,5 +1,6 @@
 //! The tables that the views of a manifest are of.
 ghost use Rattle.std.specs.Prelude.{◌≡◌, ◌≤◌, [], length, true, Some, None, option_copied, slice_get, if◌then◌else◌};
+ghost use Rattle.slate_ids.specs.Ulids as ulids;
 ghost use Rattle.slate_layout.specs.Tables as tables;
 ghost use Rattle.slate_layout.specs.Tables.{ascend, table_at, of_id, place_of};
 
@@ -45,7 +46,7 @@ pub(crate) fn parts_of(id: Ulid) -> (u64, u128)
 
 // Whether an id stands before another.
 fn id_lt(a: Ulid, b: Ulid) -> bool
-    ensures { result ≡ tables.id_lt a b }
+    ensures { result ≡ ulids.id_lt a b }
 {
     a.timestamp_ms() < b.timestamp_ms()
         || (a.timestamp_ms() == b.timestamp_ms() && a.tail() < b.tail())

@@ -2,6 +2,7 @@
 ghost use Rattle.std.specs.Prelude.{◌≡◌, ◌++◌, true, length, option_map, OnOk};
 ghost use Rattle.std.specs.Str.{is_utf8};
 ghost use Rattle.slate_ids.specs.Ids.{is_db_path};
+ghost use Rattle.slate_ids.specs.Ulids as ulids;
 ghost use Rattle.std.proofs.Common.{arith};
 ghost use Rattle.slate_layout.specs.Bytes as bytes;
 ghost use Rattle.slate_layout.specs.Reading as reading;
@@ -161,7 +162,7 @@ impl Part for DbPath {
 
 // An id has 48 bits of milliseconds, and 80 of the tail.
 fn is_id(id: Ulid)
-    ensures { typed.is_id id ≡ true }
+    ensures { ulids.is_id id ≡ true }
 {
     let _milliseconds = id.timestamp_ms();
     let _tail = id.tail();
@@ -174,7 +175,7 @@ impl Part for Ulid {
 
     ghost Fits = { λ tables. texts.IdFits };
 
-    ghost is_typed = { typed.is_id };
+    ghost is_typed = { ulids.is_id };
 
     ghost LEAST = { 8 };
 

@@ -1,6 +1,7 @@
 -- Which tables a database owns, and which it shares with others.
-use Rattle.std.specs.Prelude.{ℕ, ◌&&◌, ◌==◌, Bool, false, not, List, map, filter}
+use Rattle.std.specs.Prelude.{ℕ, ◌==◌, Bool, false, not, List, map, filter}
 use Rattle.std.specs.List.{list_any, flat_map}
+use Rattle.slate_ids.specs.Ulids.{same_id}
 use Rattle.slate_tables.specs.declared.ss_table_id.SsTableId.{SsTableId}
 use Rattle.slate_tables.specs.declared.ss_table_id.SsTableId.TheVariants.{Wal, Compacted}
 use Rattle.slate_model.specs.declared.external_db.ExternalDb.{ExternalDb}
@@ -12,7 +13,7 @@ use Rattle.slate_model.specs.Trees.{views_of, tables_of}
 -- whether two ids are of one table
 abbrev pub same_table : SsTableId → SsTableId → Bool
 same_table (Wal a) (Wal b) = a == b
-same_table (Compacted a) (Compacted b) = (a.0 == b.0) && (a.1 == b.1)
+same_table (Compacted a) (Compacted b) = same_id a b
 same_table (Wal a) (Compacted b) = false
 same_table (Compacted a) (Wal b) = false
 

@@ -1,5 +1,8 @@
 //! What a database shares with another.
+ghost use Rattle.std.specs.Prelude.{◌≡◌};
+ghost use Rattle.slate_model.specs.Externals as externals;
 
+use crate::owned_tables::same_table;
 use slate_ids::{CheckpointId, DbPath, Listed, OutOfMemory};
 use slate_tables::{Plain, SsTableId};
 use std::alloc::Global;
@@ -15,6 +18,16 @@ pub struct ExternalDb {
     pub final_checkpoint_id: Option<CheckpointId>,
     /// The tables.
     pub sst_ids: Listed<SsTableId>,
+}
+
+impl ExternalDb {
+    /// Whether the entry lists a table.
+    pub fn lists(&self, id: &SsTableId) -> bool
+        ensures { result ≡ externals.lists id.now self.now }
+    {
+        let ids = self.sst_ids.as_slice();
+        ids.iter().any(|listed| same_table(id, listed))
+    }
 }
 
 impl Plain for ExternalDb {

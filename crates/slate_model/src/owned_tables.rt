@@ -12,7 +12,7 @@ use slate_ids::{DbPath, OutOfMemory};
 use slate_tables::{SortedRun, SsTableId, SsTableView};
 use std::alloc::Global;
 
-/// Whether two ids are of one table.
+// Whether two ids are of one table.
 pub(crate) fn same_table(a: &SsTableId, b: &SsTableId) -> bool
     ensures { result ≡ externals.same_table a.now b.now }
 {
@@ -25,22 +25,11 @@ pub(crate) fn same_table(a: &SsTableId, b: &SsTableId) -> bool
     }
 }
 
-// Whether an entry lists this table.
-fn lists(id: &SsTableId, entry: &ExternalDb) -> bool
-    ensures { result ≡ externals.lists id.now entry.now }
-{
-    entry
-        .sst_ids
-        .as_slice()
-        .iter()
-        .any(|listed| same_table(id, listed))
-}
-
 // Whether one of these entries lists this table.
 fn is_listed(id: &SsTableId, entries: &[ExternalDb]) -> bool
     ensures { result ≡ list_any (externals.lists id.now) entries.now }
 {
-    entries.iter().any(|entry| lists(id, entry))
+    entries.iter().any(|entry| entry.lists(id))
 }
 
 // Whether no entry lists this table.

@@ -1,5 +1,5 @@
 -- Databases as a run begins: why they are refused, and the state in which they stand.
-use Rattle.std.specs.Prelude.{ℕ, ◌^◌, ◌==◌, nat_lt, ◌&&◌, ℤ, Bool, true, false, not, List, [], ◌∷◌, map, Option, Some, None, is_some, Result, Ok, Err, if◌then◌else◌}
+use Rattle.std.specs.Prelude.{ℕ, ◌==◌, nat_lt, ◌&&◌, ℤ, Bool, true, false, not, List, [], ◌∷◌, map, Option, Some, None, is_some, Result, Ok, Err, if◌then◌else◌}
 use Rattle.std.specs.List.{list_any, list_all}
 use Rattle.std.specs.Map.{lookup}
 use Rattle.std.specs.BTreeMap.{is_at, insert_entry}
@@ -16,7 +16,7 @@ use Rattle.slate_tables.specs.Runs.{Run}
 use Rattle.slate_layout.specs.Codec.{encoded}
 use Rattle.slate_layout.specs.InfoCodec.{encoded_info}
 use Rattle.slate_layout.specs.Normal.{is_normal}
-use Rattle.slate_layout.specs.UsedTables.{id_cmp as ulid_cmp}
+use Rattle.slate_ids.specs.Ulids.{id_cmp as ulid_cmp, is_id}
 use Rattle.slate_model.specs.declared.checkpoint.Checkpoint.{Checkpoint}
 use Rattle.slate_model.specs.declared.external_db.ExternalDb.{ExternalDb}
 use Rattle.slate_model.specs.declared.lsm_tree_state.LsmTreeState.{LsmTreeState}
@@ -35,13 +35,9 @@ use Rattle.slate_protocol.specs.declared.tally.Tally.{Tally}
 
 -- ---- names
 
--- whether milliseconds and a tail are an id
-abbrev pub is_ulid : ℕ × ℕ → Bool
-is_ulid id = nat_lt id.0 (2 ^ 48) && nat_lt id.1 (2 ^ 80)
-
 -- whether a database has a name, and the ids of its tables are ids
 abbrev pub is_named_spec : DbSpec → Bool
-is_named_spec spec = is_db_path spec.path && list_all (λ t. is_ulid t.0) spec.tables
+is_named_spec spec = is_db_path spec.path && list_all (λ t. is_id t.0) spec.tables
 
 -- ---- paths
 

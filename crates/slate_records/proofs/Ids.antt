@@ -3,30 +3,25 @@ use Rattle.std.specs.Prelude.{ℕ, true, false}
 use Rattle.std.proofs.Common.{◌≡◌, ap, ◌∙◌, arith}
 use Rattle.std.proofs.lemmas.Bool.Decides.{nat_tests}
 use Rattle.std.specs.Cmp.{IsTotalOrder}
-use Rattle.std.specs.Ordering.{nat_cmp, ordering_then, is_eq, is_gt}
-use Rattle.std.specs.declared.cmp.Ordering.{Ordering}
+use Rattle.std.specs.Ordering.{is_eq, is_gt}
 use Rattle.std.specs.declared.cmp.Ordering.TheVariants.{Less, Equal, Greater}
 use Rattle.std.proofs.lemmas.Cmp.{nat_cmp_total, on_total, then_total}
-use Rattle.slate_records.specs.Records.{same_id, is_before}
-
--- the order of ids
-abbrev pub id_cmp : ℕ × ℕ → ℕ × ℕ → Ordering
-id_cmp a b = ordering_then (nat_cmp a.0 b.0) (nat_cmp a.1 b.1)
+use Rattle.slate_ids.specs.Ulids.{same_id, id_lt, id_cmp}
 
 pub order : IsTotalOrder id_cmp
 order = then_total (on_total (λ (a : ℕ × ℕ). a.0) nat_cmp_total) (on_total (λ (a : ℕ × ℕ). a.1) nat_cmp_total)
 
 -- what an answer says of the tests
-pub less : (a b : ℕ × ℕ) → id_cmp a b ≡ Less → is_before a b ≡ true
+pub less : (a b : ℕ × ℕ) → id_cmp a b ≡ Less → id_lt a b ≡ true
 less a b h = grind (arith, nat_tests)
 
-pub above_less : (a b : ℕ × ℕ) → id_cmp a b ≡ Less → is_before b a ≡ false
+pub above_less : (a b : ℕ × ℕ) → id_cmp a b ≡ Less → id_lt b a ≡ false
 above_less a b h = grind (arith, nat_tests)
 
-pub greater : (a b : ℕ × ℕ) → id_cmp a b ≡ Greater → is_before b a ≡ true
+pub greater : (a b : ℕ × ℕ) → id_cmp a b ≡ Greater → id_lt b a ≡ true
 greater a b h = grind (arith, nat_tests)
 
-pub below_greater : (a b : ℕ × ℕ) → id_cmp a b ≡ Greater → is_before a b ≡ false
+pub below_greater : (a b : ℕ × ℕ) → id_cmp a b ≡ Greater → id_lt a b ≡ false
 below_greater a b h = grind (arith, nat_tests)
 
 first_parts : (a b : ℕ × ℕ) → id_cmp a b ≡ Equal → a.0 ≡ b.0
@@ -38,19 +33,19 @@ second_parts a b h = grind (arith, nat_tests)
 pub equal : (a b : ℕ × ℕ) → id_cmp a b ≡ Equal → a ≡ b
 equal a b h = ap (λ x. (x, a.1)) (first_parts a b h) ∙ ap (λ y. (b.0, y)) (second_parts a b h)
 
-pub not_before_itself : (a : ℕ × ℕ) → is_before a a ≡ false
+pub not_before_itself : (a : ℕ × ℕ) → id_lt a a ≡ false
 not_before_itself a = grind (arith, nat_tests)
 
 pub is_itself : (a : ℕ × ℕ) → same_id a a ≡ true
 is_itself a = grind (arith, nat_tests)
 
-pub one_way : (a b : ℕ × ℕ) → is_before a b ≡ true → is_before b a ≡ false
+pub one_way : (a b : ℕ × ℕ) → id_lt a b ≡ true → id_lt b a ≡ false
 one_way a b h = grind (arith, nat_tests)
 
-pub chained : (a b d : ℕ × ℕ) → is_before a b ≡ true → is_before b d ≡ true → is_before a d ≡ true
+pub chained : (a b d : ℕ × ℕ) → id_lt a b ≡ true → id_lt b d ≡ true → id_lt a d ≡ true
 chained a b d h k = grind (arith, nat_tests)
 
-pub apart : (a b : ℕ × ℕ) → is_before a b ≡ true → same_id b a ≡ false
+pub apart : (a b : ℕ × ℕ) → id_lt a b ≡ true → same_id b a ≡ false
 apart a b h = grind (arith, nat_tests)
 
 -- what a look-up by the order tests
@@ -60,5 +55,5 @@ is_at_is a b = grind (arith, nat_tests)
 pub is_at_is_back : (a b : ℕ × ℕ) → is_eq (id_cmp a b) ≡ same_id a b
 is_at_is_back a b = grind (arith, nat_tests)
 
-pub not_above : (a b : ℕ × ℕ) → is_gt (id_cmp a b) ≡ false → is_before b a ≡ false
+pub not_above : (a b : ℕ × ℕ) → is_gt (id_cmp a b) ≡ false → id_lt b a ≡ false
 not_above a b h = grind (arith, nat_tests)

@@ -7,18 +7,19 @@ use Rattle.std.specs.declared.cmp.Ordering.{Ordering}
 use Rattle.std.specs.declared.cmp.Ordering.TheVariants.{Less, Equal, Greater}
 use Rattle.std.proofs.Common.{◌≡◌, refl, sym, ap, ◌∙◌, append_assoc}
 use Rattle.slate_records.specs.declared.compaction.Compaction.{Compaction}
-use Rattle.slate_records.specs.Records.{is_before, are_ascending, inserted}
+use Rattle.slate_records.specs.Records.{are_ascending, inserted}
+use Rattle.slate_ids.specs.Ulids.{id_lt, id_cmp}
 use Rattle.slate_records.specs.Entries.{compactions_of, UnderOwnIds}
-use Rattle.slate_records.proofs.Ids.{id_cmp, less, greater, equal, one_way, chained, not_before_itself}
+use Rattle.slate_records.proofs.Ids.{less, greater, equal, one_way, chained, not_before_itself}
 use Rattle.slate_records.proofs.Ordered.{Entry, both, parts}
 
 -- those after an id
 abbrev pub after : ℕ × ℕ → Compaction → Bool
-after id d = is_before id d.id
+after id d = id_lt id d.id
 
 -- those before it
 abbrev pub before : ℕ × ℕ → Compaction → Bool
-before id d = is_before d.id id
+before id d = id_lt d.id id
 
 -- where all stand after an id, all pass the one test and none the other
 all_pass : (id : ℕ × ℕ) (cs : List Compaction) → list_all (after id) cs ≡ true → filter (after id) cs ≡ cs
@@ -34,7 +35,7 @@ none_passes id (d ∷ cs) h =
     ap (λ b. if b then d ∷ filter (before id) cs else filter (before id) cs) (one_way id d.id p.0) ∙ none_passes id cs p.1
 
 -- what stands after a later id stands after an earlier one
-pub all_later : (a b : ℕ × ℕ) (cs : List Compaction) → is_before a b ≡ true → list_all (after b) cs ≡ true → list_all (after a) cs ≡ true
+pub all_later : (a b : ℕ × ℕ) (cs : List Compaction) → id_lt a b ≡ true → list_all (after b) cs ≡ true → list_all (after a) cs ≡ true
 all_later a b [] h k = refl
 all_later a b (d ∷ cs) h k =
     let p : (after b d ≡ true) × (list_all (after b) cs ≡ true) = parts (after b d) (list_all (after b) cs) k in
@@ -47,14 +48,14 @@ at_the_front c cs h = ap (λ l. l ++ c ∷ filter (after c.id) cs) (none_passes 
 -- in the place of the first
 in_place : (c d : Compaction) (cs : List Compaction) → c.id ≡ d.id → list_all (after d.id) cs ≡ true → inserted c (d ∷ cs) ≡ c ∷ cs
 in_place c d cs same h =
-    let not_below : before c.id d ≡ false = ap (is_before d.id) same ∙ not_before_itself d.id in
-    let not_above : after c.id d ≡ false = ap (λ id. is_before id d.id) same ∙ not_before_itself d.id in
+    let not_below : before c.id d ≡ false = ap (id_lt d.id) same ∙ not_before_itself d.id in
+    let not_above : after c.id d ≡ false = ap (λ id. id_lt id d.id) same ∙ not_before_itself d.id in
     ap (λ b. (if b then d ∷ filter (before c.id) cs else filter (before c.id) cs) ++ c ∷ filter (after c.id) (d ∷ cs)) not_below
     ∙ ap (λ b. filter (before c.id) cs ++ c ∷ (if b then d ∷ filter (after c.id) cs else filter (after c.id) cs)) not_above
     ∙ at_the_front c cs (ap (λ id. list_all (after id) cs) same ∙ h)
 
 -- past the first
-past : (c d : Compaction) (cs : List Compaction) → is_before d.id c.id ≡ true → inserted c (d ∷ cs) ≡ d ∷ inserted c cs
+past : (c d : Compaction) (cs : List Compaction) → id_lt d.id c.id ≡ true → inserted c (d ∷ cs) ≡ d ∷ inserted c cs
 past c d cs below =
     ap (λ b. (if b then d ∷ filter (before c.id) cs else filter (before c.id) cs) ++ c ∷ filter (after c.id) (d ∷ cs)) below
     ∙ ap (λ b. d ∷ filter (before c.id) cs ++ c ∷ (if b then d ∷ filter (after c.id) cs else filter (after c.id) cs)) (one_way d.id c.id below)
@@ -69,10 +70,10 @@ inserted_is c (e ∷ es) own a = step (id_cmp c.id e.0) refl (inserted_is c es o
 
     step : (o : Ordering) → id_cmp c.id e.0 ≡ o → compactions_of (insert_entry id_cmp es c.id c) ≡ inserted c (compactions_of es) → compactions_of (match_ordering o ((c.id, c) ∷ e ∷ es) ((e.0, c) ∷ es) (e ∷ insert_entry id_cmp es c.id c)) ≡ inserted c (e.1 ∷ compactions_of es)
     step Less is rest =
-        let first : is_before c.id e.1.id ≡ true = ap (is_before c.id) (sym own.0) ∙ less c.id e.0 is in
+        let first : id_lt c.id e.1.id ≡ true = ap (id_lt c.id) (sym own.0) ∙ less c.id e.0 is in
         sym (at_the_front c (e.1 ∷ compactions_of es) (both (after c.id e.1) (list_all (after c.id) (compactions_of es)) first (all_later c.id e.1.id (compactions_of es) first p.0)))
     step Equal is rest = sym (in_place c e.1 (compactions_of es) (equal c.id e.0 is ∙ own.0) p.0)
-    step Greater is rest = ap (λ l. e.1 ∷ l) rest ∙ sym (past c e.1 (compactions_of es) (ap (λ k. is_before k c.id) (sym own.0) ∙ greater c.id e.0 is))
+    step Greater is rest = ap (λ l. e.1 ∷ l) rest ∙ sym (past c e.1 (compactions_of es) (ap (λ k. id_lt k c.id) (sym own.0) ∙ greater c.id e.0 is))
 
 -- each compaction still stands under its own id
 pub still_own : (c : Compaction) (es : List Entry) → UnderOwnIds es → UnderOwnIds (insert_entry id_cmp es c.id c)

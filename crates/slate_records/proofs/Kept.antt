@@ -4,7 +4,8 @@ use Rattle.std.specs.List.{filter, list_all, AllByRecursion}
 use Rattle.std.proofs.Common.{◌≡◌, refl, sym, ap, ◌∙◌}
 use Rattle.slate_records.specs.declared.compaction.Compaction.{Compaction}
 use Rattle.slate_records.specs.Compactions.{is_terminal}
-use Rattle.slate_records.specs.Records.{is_before, are_ascending}
+use Rattle.slate_records.specs.Records.{are_ascending}
+use Rattle.slate_ids.specs.Ulids.{id_lt}
 use Rattle.slate_records.specs.Entries.{compactions_of, UnderOwnIds}
 use Rattle.slate_records.specs.Retaining.{has_id, is_passed, is_kept, retained}
 use Rattle.slate_records.specs.LastFinished.{last_finished, finished_or, is_one, is_kept_by}
@@ -62,7 +63,7 @@ passed_by : (id : ℕ × ℕ) (cs : List Compaction) → list_all (after id) cs 
 passed_by id [] h = refl
 passed_by id (c ∷ cs) h =
     let p : (after id c ≡ true) × (list_all (after id) cs ≡ true) = parts (after id c) (list_all (after id) cs) h in
-    ap (λ b. b || is_passed cs id) (right (is_terminal c.status) (is_before id c.id) p.0)
+    ap (λ b. b || is_passed cs id) (right (is_terminal c.status) (id_lt id c.id) p.0)
     ∙ ap (λ b. is_terminal c.status || b) (passed_by id cs p.1)
     ∙ sym (last_is_over c (last_finished cs))
 
@@ -82,14 +83,14 @@ not_one id (c ∷ cs) h = step (last_finished cs) (not_one id cs p.1)
     step (Some last) k = k
     step None k = by (is_terminal c.status)
 
-not_passed_here : (c : Compaction) (rest : Bool) → ((is_terminal c.status && is_before c.id c.id) || rest) ≡ rest
+not_passed_here : (c : Compaction) (rest : Bool) → ((is_terminal c.status && id_lt c.id c.id) || rest) ≡ rest
 not_passed_here c rest = ap (λ b. (is_terminal c.status && b) || rest) (not_before_itself c.id) ∙ by (is_terminal c.status)
   where
     by : (b : Bool) → ((b && false) || rest) ≡ rest
     by true = refl
     by false = refl
 
-not_passed_by : (id : ℕ × ℕ) (c : Compaction) (rest : Bool) → is_before id c.id ≡ false → ((is_terminal c.status && is_before id c.id) || rest) ≡ rest
+not_passed_by : (id : ℕ × ℕ) (c : Compaction) (rest : Bool) → id_lt id c.id ≡ false → ((is_terminal c.status && id_lt id c.id) || rest) ≡ rest
 not_passed_by id c rest h = ap (λ b. (is_terminal c.status && b) || rest) h ∙ by (is_terminal c.status)
   where
     by : (b : Bool) → ((b && false) || rest) ≡ rest

@@ -2,7 +2,7 @@
 use Rattle.std.specs.Prelude.{ℕ, Bool, true, false, List, [], ◌∷◌, Option, Some, None, if◌then◌else◌}
 use Rattle.slate_records.specs.declared.compaction.Compaction.{Compaction}
 use Rattle.slate_records.specs.Compactions.{is_terminal}
-use Rattle.slate_records.specs.Records.{same_id}
+use Rattle.slate_ids.specs.Ulids.{same_id}
 use Rattle.slate_records.specs.Retaining.{has_id}
 
 -- a later id, or else that of this compaction, where it is over

@@ -1,15 +1,8 @@
 -- Records: the compactions of a database, ascending by id.
-use Rattle.std.specs.Prelude.{ℕ, ◌==◌, ◌&&◌, ◌||◌, ◌++◌, nat_lt, Bool, true, List, [], ◌∷◌, Option, Some, None}
+use Rattle.std.specs.Prelude.{ℕ, ◌&&◌, ◌++◌, Bool, true, List, [], ◌∷◌, Option, Some, None}
 use Rattle.std.specs.List.{find, filter, list_all}
+use Rattle.slate_ids.specs.Ulids.{same_id, id_lt}
 use Rattle.slate_records.specs.declared.compaction.Compaction.{Compaction}
-
--- whether two ids are one
-abbrev pub same_id : ℕ × ℕ → ℕ × ℕ → Bool
-same_id a b = (a.0 == b.0) && (a.1 == b.1)
-
--- whether an id is before another: by milliseconds, then by tail
-abbrev pub is_before : ℕ × ℕ → ℕ × ℕ → Bool
-is_before a b = nat_lt a.0 b.0 || ((a.0 == b.0) && nat_lt a.1 b.1)
 
 -- a record: the epoch of the last compactor that opened the database, and its compactions
 pub record Record : Type 0 where
@@ -24,7 +17,7 @@ pub record Version : Type 0 where
 -- whether each id is before all those after it
 abbrev pub are_ascending : List Compaction → Bool
 are_ascending [] = true
-are_ascending (c ∷ entries) = list_all (λ d. is_before c.id d.id) entries && are_ascending entries
+are_ascending (c ∷ entries) = list_all (λ d. id_lt c.id d.id) entries && are_ascending entries
 
 -- the compaction of an id
 abbrev pub entry_of : ℕ × ℕ → List Compaction → Option Compaction
@@ -37,4 +30,4 @@ first_id (c ∷ entries) = Some c.id
 
 -- those of lesser ids, this compaction, and those of greater ids
 abbrev pub inserted : Compaction → List Compaction → List Compaction
-inserted c entries = filter (λ d. is_before d.id c.id) entries ++ c ∷ filter (λ d. is_before c.id d.id) entries
+inserted c entries = filter (λ d. id_lt d.id c.id) entries ++ c ∷ filter (λ d. id_lt c.id d.id) entries

@@ -3,7 +3,7 @@ use Rattle.std.specs.Prelude.{ℕ, ◌&&◌, Bool, true, List, if◌then◌else�
 use Rattle.std.specs.List.{filter, list_any}
 use Rattle.slate_records.specs.declared.compaction.Compaction.{Compaction}
 use Rattle.slate_records.specs.Compactions.{is_terminal}
-use Rattle.slate_records.specs.Records.{same_id, is_before}
+use Rattle.slate_ids.specs.Ulids.{same_id, id_lt}
 
 -- whether ids have this one
 abbrev pub has_id : List (ℕ × ℕ) → ℕ × ℕ → Bool
@@ -11,7 +11,7 @@ has_id ids id = list_any (λ d. same_id d id) ids
 
 -- whether a compaction of a greater id is over
 abbrev pub is_passed : List Compaction → ℕ × ℕ → Bool
-is_passed entries id = list_any (λ d. is_terminal d.status && is_before id d.id) entries
+is_passed entries id = list_any (λ d. is_terminal d.status && id_lt id d.id) entries
 
 -- whether a trim keeps a compaction: it isn't over, or is the last one that is, or is pending
 abbrev pub is_kept : List (ℕ × ℕ) → List Compaction → Compaction → Bool

@@ -1,7 +1,8 @@
 //! A record of compactions.
 ghost use Rattle.std.specs.Prelude.{◌≡◌, ℕ, [], length, true, false, None, Some, IfSome, IsTrue, ◌↔◌, OnOk, OnErr, option_copied, if◌then◌else◌};
 ghost use Rattle.std.specs.List.{list_any};
-ghost use Rattle.slate_records.specs.Records.{are_ascending, entry_of, first_id, inserted, is_before, same_id};
+ghost use Rattle.slate_records.specs.Records.{are_ascending, entry_of, first_id, inserted};
+ghost use Rattle.slate_ids.specs.Ulids.{id_lt, same_id};
 ghost use Rattle.slate_records.specs.Retaining.{retained};
 
 use crate::compaction::Compaction;
@@ -68,7 +69,7 @@ impl Compactions {
     /// The least id, where there are compactions.
     pub fn least_id(&self) -> Option<Ulid>
         ensures first { result ≡ first_id self.now.entries }
-        ensures least { IfSome result (λ id. list_any (λ c. is_before c.id id) self.now.entries ≡ false) }
+        ensures least { IfSome result (λ id. list_any (λ c. id_lt c.id id) self.now.entries ≡ false) }
     {
         least(&self.entries)
     }

@@ -2,7 +2,8 @@
 ghost use Rattle.std.specs.Prelude.{◌≡◌, ℕ, None, Some, true, false, IfOk, IfSome, OnOk, OnErr, IsTrue, ◌↔◌, option_copied, if◌then◌else◌};
 ghost use Rattle.std.specs.List.{list_any};
 ghost use Rattle.slate_records.specs.Entries.{compactions_of, UnderOwnIds};
-ghost use Rattle.slate_records.specs.Records.{entry_of, first_id, inserted, is_before, same_id};
+ghost use Rattle.slate_records.specs.Records.{entry_of, first_id, inserted};
+ghost use Rattle.slate_ids.specs.Ulids.{id_lt, same_id};
 
 use crate::compaction::Compaction;
 use slate_ids::{OutOfMemory, Ulid};
@@ -25,7 +26,7 @@ pub(crate) fn find(entries: &Entries, id: Ulid) -> Option<&Compaction>
 pub(crate) fn least(entries: &Entries) -> Option<Ulid>
     requires { UnderOwnIds entries.now.entries }
     ensures first { result ≡ first_id (compactions_of entries.now.entries) }
-    ensures least { IfSome result (λ id. list_any (λ c. is_before c.id id) (compactions_of entries.now.entries) ≡ false) }
+    ensures least { IfSome result (λ id. list_any (λ c. id_lt c.id id) (compactions_of entries.now.entries) ≡ false) }
 {
     match entries.first_key_value() {
         Some((id, _)) => Some(*id),

@@ -1,7 +1,7 @@
 -- Each id once: the ids that were seen are those that were kept.
 use Rattle.std.specs.Prelude.{ℕ, ◌+◌, ◌<◌, ◌||◌, not, cond, Bool, true, false, List, [], ◌∷◌, ◌++◌, length, if◌then◌else◌}
 use Rattle.std.specs.List.{fold, list_any}
-use Rattle.std.specs.Ordering.{nat_cmp, ordering_then, is_eq}
+use Rattle.std.specs.Ordering.{nat_cmp, is_eq}
 use Rattle.std.specs.declared.cmp.Ordering.{Ordering}
 use Rattle.std.specs.declared.cmp.Ordering.TheVariants.{Less, Equal, Greater}
 use Rattle.std.proofs.Common.{◌≡◌, refl, sym, ◌∙◌, ap, arith, drop, get_or}
@@ -9,11 +9,8 @@ use Rattle.std.proofs.lemmas.Bool.Decides.{nat_tests}
 use Rattle.std.proofs.lemmas.List.{at_drop_more}
 use Rattle.std.proofs.lemmas.List.Folds.{list_any-append}
 use Rattle.std.proofs.lemmas.Map.Lookups.{exact_pairs, exact_unsigned}
-use Rattle.slate_script.specs.Databases.{same_id, with_id}
-
--- the order of ids
-abbrev pub id_cmp : ℕ × ℕ → ℕ × ℕ → Ordering
-id_cmp a b = ordering_then (nat_cmp a.0 b.0) (nat_cmp a.1 b.1)
+use Rattle.slate_script.specs.Databases.{with_id}
+use Rattle.slate_ids.specs.Ulids.{same_id, id_cmp}
 
 -- what was seen is what is among these ids
 abbrev pub Seen : (ℕ × ℕ → Bool) → List (ℕ × ℕ) → Type 0

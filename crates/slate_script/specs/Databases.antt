@@ -1,7 +1,8 @@
 -- The manifest of a new database, and the tables that stand in the store, by what a script says of them.
-use Rattle.std.specs.Prelude.{ℕ, ◌&&◌, ◌==◌, not, Bool, List, [], ◌∷◌, ◌++◌, length, map, filter, Some, None, option_map, codes, bytes_eq, if◌then◌else◌}
+use Rattle.std.specs.Prelude.{ℕ, ◌==◌, not, Bool, List, [], ◌∷◌, ◌++◌, length, map, filter, Some, None, option_map, codes, bytes_eq, if◌then◌else◌}
 use Rattle.std.specs.List.{find, flat_map, fold, insert, list_any, prefix_len}
 use Rattle.slate_ids.specs.Keys.{key_lt}
+use Rattle.slate_ids.specs.Ulids.{same_id}
 use Rattle.slate_tables.specs.declared.ss_table_id.SsTableId.TheVariants.{Compacted}
 use Rattle.slate_tables.specs.declared.ss_table_info.SsTableInfo.{SsTableInfo}
 use Rattle.slate_tables.specs.declared.ss_table_handle.SsTableHandle.{SsTableHandle}
@@ -88,10 +89,6 @@ abbrev pub segments_of : TreeItems → List Prefixed
 segments_of items = map (segment_of items) (segment_prefixes (named_prefixes items))
 
 -- ---- the tables that stand in the store
-
--- whether two ids are one
-abbrev pub same_id : ℕ × ℕ → ℕ × ℕ → Bool
-same_id a b = (a.0 == b.0) && (a.1 == b.1)
 
 -- ids with this one at the end, where it isn't among them
 abbrev pub with_id : List (ℕ × ℕ) → ℕ × ℕ → List (ℕ × ℕ)

@@ -1,7 +1,7 @@
 use Rattle.std.proofs.Common.{◌≡◌, ◌++◌, drop, true}
 use Rattle.std.specs.List.{flat_map, list_all}
 use Rattle.slate_layout.specs.Texts.{id_bytes}
-use Rattle.slate_layout.specs.Typed.{is_id}
+use Rattle.slate_ids.specs.Ulids.{is_id}
 use Rattle.slate_layout.specs.RecordParts.{views_in}
 use Rattle.slate_layout.proofs.sources.write_views.Given as goal
 

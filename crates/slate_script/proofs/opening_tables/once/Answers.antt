@@ -3,7 +3,8 @@ use Rattle.std.proofs.lemmas.List.{drop_all}
 use Rattle.std.specs.List.{fold}
 use Rattle.std.specs.BTreeSet.{contains}
 use Rattle.slate_script.specs.Databases.{with_id}
-use Rattle.slate_script.proofs.Ids.{id_cmp, one_more, left_over}
+use Rattle.slate_script.proofs.Ids.{one_more, left_over}
+use Rattle.slate_ids.specs.Ulids.{id_cmp}
 use Rattle.slate_script.proofs.opening_tables.once.Goals as goal
 
 pub loop-id-preserved : goal.loop-id-preserved

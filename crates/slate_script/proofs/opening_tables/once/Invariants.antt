@@ -3,7 +3,8 @@ use Rattle.std.specs.List.{fold}
 use Rattle.std.specs.BTreeSet.{contains}
 use Rattle.slate_script.specs.Databases.{with_id}
 use Rattle.slate_script.specs.Databases as databases
-use Rattle.slate_script.proofs.Ids.{id_cmp, Seen}
+use Rattle.slate_script.proofs.Ids.{Seen}
+use Rattle.slate_ids.specs.Ulids.{id_cmp}
 use Rattle.slate_script.proofs.opening_tables.once.Given as goal
 
 -- the ids that are left still come to those so far, and these were seen

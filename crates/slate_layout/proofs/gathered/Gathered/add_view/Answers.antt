@@ -4,7 +4,7 @@ use Rattle.std.specs.BTreeMap.{is_at}
 use Rattle.std.proofs.Common.{rules, ap, ◌∙◌}
 use Rattle.slate_tables.specs.declared.ss_table_handle.SsTableHandle.{SsTableHandle}
 use Rattle.slate_layout.specs.Tables.{table_id}
-use Rattle.slate_layout.specs.UsedTables.{id_cmp}
+use Rattle.slate_ids.specs.Ulids.{id_cmp}
 use Rattle.slate_layout.specs.Gathered.{ById, with_table, same_handle}
 use Rattle.slate_layout.proofs.gathered.Gathered.add_view.Goals as goal
 
