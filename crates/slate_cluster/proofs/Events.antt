@@ -2,11 +2,12 @@
 use Rattle.std.proofs.Common.{◌≡◌, ℕ, zero, suc, add-one, ◌+◌, ◌-◌, ◌<◌, List, [], ◌∷◌, ◌++◌, length, get_or, take, drop, Option, Some, None, refl, sym, ap, ◌∙◌, subst, arith, drop-cons, append_assoc, length-drop}
 use Rattle.std.proofs.lemmas.List.{take_more, append-nil}
 use Rattle.std.proofs.Math.Seq.{take-length}
-use Rattle.slate_script.specs.declared.event.Event.{Event}
-use Rattle.slate_script.specs.declared.entry.Entry.{Entry}
+use Rattle.slate_events.specs.declared.event.Event.{Event}
+use Rattle.slate_events.specs.declared.entry.Entry.{Entry}
 use Rattle.slate_protocol.specs.World.{World, Done, happens}
 use Rattle.slate_protocol.specs.Runs.{Course, Ran, going_on, run}
-use Rattle.slate_cluster.specs.Ran.{Happened, Extends}
+use Rattle.slate_parties.specs.Events.{Happened}
+use Rattle.slate_cluster.specs.Ran.{Extends}
 
 -- what a run makes of its next event
 abbrev next : List Event → ℕ → Course → Option Done → Ran

@@ -1,11 +1,4 @@
-mod Around
-mod NeverMemory
 mod Events
-mod Stepping
-mod Carrying
-mod Openings
-mod Seen
-mod Absent
 mod Reports
 mod Outcomes
 mod Reached

@@ -3,16 +3,16 @@ use Rattle.std.proofs.Common.{◌≡◌, ◌↔◌, ◌⊎◌, inl, inr, ℕ, �
 use Rattle.std.proofs.lemmas.List.{append-nil}
 use Rattle.slate_store.specs.Counts.{Rose}
 use Rattle.slate_script.specs.Scripts.{script_of}
-use Rattle.slate_script.specs.declared.script.Script.{Script}
-use Rattle.slate_script.specs.declared.cluster_cause.ClusterCause.{ClusterCause}
-use Rattle.slate_script.specs.declared.script.ScriptPlace.{ScriptPlace}
+use Rattle.slate_events.specs.declared.script.Script.{Script}
+use Rattle.slate_events.specs.declared.cluster_cause.ClusterCause.{ClusterCause}
+use Rattle.slate_events.specs.declared.script.ScriptPlace.{ScriptPlace}
 use Rattle.slate_protocol.specs.Specs.{cause_of_specs}
-use Rattle.slate_cluster.specs.Commands.{help_text, run_help_text, version_text}
-use Rattle.slate_cluster.specs.Endings.{End, GoesWell, Stays, Fails, ReadsWhole, ReadsTooLong, WritesWhole, WritesFront, Writes, after_fault, Delivers, Answers, IfAnswered, Runs, Outcome, ExactlyEnds, EndsTooLong, text_for, status_for, script_status, run_status, ran_of, limit}
-use Rattle.slate_cluster.specs.declared.command.Command.{Command}
-use Rattle.slate_cluster.specs.declared.command.Command.TheVariants.{Run, RunHelp, Help, Version}
-use Rattle.slate_cluster.specs.declared.status.Status.{Status}
-use Rattle.slate_cluster.specs.declared.status.Status.TheVariants as status
+use Rattle.slate_reports.specs.Commands.{help_text, run_help_text, version_text}
+use Rattle.slate_reports.specs.Endings.{End, GoesWell, Stays, Fails, ReadsWhole, ReadsTooLong, WritesWhole, WritesFront, Writes, after_fault, Delivers, Answers, IfAnswered, Runs, Outcome, ExactlyEnds, EndsTooLong, text_for, status_for, script_status, run_status, ran_of, limit}
+use Rattle.slate_reports.specs.declared.command.Command.{Command}
+use Rattle.slate_reports.specs.declared.command.Command.TheVariants.{Run, RunHelp, Help, Version}
+use Rattle.slate_reports.specs.declared.status.Status.{Status}
+use Rattle.slate_reports.specs.declared.status.Status.TheVariants as status
 
 -- ---- what is delivered is the answer
 

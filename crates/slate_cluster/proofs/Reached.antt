@@ -1,6 +1,6 @@
 -- What a run of a cluster leaves came about by events too.
 use Rattle.std.proofs.Common.{◌≡◌, ℕ, List, take, Some, None, Result, Ok, Err}
-use Rattle.slate_script.specs.declared.event.Event.{Event}
+use Rattle.slate_events.specs.declared.event.Event.{Event}
 use Rattle.slate_protocol.specs.Lawful.{IsRun}
 use Rattle.slate_protocol.specs.Runs.{Course, run}
 use Rattle.slate_cluster.specs.Ran.{HasDone, HasRun}

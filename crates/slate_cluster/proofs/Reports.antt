@@ -1,9 +1,9 @@
--- The parts of a report.
-use Rattle.std.proofs.Common.{◌≡◌, ℕ, ◌++◌, Option, refl}
-use Rattle.slate_script.specs.Lines.{entries_text}
+-- A report tells the entries and the state of a run, and no more.
+use Rattle.std.proofs.Common.{◌≡◌, ℕ, Option, refl}
 use Rattle.slate_protocol.specs.Runs.{Course}
-use Rattle.slate_protocol.specs.Reports.{state_text, end_line, report_text}
+use Rattle.slate_protocol.specs.Reports.{report_text}
+use Rattle.slate_reports.specs.Parts.{course_of, world_of}
 
-pub report_is : (course : Course) (bad : Option ℕ) → report_text (record { course = course; bad = bad }) ≡ entries_text 0 course.trail ++ state_text course.world ++ end_line bad
+pub report_by_parts : (course : Course) (bad : Option ℕ) → report_text (record { course = course_of course.trail (world_of course.world.tallies course.world.deleted course.world.store); bad = bad }) ≡ report_text (record { course = course; bad = bad })
 unfolding report_text
-report_is course bad = refl
+report_by_parts course bad = refl

@@ -1,9 +1,2 @@
-pub mod Advanced
-pub mod Recorded
-pub mod Followed
-pub mod Stepped
-pub mod Numbered
 pub mod Opened
 pub mod Ran
-pub mod Commands
-pub mod Endings

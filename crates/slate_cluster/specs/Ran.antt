@@ -1,17 +1,11 @@
 -- What a call of the cluster says of its run.
 use Rattle.std.specs.Prelude.{◌≡◌, List, ◌++◌, take, Option, Some, None, Result, Ok, Err}
-use Rattle.slate_script.specs.declared.event.Event.{Event}
-use Rattle.slate_script.specs.declared.entry.Entry.{Entry}
-use Rattle.slate_protocol.specs.World.{World, happens}
+use Rattle.slate_events.specs.declared.event.Event.{Event}
+use Rattle.slate_events.specs.declared.entry.Entry.{Entry}
 use Rattle.slate_protocol.specs.Runs.{Course, run}
 use Rattle.slate_cluster.specs.declared.cluster.Report.{Report}
 use Rattle.slate_cluster.specs.declared.cluster.ClusterError.{ClusterError}
 use Rattle.slate_cluster.specs.declared.cluster.ClusterError.TheVariants.{BadEvent, OutOfMemory}
-
--- what an event did: nothing where it was bad
-abbrev pub Happened : World → Event → Option Entry → World → Type 0
-Happened old e None new = (happens old e ≡ None) × (new ≡ old)
-Happened old e (Some entry) new = happens old e ≡ Some (record { entry = entry; world = new })
 
 -- the first bad event ended the run; or memory ran out, and what was done before its place stands
 abbrev pub Stopped : Course → List Event → ClusterError → Course → Type 0

@@ -4,12 +4,12 @@ ghost use Rattle.slate_protocol.specs.Lawful.{Lawful};
 ghost use Rattle.slate_cluster.specs.Opened.{Opens};
 ghost use Rattle.slate_cluster.specs.Ran.{HasDone, HasRun};
 
-use crate::opening::names;
 use crate::progress::Progress;
-use slate_ids::{DbPath, OutOfMemory};
+use slate_events::{DbSpec, Entry, Event};
+use slate_ids::DbPath;
 use slate_laws::{begins, goes_on, lawful, stops};
+use slate_opening::{NewError, names};
 use slate_protocol::Tally;
-use slate_script::{ClusterCause, DbSpec, Entry, Event};
 use slate_store::MemoryStore;
 use std::alloc::Global;
 use std::collections::BTreeMap;
@@ -31,25 +31,6 @@ impl Model for Cluster {
     ghost view = { λ a. a.progress };
 
     ghost invariant = { λ a. IsRun a.progress };
-}
-
-/// Why a cluster was not made.
-#[derive(Clone, Copy, Debug, PartialEq, Eq)]
-pub enum NewError {
-    /// The databases can't begin a run, and this is the first cause.
-    BadCluster(ClusterCause),
-    /// Memory ran out.
-    OutOfMemory,
-}
-
-impl From<OutOfMemory> for NewError {
-    ghost use Rattle.slate_cluster.specs.declared.cluster.NewError.TheVariants.{OutOfMemory as NoMemory};
-
-    ghost from_gives = { λ _ e. e ≡ NoMemory };
-
-    fn from(_e: OutOfMemory) -> NewError {
-        NewError::OutOfMemory
-    }
 }
 
 /// How a run ended early. Places count the events of this run from 0.

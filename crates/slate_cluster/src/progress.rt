@@ -3,12 +3,12 @@ ghost use Rattle.std.specs.Prelude.{◌≡◌, ◌++◌, ◌∷◌, [], ◌<◌,
 ghost use Rattle.slate_cluster.specs.Opened.{Opens};
 ghost use Rattle.slate_cluster.specs.Ran.{Extends, HasDone, HasRun};
 
-use crate::cluster::{ClusterError, NewError, Report};
-use crate::opening::opened;
-use crate::state::ClusterState;
+use crate::cluster::{ClusterError, Report};
+use slate_events::{DbSpec, Entry, Event};
 use slate_ids::{DbPath, OutOfMemory};
+use slate_opening::{NewError, opened};
+use slate_parties::ClusterState;
 use slate_protocol::Tally;
-use slate_script::{DbSpec, Entry, Event};
 use slate_store::MemoryStore;
 use std::alloc::Global;
 use std::collections::BTreeMap;
@@ -54,11 +54,11 @@ impl Progress {
     pub fn new(alloc: Global, specs: Vec<DbSpec>) -> Result<Progress, NewError>
         ensures { Opens specs.items result }
     {
-        let state = opened(alloc, specs.as_slice())?;
+        let opening = opened(alloc, specs.as_slice())?;
         Ok(Progress {
             specs,
             trail: Vec::new(alloc),
-            state,
+            state: ClusterState::of(alloc, opening),
         })
     }
 

@@ -4,7 +4,7 @@ use Rattle.std.specs.Ordering.{nat_cmp, is_eq}
 use Rattle.std.proofs.Common.{◌≡◌, refl, sym, ◌∙◌, ap, arith, drop, get_or}
 use Rattle.std.proofs.lemmas.Bool.Decides.{nat_tests}
 use Rattle.std.proofs.lemmas.List.{at_drop_more}
-use Rattle.slate_state.specs.Checkpoints.{is_named}
+use Rattle.slate_updates.specs.Checkpoints.{is_named}
 use Rattle.slate_model.specs.declared.checkpoint.Checkpoint.{Checkpoint}
 
 -- what the set has, or one of the checkpoints that are left names

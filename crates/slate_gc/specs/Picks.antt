@@ -5,7 +5,7 @@ use Rattle.slate_gc.specs.declared.pass_options.PassOptions.{PassOptions}
 use Rattle.slate_log.specs.Boundary.{greater}
 use Rattle.slate_log.specs.LogPaths.{number_of}
 use Rattle.slate_log.specs.declared.log_kind.LogKind.{LogKind}
-use Rattle.slate_state.specs.Checkpoints.{is_named}
+use Rattle.slate_updates.specs.Checkpoints.{is_named}
 use Rattle.slate_model.specs.declared.checkpoint.Checkpoint.{Checkpoint}
 use Rattle.slate_store.specs.declared.object.ObjectMetadata.{ObjectMetadata}
 

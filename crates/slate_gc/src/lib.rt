@@ -7,8 +7,6 @@ mod onward;
 mod pass_counts;
 mod pass_options;
 mod pass_phase;
-#[cfg(test)]
-mod pass_tests;
 
 pub use candidates::{candidates_of, dated, is_aged, picks};
 pub use numbers::Numbers;

@@ -43,8 +43,3 @@ pub use out_of_memory::OutOfMemory;
 pub use path_rest::PathRest;
 pub use text::Text;
 pub use ulid::Ulid;
-
-#[cfg(test)]
-mod range_tests;
-#[cfg(test)]
-mod tests;

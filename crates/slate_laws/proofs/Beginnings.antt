@@ -15,7 +15,7 @@ use Rattle.slate_ids.specs.declared.object_path.ObjectPath.{ObjectPath}
 use Rattle.slate_log.specs.LogPaths.{version_path}
 use Rattle.slate_log.specs.declared.log_kind.LogKind.TheVariants.{Manifest as ManifestLog}
 use Rattle.slate_store.specs.Store.{Store, object_at, stored}
-use Rattle.slate_script.specs.declared.db_spec.DbSpec.{DbSpec}
+use Rattle.slate_events.specs.declared.db_spec.DbSpec.{DbSpec}
 use Rattle.slate_protocol.specs.Chains.{bytes_of}
 use Rattle.slate_protocol.specs.Specs.{First, is_named_spec, first_tally, tallies_from, and_more, first_bytes, first_added, firsts_from, listed_or_none, store_from}
 use Rattle.slate_ids.specs.Ulids.{is_id}

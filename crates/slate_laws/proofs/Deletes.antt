@@ -8,9 +8,9 @@ use Rattle.slate_store.specs.declared.store_answer.StoreAnswer.{StoreAnswer}
 use Rattle.slate_store.specs.declared.store_answer.StoreAnswer.TheVariants.{Deleted, Fault}
 use Rattle.slate_store.specs.declared.store_call.StoreCall.{StoreCall}
 use Rattle.slate_store.specs.declared.store_call.StoreCall.TheVariants.{Delete}
-use Rattle.slate_script.specs.declared.call.Call.{Call}
-use Rattle.slate_script.specs.declared.reply.Reply.TheVariants.{Refused}
-use Rattle.slate_script.specs.declared.reply.Reply.TheVariants as reply
+use Rattle.slate_events.specs.declared.call.Call.{Call}
+use Rattle.slate_events.specs.declared.reply.Reply.TheVariants.{Refused}
+use Rattle.slate_events.specs.declared.reply.Reply.TheVariants as reply
 use Rattle.slate_log.specs.Advance.{AdvanceGoes, advance_asks, advance_goes}
 use Rattle.slate_log.specs.LogPaths.{version_path}
 use Rattle.slate_log.specs.declared.advance.AdvancePhase.{AdvancePhase}

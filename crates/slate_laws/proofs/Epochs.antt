@@ -4,9 +4,9 @@ use Rattle.std.proofs.lemmas.Bool.Decides.{nat_tests}
 use Rattle.std.specs.Prelude.{if◌then◌else◌}
 use Rattle.slate_ids.specs.declared.error.SlateDBError.TheVariants.{Fenced}
 use Rattle.slate_model.specs.declared.manifest.Manifest.{Manifest}
-use Rattle.slate_script.specs.declared.call.Call.{Call}
-use Rattle.slate_script.specs.declared.call.Call.TheVariants.{OpenWriter, Flush, WriteCheckpoint, ReplaceCheckpoint, RefreshCheckpoint, DeleteCheckpoint, Pass}
-use Rattle.slate_txn.specs.Fencing.{fence}
+use Rattle.slate_events.specs.declared.call.Call.{Call}
+use Rattle.slate_events.specs.declared.call.Call.TheVariants.{OpenWriter, Flush, WriteCheckpoint, ReplaceCheckpoint, RefreshCheckpoint, DeleteCheckpoint, Pass}
+use Rattle.slate_log.specs.Fence.{fence}
 use Rattle.slate_protocol.specs.Calls.{right_of, fenced, fence_of}
 use Rattle.slate_protocol.specs.Chains.{Link, link_at, IsChain, Follows}
 use Rattle.slate_protocol.specs.Fenced.{epoch_in, NotBelow, IsFenced}

@@ -1,8 +1,8 @@
 -- What holds of every run.
 use Rattle.std.proofs.Common.{◌≡◌, ℕ, ◌≤◌, List, [], ◌++◌, map, Some, refl, sym, ap, ◌∙◌, subst, arith}
-use Rattle.slate_script.specs.declared.entry.Entry.{Entry}
-use Rattle.slate_script.specs.declared.db_spec.DbSpec.{DbSpec}
-use Rattle.slate_script.specs.declared.event.Event.{Event}
+use Rattle.slate_events.specs.declared.entry.Entry.{Entry}
+use Rattle.slate_events.specs.declared.db_spec.DbSpec.{DbSpec}
+use Rattle.slate_events.specs.declared.event.Event.{Event}
 use Rattle.slate_protocol.specs.ByRows.{nobody}
 use Rattle.slate_protocol.specs.Lawful.{IsAccepted, chains_at_end, IsRun, course_after, gone_after, IsLawful, Lawful}
 use Rattle.slate_protocol.specs.Logs.{Chains, manifests, world_after, opening_chains}

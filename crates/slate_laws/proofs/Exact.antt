@@ -5,7 +5,7 @@ use Rattle.std.specs.Prelude.{if◌then◌else◌, ◌&&◌, not}
 use Rattle.slate_ids.specs.declared.error.SlateDBError.{SlateDBError}
 use Rattle.slate_ids.specs.declared.error.SlateDBError.TheVariants.{ManifestMissing}
 use Rattle.slate_ids.specs.declared.gc_message.GcMessage.{GcMessage}
-use Rattle.slate_layout.specs.Decoding.{decoded_manifest}
+use Rattle.slate_manifest_parts.specs.Decoding.{decoded_manifest}
 use Rattle.slate_model.specs.declared.manifest.Manifest.{Manifest}
 use Rattle.slate_store.specs.Machines.{Goes, Stay, End}
 use Rattle.slate_store.specs.Store.{Store}
@@ -13,13 +13,13 @@ use Rattle.slate_store.specs.declared.object.ObjectMetadata.{ObjectMetadata}
 use Rattle.slate_store.specs.declared.object.StoredObject.{StoredObject}
 use Rattle.slate_store.specs.declared.store_answer.StoreAnswer.{StoreAnswer}
 use Rattle.slate_store.specs.declared.store_answer.StoreAnswer.TheVariants.{Found, Got}
-use Rattle.slate_script.specs.declared.call.Call.{Call}
-use Rattle.slate_script.specs.declared.call.Call.TheVariants as calls
-use Rattle.slate_script.specs.declared.entry.Entry.{Entry}
-use Rattle.slate_script.specs.declared.entry.Entry.TheVariants.{Called}
-use Rattle.slate_script.specs.declared.event.Event.{Event}
-use Rattle.slate_script.specs.declared.filter_word.FilterWord.{FilterWord}
-use Rattle.slate_script.specs.declared.reply.Reply.TheVariants.{Refused}
+use Rattle.slate_events.specs.declared.call.Call.{Call}
+use Rattle.slate_events.specs.declared.call.Call.TheVariants as calls
+use Rattle.slate_events.specs.declared.entry.Entry.{Entry}
+use Rattle.slate_events.specs.declared.entry.Entry.TheVariants.{Called}
+use Rattle.slate_events.specs.declared.event.Event.{Event}
+use Rattle.slate_events.specs.declared.filter_word.FilterWord.{FilterWord}
+use Rattle.slate_events.specs.declared.reply.Reply.TheVariants.{Refused}
 use Rattle.slate_log.specs.Boundary.{boundary_got, greatest}
 use Rattle.slate_log.specs.Commit.{commit_asks, commit_goes}
 use Rattle.slate_log.specs.Read.{read_asks, read_goes}

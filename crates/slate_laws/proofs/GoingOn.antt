@@ -1,6 +1,6 @@
 -- Runs one after the other are one run.
 use Rattle.std.proofs.Common.{◌≡◌, ℕ, ◌+◌, List, [], ◌∷◌, ◌++◌, Option, Some, None, refl, sym, ap, ◌∙◌, subst}
-use Rattle.slate_script.specs.declared.event.Event.{Event}
+use Rattle.slate_events.specs.declared.event.Event.{Event}
 use Rattle.slate_protocol.specs.Lawful.{IsRun}
 use Rattle.slate_protocol.specs.Logs.{world_after}
 use Rattle.slate_protocol.specs.Runs.{Course, Ran, going_on, opening, run}

@@ -6,23 +6,21 @@ use Rattle.std.specs.List.{list_all}
 use Rattle.slate_ids.specs.declared.error.SlateDBError.{SlateDBError}
 use Rattle.slate_ids.specs.declared.error.SlateDBError.TheVariants.{Exhausted}
 use Rattle.slate_ids.specs.declared.error.UpdateRule.TheVariants.{U1, U2}
-use Rattle.slate_layout.specs.Codec.{encoded}
-use Rattle.slate_state.specs.Checkpoints.{is_named}
-use Rattle.slate_layout.specs.Codec.{codec_round_trip}
-use Rattle.slate_state.specs.Rules.{falls, names_known}
-use Rattle.slate_layout.specs.Normal.{normal_manifest, normal_checkpoint}
+use Rattle.slate_layout.specs.Codec.{encoded, codec_round_trip}
+use Rattle.slate_updates.specs.Checkpoints.{is_named}
+use Rattle.slate_updates.specs.Rules.{falls, names_known, refused_by, manifest_refusal}
+use Rattle.slate_encodable.specs.Normal.{normal_manifest, normal_checkpoint}
 use Rattle.slate_model.specs.declared.checkpoint.Checkpoint.{Checkpoint}
 use Rattle.slate_model.specs.declared.manifest.Manifest.{Manifest}
-use Rattle.slate_script.specs.declared.call.Call.{Call}
+use Rattle.slate_events.specs.declared.call.Call.{Call}
 use Rattle.slate_log.specs.Commit.{prepared, checked_commit, encoded_commit}
 use Rattle.slate_log.specs.declared.commit.CommitPhase.{CommitPhase}
 use Rattle.slate_log.specs.declared.commit.CommitPhase.TheVariants.{Putting}
 use Rattle.slate_log.specs.declared.right.Right.{Right}
-use Rattle.slate_txn.specs.Apply.{renewed, wanted, some_commit}
-use Rattle.slate_txn.specs.FencedUpdating.{unless}
+use Rattle.slate_log.specs.Change.{renewed, wanted, some_commit}
+use Rattle.slate_log.specs.Fence.{unless}
 use Rattle.slate_protocol.specs.Calls.{new_value, right_of, fence_of, commit_of}
 use Rattle.slate_protocol.specs.Logs.{manifests}
-use Rattle.slate_state.specs.Rules.{refused_by, manifest_refusal}
 use Rattle.slate_protocol.specs.declared.party.Facts.{Facts}
 use Rattle.slate_laws.proofs.Facts.{IsLog}
 

@@ -10,16 +10,15 @@ use Rattle.slate_ids.specs.declared.object_path.ObjectPath.{ObjectPath}
 use Rattle.slate_log.specs.Boundary.{boundary_got}
 use Rattle.slate_log.specs.LogPaths.{version_path, boundary_path}
 use Rattle.slate_log.specs.declared.log_kind.LogKind.TheVariants.{Manifest as ManifestLog}
-use Rattle.slate_state.specs.Checkpoints.{is_named}
-use Rattle.slate_layout.specs.Codec.{encoded}
-use Rattle.slate_layout.specs.Decoding.{decoded_manifest}
-use Rattle.slate_layout.specs.Codec.{codec_round_trip}
-use Rattle.slate_layout.specs.NormalLaws.{normal_only}
-use Rattle.slate_layout.specs.Normal.{is_normal}
+use Rattle.slate_updates.specs.Checkpoints.{is_named}
+use Rattle.slate_layout.specs.Codec.{encoded, codec_round_trip}
+use Rattle.slate_manifest_parts.specs.Decoding.{decoded_manifest}
+use Rattle.slate_encodable.specs.NormalLaws.{normal_only}
+use Rattle.slate_encodable.specs.Normal.{is_normal}
 use Rattle.slate_model.specs.declared.checkpoint.Checkpoint.{Checkpoint}
 use Rattle.slate_model.specs.declared.manifest.Manifest.{Manifest}
-use Rattle.slate_script.specs.declared.cluster_cause.ClusterCause.TheVariants as cause
-use Rattle.slate_script.specs.declared.db_spec.DbSpec.{DbSpec}
+use Rattle.slate_events.specs.declared.cluster_cause.ClusterCause.TheVariants as cause
+use Rattle.slate_events.specs.declared.db_spec.DbSpec.{DbSpec}
 use Rattle.slate_store.specs.Store.{Store, object_at}
 use Rattle.slate_store.specs.declared.object.StoredObject.{StoredObject}
 use Rattle.slate_protocol.specs.Chains.{top, bytes_of, link_bytes, Stands}

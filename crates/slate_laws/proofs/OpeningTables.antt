@@ -14,7 +14,7 @@ use Rattle.slate_ids.specs.declared.object_path.ObjectPath.TheVariants as paths
 use Rattle.slate_ids.proofs.PathsApart.{same_path}
 use Rattle.slate_ids.proofs.UlidTexts.{ulid_read}
 use Rattle.slate_tables.specs.declared.ss_table_info.SsTableInfo.{SsTableInfo}
-use Rattle.slate_script.specs.declared.db_spec.DbSpec.{DbSpec}
+use Rattle.slate_events.specs.declared.db_spec.DbSpec.{DbSpec}
 use Rattle.slate_protocol.specs.Specs.{First, and_more, table_bytes, table_added, tables_from, all_tables_from}
 use Rattle.slate_ids.specs.Ulids.{is_id}
 use Rattle.slate_laws.proofs.Beginnings.{AllNamed, Firsts, last_at, last_else, named_parts, AllFine, fine_put}

@@ -16,10 +16,10 @@ use Rattle.slate_store.specs.declared.mark.Mark.TheVariants.{Good, Fail, Lost}
 use Rattle.slate_store.specs.declared.object.StoredObject.{StoredObject}
 use Rattle.slate_store.specs.declared.store_call.StoreCall.{StoreCall}
 use Rattle.slate_store.specs.declared.store_call.StoreCall.TheVariants.{List as ListCall, Get, PutNew, Replace, Put, Delete}
-use Rattle.slate_script.specs.declared.call.Call.{Call}
-use Rattle.slate_script.specs.declared.db_spec.DbSpec.{DbSpec}
-use Rattle.slate_script.specs.declared.event.Event.{Event}
-use Rattle.slate_script.specs.declared.event.Event.TheVariants.{Open, Start, Step, Stop}
+use Rattle.slate_events.specs.declared.call.Call.{Call}
+use Rattle.slate_events.specs.declared.db_spec.DbSpec.{DbSpec}
+use Rattle.slate_events.specs.declared.event.Event.{Event}
+use Rattle.slate_events.specs.declared.event.Event.TheVariants.{Open, Start, Step, Stop}
 use Rattle.slate_protocol.specs.Logs.{world_after}
 use Rattle.slate_protocol.specs.Phrases.{asks, is_due}
 use Rattle.slate_protocol.specs.Specs.{First, objects_of, listed_or_none, no_objects, store_from, opening_world}

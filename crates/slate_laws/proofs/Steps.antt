@@ -2,8 +2,8 @@
 use Rattle.std.proofs.Common.{◌≡◌, ◌≢◌, ℕ, ℤ, Bool, true, false, List, Option, Some, None, Ok, Err, refl, sym, ap, ◌∙◌, subst}
 use Rattle.std.specs.Prelude.{if◌then◌else◌, bytes_eq}
 use Rattle.slate_ids.specs.Ids.{is_db_path}
-use Rattle.slate_layout.specs.Decoding.{decoded_manifest}
-use Rattle.slate_layout.specs.Normal.{normal_manifest}
+use Rattle.slate_manifest_parts.specs.Decoding.{decoded_manifest}
+use Rattle.slate_encodable.specs.Normal.{normal_manifest}
 use Rattle.slate_model.specs.declared.manifest.Manifest.{Manifest}
 use Rattle.slate_store.specs.Machines.{Goes, Stay, End}
 use Rattle.slate_store.specs.Store.{Store, effect}

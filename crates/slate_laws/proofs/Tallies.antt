@@ -3,7 +3,7 @@ use Rattle.std.proofs.Common.{◌≡◌, ◌≢◌, ℕ, ℤ, ◌+◌, ◌<◌, 
 use Rattle.std.specs.Prelude.{bytes_eq, decimal}
 use Rattle.slate_ids.specs.Ids.{is_db_path}
 use Rattle.slate_ids.specs.declared.object_path.ObjectPath.{ObjectPath}
-use Rattle.slate_layout.specs.Normal.{normal_manifest}
+use Rattle.slate_encodable.specs.Normal.{normal_manifest}
 use Rattle.slate_model.specs.declared.manifest.Manifest.{Manifest}
 use Rattle.slate_store.specs.Store.{Store, object_at, stored, removed, has_tag, put_new, replace, under, taken, effect}
 use Rattle.slate_store.specs.declared.mark.Mark.{Mark}

@@ -1,14 +1,14 @@
 -- The trail alone tells the store and what is committed.
 use Rattle.std.proofs.Common.{◌≡◌, ℕ, ℤ, ◌+◌, ◌==◌, Bool, true, false, List, [], ◌∷◌, map, Option, Some, None, is_some, refl, sym, ap, ◌∙◌, subst}
 use Rattle.std.specs.Prelude.{if◌then◌else◌, bytes_eq}
-use Rattle.slate_layout.specs.Normal.{normal_manifest}
+use Rattle.slate_encodable.specs.Normal.{normal_manifest}
 use Rattle.slate_model.specs.declared.manifest.Manifest.{Manifest}
 use Rattle.slate_store.specs.Store.{Store, effect}
 use Rattle.slate_store.specs.declared.mark.Mark.{Mark}
-use Rattle.slate_script.specs.declared.call.Call.{Call}
-use Rattle.slate_script.specs.declared.entry.Entry.{Entry}
-use Rattle.slate_script.specs.declared.event.Event.{Event}
-use Rattle.slate_script.specs.declared.event.Event.TheVariants.{Open, Start, Step, Stop}
+use Rattle.slate_events.specs.declared.call.Call.{Call}
+use Rattle.slate_events.specs.declared.entry.Entry.{Entry}
+use Rattle.slate_events.specs.declared.event.Event.{Event}
+use Rattle.slate_events.specs.declared.event.Event.TheVariants.{Open, Start, Step, Stop}
 use Rattle.slate_log.specs.Advance.{advance_asks}
 use Rattle.slate_log.specs.declared.advance.AdvancePhase.{AdvancePhase}
 use Rattle.slate_log.specs.declared.advance.AdvancePhase.TheVariants as advancing

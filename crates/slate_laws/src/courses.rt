@@ -1,7 +1,7 @@
 //! Runs: how they begin, how they go on, and what holds of each.
 ghost use Rattle.std.specs.Prelude.{◌≡◌, ℕ, List, Some, None};
-ghost use Rattle.slate_script.specs.declared.db_spec.DbSpec.{DbSpec};
-ghost use Rattle.slate_script.specs.declared.event.Event.{Event};
+ghost use Rattle.slate_events.specs.declared.db_spec.DbSpec.{DbSpec};
+ghost use Rattle.slate_events.specs.declared.event.Event.{Event};
 ghost use Rattle.slate_protocol.specs.Lawful.{IsAccepted, IsRun, Lawful};
 ghost use Rattle.slate_protocol.specs.Runs.{Course, opening, run};
 

@@ -1,8 +1,8 @@
 //! Passes: the deletes that they make.
 ghost use Rattle.std.specs.Prelude.{ℕ, Bool, List};
 ghost use Rattle.slate_ids.specs.declared.gc_message.GcMessage.{GcMessage};
-ghost use Rattle.slate_script.specs.declared.call.Call.TheVariants.{Pass};
-ghost use Rattle.slate_script.specs.declared.filter_word.FilterWord.{FilterWord};
+ghost use Rattle.slate_events.specs.declared.call.Call.TheVariants.{Pass};
+ghost use Rattle.slate_events.specs.declared.filter_word.FilterWord.{FilterWord};
 ghost use Rattle.slate_protocol.specs.Calls.{options_of};
 ghost use Rattle.slate_protocol.specs.Passes.{IsExact};
 ghost use Rattle.slate_protocol.specs.Rows.{Answered};

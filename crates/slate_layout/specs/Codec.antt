@@ -5,11 +5,11 @@ use Rattle.slate_ids.specs.declared.error.SlateDBError.TheVariants.{Corrupt}
 use Rattle.slate_ids.specs.declared.error.FormatName.{FormatName}
 use Rattle.slate_ids.specs.declared.error.FormatName.TheVariants as format
 use Rattle.slate_model.specs.declared.manifest.Manifest.{Manifest}
-use Rattle.slate_layout.specs.Decoding.{decoded_manifest}
-use Rattle.slate_layout.specs.Normal.{normal_manifest}
-use Rattle.slate_layout.specs.Typed.{is_manifest}
-use Rattle.slate_layout.specs.Unencodable.{encoded_manifest}
-use Rattle.slate_layout.specs.RoundTrip.{round_trip}
+use Rattle.slate_manifest_parts.specs.Decoding.{decoded_manifest}
+use Rattle.slate_encodable.specs.Normal.{normal_manifest}
+use Rattle.slate_manifest_parts.specs.TypedManifests.{is_manifest}
+use Rattle.slate_manifest_encoding.specs.Encoding.{encoded_manifest}
+use Rattle.slate_manifest_encoding.specs.RoundTrip.{round_trip}
 
 -- the bytes of a value of its type, as each is that a program holds
 abbrev pub if_typed : FormatName → Bool → Result (List ℕ) SlateDBError → Result (List ℕ) SlateDBError

@@ -4,10 +4,10 @@ use Rattle.slate_ids.specs.declared.error.SlateDBError.{SlateDBError}
 use Rattle.slate_ids.specs.declared.error.FormatName.TheVariants as format
 use Rattle.slate_records.specs.Records.{Record}
 use Rattle.slate_layout.specs.Codec.{if_typed, both_told}
-use Rattle.slate_layout.specs.Records.{decoded_record}
-use Rattle.slate_layout.specs.RecordNormal.{normal_record}
-use Rattle.slate_layout.specs.RecordFields.{is_record, encoded_record}
-use Rattle.slate_layout.specs.RecordTrip.{record_trip}
+use Rattle.slate_record_bytes.specs.Records.{decoded_record}
+use Rattle.slate_record_bytes.specs.RecordNormal.{normal_record}
+use Rattle.slate_record_bytes.specs.RecordFields.{is_record, encoded_record}
+use Rattle.slate_record_bytes.specs.RecordTrip.{record_trip}
 
 -- the bytes of a record, or why it has none
 abbrev pub record_encoded : Record → Result (List ℕ) SlateDBError

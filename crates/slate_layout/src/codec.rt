@@ -1,11 +1,11 @@
 //! The codec of manifests.
-ghost use Rattle.slate_layout.specs.Decoding.{decoded_manifest};
+ghost use Rattle.slate_manifest_parts.specs.Decoding.{decoded_manifest};
 ghost use Rattle.slate_layout.specs.Codec.{encoded, codec_round_trip};
-ghost use Rattle.slate_layout.specs.Normal.{normal_manifest};
+ghost use Rattle.slate_encodable.specs.Normal.{normal_manifest};
 
-use crate::decode::decode_manifest;
-use crate::encode::encode_manifest;
 use slate_ids::{ObjectCodec, OutOfMemory, SlateDBError};
+use slate_manifest_decoding::decode_manifest;
+use slate_manifest_encoding::encode_manifest;
 use slate_model::{Manifest, Plain};
 use std::alloc::Global;
 

@@ -1,12 +1,11 @@
 //! The codec of records.
-ghost use Rattle.slate_layout.specs.Records.{decoded_record};
+ghost use Rattle.slate_record_bytes.specs.Records.{decoded_record};
 ghost use Rattle.slate_layout.specs.RecordCodec.{record_encoded, record_codec_trip};
-ghost use Rattle.slate_layout.specs.RecordNormal.{normal_record};
+ghost use Rattle.slate_record_bytes.specs.RecordNormal.{normal_record};
 
-use crate::record_reading::decode_compactions;
-use crate::record_writing::encode_compactions;
 use slate_ids::{ObjectCodec, OutOfMemory, SlateDBError};
 use slate_model::Plain;
+use slate_record_bytes::{decode_compactions, encode_compactions};
 use slate_records::Compactions;
 use std::alloc::Global;
 

@@ -7,6 +7,8 @@ pub mod Once
 pub mod TryRead
 pub mod Versions
 pub mod Commit
+pub mod Change
+pub mod Fence
 pub mod Advance
 pub mod Delete
 pub mod Committing

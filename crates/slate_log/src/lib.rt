@@ -5,17 +5,14 @@
 mod advance;
 mod advancing;
 mod boundary;
-#[cfg(test)]
-mod boundary_tests;
 mod commit;
 mod committing;
 mod delete;
 mod deleting;
+mod fencing;
 mod log_kind;
-#[cfg(test)]
-mod log_tests;
-#[cfg(test)]
-mod number_logs;
+mod next_value;
+mod preparing;
 mod ran_out;
 mod read;
 mod read_latest;
@@ -29,7 +26,10 @@ pub use advance::AdvancePhase;
 pub use boundary::{boundary_in, decode_boundary, encode_boundary, greatest};
 pub use commit::{CommitPhase, prepare};
 pub use delete::DeletePhase;
+pub use fencing::fence;
 pub use log_kind::LogKind;
+pub use next_value::next_epoch;
+pub use preparing::prepare_change;
 pub use read::ReadPhase;
 pub use right::Right;
 pub use rules::Rules;

@@ -41,18 +41,3 @@ pub use slate_tables::{
 };
 pub use trees::Trees;
 pub use versioned_manifest::VersionedManifest;
-
-#[cfg(test)]
-mod equality_tests;
-#[cfg(test)]
-mod manifest_tests;
-#[cfg(test)]
-mod nesting_tests;
-#[cfg(test)]
-mod selection_tests;
-#[cfg(test)]
-mod tracker_tests;
-#[cfg(test)]
-mod validation_tests;
-#[cfg(test)]
-mod watermark_tests;

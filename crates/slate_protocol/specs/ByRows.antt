@@ -2,12 +2,12 @@
 use Rattle.std.specs.Prelude.{ℕ, ◌==◌, ℤ, List, [], ◌∷◌, ◌++◌, Option, Some, None, if◌then◌else◌}
 use Rattle.slate_store.specs.Store.{Store, effect}
 use Rattle.slate_store.specs.declared.mark.Mark.{Mark}
-use Rattle.slate_script.specs.declared.call.Call.{Call}
-use Rattle.slate_script.specs.declared.event.Event.{Event}
-use Rattle.slate_script.specs.declared.event.Event.TheVariants.{Open, Start, Step, Stop}
-use Rattle.slate_script.specs.declared.entry.Entry.{Entry}
-use Rattle.slate_script.specs.declared.entry.Entry.TheVariants.{Opened, Started, Called, Stopped, Idle}
-use Rattle.slate_script.specs.declared.reply.Reply.{Reply}
+use Rattle.slate_events.specs.declared.call.Call.{Call}
+use Rattle.slate_events.specs.declared.event.Event.{Event}
+use Rattle.slate_events.specs.declared.event.Event.TheVariants.{Open, Start, Step, Stop}
+use Rattle.slate_events.specs.declared.entry.Entry.{Entry}
+use Rattle.slate_events.specs.declared.entry.Entry.TheVariants.{Opened, Started, Called, Stopped, Idle}
+use Rattle.slate_events.specs.declared.reply.Reply.{Reply}
 use Rattle.slate_protocol.specs.Rows.{Answered, Row, Asks, Replies, row}
 use Rattle.slate_protocol.specs.World.{facts_after}
 use Rattle.slate_protocol.specs.declared.party.Facts.{Facts}

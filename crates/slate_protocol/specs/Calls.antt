@@ -6,21 +6,20 @@ use Rattle.slate_ids.specs.declared.error.SlateDBError.TheVariants.{LatestTransa
 use Rattle.slate_ids.specs.declared.error.StateCause.TheVariants.{NotOpen}
 use Rattle.slate_model.specs.declared.manifest.Manifest.{Manifest}
 use Rattle.slate_model.specs.declared.checkpoint.Checkpoint.{Checkpoint}
-use Rattle.slate_state.specs.Checkpoints.{checkpoint_at, written, replaced, refreshed, deleted, unexpired}
+use Rattle.slate_updates.specs.Checkpoints.{checkpoint_at, written, replaced, refreshed, deleted, unexpired}
 use Rattle.slate_layout.specs.Codec.{encoded}
 use Rattle.slate_store.specs.Machines.{Goes, Stay, End}
-use Rattle.slate_script.specs.declared.call.Call.{Call}
-use Rattle.slate_script.specs.declared.call.Call.TheVariants.{OpenWriter, Flush, WriteCheckpoint, ReplaceCheckpoint, RefreshCheckpoint, DeleteCheckpoint, Pass}
-use Rattle.slate_script.specs.declared.filter_word.FilterWord.{FilterWord}
-use Rattle.slate_script.specs.declared.filter_word.FilterWord.TheVariants.{All, Nothing, Paths}
-use Rattle.slate_script.specs.declared.party_kind.PartyKind.{PartyKind}
-use Rattle.slate_script.specs.declared.party_kind.PartyKind.TheVariants.{Writer, Holder, Collector}
-use Rattle.slate_script.specs.declared.reply.Reply.{Reply}
-use Rattle.slate_script.specs.declared.reply.Reply.TheVariants.{Done, Epoch, Refused}
-use Rattle.slate_script.specs.declared.reply.Reply.TheVariants as reply
-use Rattle.slate_txn.specs.Apply.{renewed}
-use Rattle.slate_txn.specs.FencedUpdating.{unless}
-use Rattle.slate_txn.specs.Fencing.{fence}
+use Rattle.slate_events.specs.declared.call.Call.{Call}
+use Rattle.slate_events.specs.declared.call.Call.TheVariants.{OpenWriter, Flush, WriteCheckpoint, ReplaceCheckpoint, RefreshCheckpoint, DeleteCheckpoint, Pass}
+use Rattle.slate_events.specs.declared.filter_word.FilterWord.{FilterWord}
+use Rattle.slate_events.specs.declared.filter_word.FilterWord.TheVariants.{All, Nothing, Paths}
+use Rattle.slate_events.specs.declared.party_kind.PartyKind.{PartyKind}
+use Rattle.slate_events.specs.declared.party_kind.PartyKind.TheVariants.{Writer, Holder, Collector}
+use Rattle.slate_events.specs.declared.reply.Reply.{Reply}
+use Rattle.slate_events.specs.declared.reply.Reply.TheVariants.{Done, Epoch, Refused}
+use Rattle.slate_events.specs.declared.reply.Reply.TheVariants as reply
+use Rattle.slate_log.specs.Change.{renewed}
+use Rattle.slate_log.specs.Fence.{unless, fence}
 use Rattle.slate_gc.specs.declared.pass_counts.PassCounts.{PassCounts}
 use Rattle.slate_gc.specs.declared.pass_options.PassOptions.{PassOptions}
 use Rattle.slate_gc.specs.declared.pass_phase.PassPhase.TheVariants as passing
@@ -28,8 +27,8 @@ use Rattle.slate_log.specs.declared.read.ReadPhase.TheVariants.{Listing}
 use Rattle.slate_log.specs.declared.commit.CommitPhase.{CommitPhase}
 use Rattle.slate_log.specs.declared.right.Right.{Right}
 use Rattle.slate_log.specs.declared.right.Right.TheVariants.{Plain}
-use Rattle.slate_state.specs.Rules.{manifest_refusal}
-use Rattle.slate_state.specs.Writers.{raised_writer, flushed}
+use Rattle.slate_updates.specs.Rules.{manifest_refusal}
+use Rattle.slate_updates.specs.Writers.{raised_writer, flushed}
 use Rattle.slate_protocol.specs.Phrases.{at_read, at_commit, at_pass}
 use Rattle.slate_protocol.specs.declared.party.Facts.{Facts}
 use Rattle.slate_protocol.specs.declared.party.Purpose.{Purpose}

@@ -1,8 +1,8 @@
 -- Fenced epochs: no writer commits below the writer epoch of an earlier version.
 use Rattle.std.specs.Prelude.{◌≡◌, ℕ, ◌≤◌, [], ◌∷◌, Option, Some, None}
 use Rattle.slate_model.specs.declared.manifest.Manifest.{Manifest}
-use Rattle.slate_script.specs.declared.call.Call.{Call}
-use Rattle.slate_script.specs.declared.call.Call.TheVariants.{OpenWriter, Flush}
+use Rattle.slate_events.specs.declared.call.Call.{Call}
+use Rattle.slate_events.specs.declared.call.Call.TheVariants.{OpenWriter, Flush}
 use Rattle.slate_protocol.specs.Chains.{link_at}
 use Rattle.slate_protocol.specs.Logs.{Author, Chain}
 use Rattle.slate_protocol.specs.declared.party.Facts.{Facts}

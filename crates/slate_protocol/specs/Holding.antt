@@ -1,7 +1,7 @@
 -- What a party holds while it is in a call.
 use Rattle.std.specs.Prelude.{◌≡◌, ℕ, ◌+◌, ℤ, List, [], ◌∷◌, Some, Ok}
 use Rattle.slate_model.specs.declared.manifest.Manifest.{Manifest}
-use Rattle.slate_script.specs.declared.call.Call.{Call}
+use Rattle.slate_events.specs.declared.call.Call.{Call}
 use Rattle.slate_gc.specs.declared.pass_phase.PassPhase.{PassPhase}
 use Rattle.slate_gc.specs.declared.pass_phase.PassPhase.TheVariants as passing
 use Rattle.slate_protocol.specs.Calls.{new_value}

@@ -2,8 +2,8 @@
 use Rattle.std.specs.Prelude.{◌≡◌, ℕ, ◌≤◌, ◌<◌, true, List, ◌++◌, map, Some, None}
 use Rattle.std.specs.List.{list_all}
 use Rattle.slate_ids.specs.declared.object_path.ObjectPath.{ObjectPath}
-use Rattle.slate_script.specs.declared.db_spec.DbSpec.{DbSpec}
-use Rattle.slate_script.specs.declared.event.Event.{Event}
+use Rattle.slate_events.specs.declared.db_spec.DbSpec.{DbSpec}
+use Rattle.slate_events.specs.declared.event.Event.{Event}
 use Rattle.slate_protocol.specs.ByRows.{nobody, trail_by}
 use Rattle.slate_protocol.specs.Chains.{top, IsChain, bound_in, Stands}
 use Rattle.slate_protocol.specs.Fenced.{IsFenced}

@@ -1,21 +1,21 @@
 -- What a run committed, by database: kept beside the state, event by event.
 use Rattle.std.specs.Prelude.{ℕ, Bool, true, false, List, [], ◌∷◌, Option, Some, None, ℤ, pos, bytes_eq, if◌then◌else◌}
 use Rattle.slate_model.specs.declared.manifest.Manifest.{Manifest}
-use Rattle.slate_state.specs.Checkpoints.{is_named}
+use Rattle.slate_updates.specs.Checkpoints.{is_named}
 use Rattle.slate_layout.specs.Codec.{encoded}
-use Rattle.slate_layout.specs.Decoding.{decoded_manifest}
-use Rattle.slate_layout.specs.Normal.{normal_manifest}
+use Rattle.slate_manifest_parts.specs.Decoding.{decoded_manifest}
+use Rattle.slate_encodable.specs.Normal.{normal_manifest}
 use Rattle.slate_store.specs.Store.{effect}
 use Rattle.slate_store.specs.declared.mark.Mark.{Mark}
-use Rattle.slate_script.specs.declared.call.Call.{Call}
-use Rattle.slate_script.specs.declared.db_spec.DbSpec.{DbSpec}
-use Rattle.slate_script.specs.declared.event.Event.{Event}
-use Rattle.slate_script.specs.declared.event.Event.TheVariants.{Open, Start, Step, Stop}
+use Rattle.slate_events.specs.declared.call.Call.{Call}
+use Rattle.slate_events.specs.declared.db_spec.DbSpec.{DbSpec}
+use Rattle.slate_events.specs.declared.event.Event.{Event}
+use Rattle.slate_events.specs.declared.event.Event.TheVariants.{Open, Start, Step, Stop}
 use Rattle.slate_log.specs.declared.commit.CommitPhase.TheVariants.{Putting}
 use Rattle.slate_log.specs.declared.log_kind.LogKind.TheVariants.{Manifest as ManifestLog}
 use Rattle.slate_protocol.specs.Calls.{new_value, right_of, fence_of}
 use Rattle.slate_protocol.specs.Chains.{Link, Log, with_link}
-use Rattle.slate_state.specs.Rules.{manifest_refusal}
+use Rattle.slate_updates.specs.Rules.{manifest_refusal}
 use Rattle.slate_protocol.specs.Phrases.{asks, is_due}
 use Rattle.slate_protocol.specs.Specs.{first_bytes, listed_or_none}
 use Rattle.slate_protocol.specs.World.{World, party_of, wrote, happens}

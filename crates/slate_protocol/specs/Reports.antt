@@ -3,7 +3,7 @@ use Rattle.std.specs.Prelude.{ℕ, List, [], ◌∷◌, ◌++◌, map, Option, S
 use Rattle.std.specs.List.{flat_map}
 use Rattle.slate_ids.specs.declared.object_path.ObjectPath.{ObjectPath}
 use Rattle.slate_store.specs.declared.object.StoredObject.{StoredObject}
-use Rattle.slate_script.specs.Lines.{spaced, entries_text, left_line}
+use Rattle.slate_lines.specs.Lines.{spaced, entries_text, left_line}
 use Rattle.slate_protocol.specs.World.{World}
 use Rattle.slate_protocol.specs.Runs.{Ran}
 use Rattle.slate_protocol.specs.declared.tally.Tally.{Tally}

@@ -3,8 +3,8 @@
 use Rattle.std.specs.Prelude.{ℤ, List, [], ◌∷◌}
 use Rattle.slate_store.specs.declared.store_answer.StoreAnswer.{StoreAnswer}
 use Rattle.slate_store.specs.declared.store_call.StoreCall.{StoreCall}
-use Rattle.slate_script.specs.declared.call.Call.{Call}
-use Rattle.slate_script.specs.declared.reply.Reply.{Reply}
+use Rattle.slate_events.specs.declared.call.Call.{Call}
+use Rattle.slate_events.specs.declared.reply.Reply.{Reply}
 use Rattle.slate_protocol.specs.Phrases.{asks, goes}
 use Rattle.slate_protocol.specs.Calls.{Next, Go, Finish, begin, follow}
 use Rattle.slate_protocol.specs.declared.party.Facts.{Facts}

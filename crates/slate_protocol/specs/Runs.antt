@@ -1,8 +1,8 @@
 -- Runs of a list of events.
 use Rattle.std.specs.Prelude.{ℕ, ◌+◌, List, [], ◌∷◌, ◌++◌, Option, Some, None}
-use Rattle.slate_script.specs.declared.db_spec.DbSpec.{DbSpec}
-use Rattle.slate_script.specs.declared.event.Event.{Event}
-use Rattle.slate_script.specs.declared.entry.Entry.{Entry}
+use Rattle.slate_events.specs.declared.db_spec.DbSpec.{DbSpec}
+use Rattle.slate_events.specs.declared.event.Event.{Event}
+use Rattle.slate_events.specs.declared.entry.Entry.{Entry}
 use Rattle.slate_protocol.specs.Specs.{opening_world}
 use Rattle.slate_protocol.specs.World.{World, Done, happens}
 

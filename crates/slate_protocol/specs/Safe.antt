@@ -4,8 +4,8 @@ use Rattle.slate_ids.specs.declared.object_path.ObjectPath.{ObjectPath}
 use Rattle.slate_store.specs.Store.{Store, object_at, stands_at, effect}
 use Rattle.slate_store.specs.declared.store_call.StoreCall.{StoreCall}
 use Rattle.slate_store.specs.declared.store_call.StoreCall.TheVariants.{Delete}
-use Rattle.slate_script.specs.declared.entry.Entry.{Entry}
-use Rattle.slate_script.specs.declared.entry.Entry.TheVariants.{Called}
+use Rattle.slate_events.specs.declared.entry.Entry.{Entry}
+use Rattle.slate_events.specs.declared.entry.Entry.TheVariants.{Called}
 use Rattle.slate_ids.specs.declared.object_path.ObjectPath.TheVariants.{Manifest as ManifestPath}
 use Rattle.slate_protocol.specs.ByRows.{entry_store}
 use Rattle.slate_protocol.specs.Chains.{Link, link_at, bytes_of, bound_in}

@@ -14,8 +14,8 @@ use Rattle.slate_tables.specs.declared.ss_table_id.SsTableId.TheVariants.{Wal, C
 use Rattle.slate_tables.specs.declared.ss_table_info.SsTableInfo.{SsTableInfo}
 use Rattle.slate_tables.specs.Runs.{Run}
 use Rattle.slate_layout.specs.Codec.{encoded}
-use Rattle.slate_layout.specs.InfoCodec.{encoded_info}
-use Rattle.slate_layout.specs.Normal.{is_normal}
+use Rattle.slate_parts.specs.InfoCodec.{encoded_info}
+use Rattle.slate_encodable.specs.Normal.{is_normal}
 use Rattle.slate_ids.specs.Ulids.{id_cmp as ulid_cmp, is_id}
 use Rattle.slate_model.specs.declared.checkpoint.Checkpoint.{Checkpoint}
 use Rattle.slate_model.specs.declared.external_db.ExternalDb.{ExternalDb}
@@ -26,9 +26,9 @@ use Rattle.slate_model.specs.Selection.{are_apart}
 use Rattle.slate_model.specs.Trees.{trees_of, tables_of}
 use Rattle.slate_model.specs.Watermark.{watermark}
 use Rattle.slate_store.specs.Store.{Store, stored}
-use Rattle.slate_script.specs.declared.cluster_cause.ClusterCause.{ClusterCause}
-use Rattle.slate_script.specs.declared.cluster_cause.ClusterCause.TheVariants as cause
-use Rattle.slate_script.specs.declared.db_spec.DbSpec.{DbSpec}
+use Rattle.slate_events.specs.declared.cluster_cause.ClusterCause.{ClusterCause}
+use Rattle.slate_events.specs.declared.cluster_cause.ClusterCause.TheVariants as cause
+use Rattle.slate_events.specs.declared.db_spec.DbSpec.{DbSpec}
 use Rattle.slate_protocol.specs.Ids.{Carried, id_cmp, is_carried, nobodys}
 use Rattle.slate_protocol.specs.World.{World, db_cmp, tally_of}
 use Rattle.slate_protocol.specs.declared.tally.Tally.{Tally}

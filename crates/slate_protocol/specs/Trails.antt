@@ -5,8 +5,8 @@ use Rattle.slate_model.specs.declared.manifest.Manifest.{Manifest}
 use Rattle.slate_store.specs.Store.{Store, effect}
 use Rattle.slate_store.specs.declared.store_call.StoreCall.{StoreCall}
 use Rattle.slate_store.specs.declared.store_call.StoreCall.TheVariants.{PutNew}
-use Rattle.slate_script.specs.declared.entry.Entry.{Entry}
-use Rattle.slate_script.specs.declared.entry.Entry.TheVariants.{Called}
+use Rattle.slate_events.specs.declared.entry.Entry.{Entry}
+use Rattle.slate_events.specs.declared.entry.Entry.TheVariants.{Called}
 use Rattle.slate_protocol.specs.ByRows.{entry_store}
 use Rattle.slate_protocol.specs.Chains.{Link}
 use Rattle.slate_protocol.specs.Logs.{Author}

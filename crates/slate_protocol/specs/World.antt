@@ -11,14 +11,14 @@ use Rattle.slate_store.specs.Store.{Store, effect}
 use Rattle.slate_store.specs.declared.mark.Mark.{Mark}
 use Rattle.slate_store.specs.declared.store_call.StoreCall.{StoreCall}
 use Rattle.slate_store.specs.declared.store_call.StoreCall.TheVariants.{PutNew, Delete}
-use Rattle.slate_script.specs.declared.call.Call.{Call}
-use Rattle.slate_script.specs.declared.party_kind.PartyKind.{PartyKind}
-use Rattle.slate_script.specs.declared.event.Event.{Event}
-use Rattle.slate_script.specs.declared.event.Event.TheVariants.{Open, Start, Step, Stop}
-use Rattle.slate_script.specs.declared.entry.Entry.{Entry}
-use Rattle.slate_script.specs.declared.entry.Entry.TheVariants.{Opened, Started, Called, Stopped, Idle}
-use Rattle.slate_script.specs.declared.reply.Reply.{Reply}
-use Rattle.slate_script.specs.declared.reply.Reply.TheVariants.{Epoch}
+use Rattle.slate_events.specs.declared.call.Call.{Call}
+use Rattle.slate_events.specs.declared.party_kind.PartyKind.{PartyKind}
+use Rattle.slate_events.specs.declared.event.Event.{Event}
+use Rattle.slate_events.specs.declared.event.Event.TheVariants.{Open, Start, Step, Stop}
+use Rattle.slate_events.specs.declared.entry.Entry.{Entry}
+use Rattle.slate_events.specs.declared.entry.Entry.TheVariants.{Opened, Started, Called, Stopped, Idle}
+use Rattle.slate_events.specs.declared.reply.Reply.{Reply}
+use Rattle.slate_events.specs.declared.reply.Reply.TheVariants.{Epoch}
 use Rattle.slate_protocol.specs.Phrases.{asks, goes, is_due}
 use Rattle.slate_protocol.specs.Ids.{Carried, is_stale, ids_of, with_ids}
 use Rattle.slate_protocol.specs.Calls.{Next, Go, Finish, has_call, begin, follow}

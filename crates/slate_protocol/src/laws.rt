@@ -1,6 +1,6 @@
 //! What follows from the definitions alone.
 ghost use Rattle.std.specs.Prelude.{◌≡◌, ◌↔◌, None, true};
-ghost use Rattle.slate_script.specs.declared.event.Event.{Event};
+ghost use Rattle.slate_events.specs.declared.event.Event.{Event};
 ghost use Rattle.slate_protocol.specs.World.{World, happens, is_bad};
 
 /// An event does nothing exactly where it is bad.

@@ -1,8 +1,8 @@
 //! Parties of a cluster.
 
 use crate::position::Position;
+use slate_events::{Call, PartyKind};
 use slate_ids::{DbPath, Millis};
-use slate_script::{Call, PartyKind};
 
 /// What is known of a party between its calls.
 #[derive(Clone, Copy, Debug)]

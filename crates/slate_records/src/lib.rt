@@ -24,12 +24,3 @@ pub use source_id::SourceId;
 pub use subcompaction::Subcompaction;
 pub use versioned_compactions::VersionedCompactions;
 pub use worker_spec::WorkerSpec;
-
-#[cfg(test)]
-mod equality_tests;
-#[cfg(test)]
-mod record_tests;
-#[cfg(test)]
-mod retained_tests;
-#[cfg(test)]
-mod test_values;

@@ -1,10 +1,1 @@
-pub mod Fields
-pub mod Words
-pub mod Calls
-pub mod Events
-pub mod WrittenIds
-pub mod Databases
-pub mod Groups
-pub mod DatabaseFields
 pub mod Scripts
-pub mod Lines

@@ -2,21 +2,18 @@
 ghost use Rattle.std.specs.Prelude.{◌≡◌, ◌≤◌, ◌<◌, ◌+◌, ◌++◌, IfOk, OnOk, OnErr, length, Option, Some, None};
 ghost use Rattle.serde_json.specs.Read.{read};
 ghost use Rattle.serde_json.specs.View.{view, items_view};
-ghost use Rattle.slate_script.specs.Fields.{Gives};
-ghost use Rattle.slate_script.specs.Events.{expand, count_of};
-ghost use Rattle.slate_script.specs.DatabaseFields.{database_in};
+ghost use Rattle.slate_json.specs.Fields.{Gives};
+ghost use Rattle.slate_calls.specs.Events.{expand, count_of};
+ghost use Rattle.slate_databases.specs.DatabaseFields.{database_in};
 ghost use Rattle.slate_script.specs.Scripts.{Reads, at_place, databases_from, written_at, events_from, event_limit, top_in, parts_in, script_in, json_of, script_of};
-ghost use Rattle.slate_script.specs.declared.script.ScriptPlace.TheVariants.{Database};
+ghost use Rattle.slate_events.specs.declared.script.ScriptPlace.TheVariants.{Database};
 
-use crate::db_spec::DbSpec;
-use crate::event::Event;
-use crate::fields::{array_of, only};
-use crate::read_database::read_database;
-use crate::read_event::{Written, read_event};
-use crate::refusal::Refusal;
-use crate::script::{Script, ScriptError, ScriptPlace};
 use serde_json::Value;
+use slate_calls::{Written, read_event};
+use slate_databases::read_database;
+use slate_events::{DbSpec, Event, Script, ScriptError, ScriptPlace};
 use slate_ids::{Listed, OutOfMemory};
+use slate_json::{Refusal, array_of, only};
 use std::alloc::Global;
 use std::str;
 

@@ -2,8 +2,6 @@
 //! come from and go to: sources and sinks that count their faults.
 #![tactic(auto)]
 
-#[cfg(test)]
-mod ends_tests;
 mod list_dir;
 mod listing;
 mod made;
@@ -20,8 +18,6 @@ mod step;
 mod store;
 mod store_answer;
 mod store_call;
-#[cfg(test)]
-mod store_tests;
 mod writing;
 
 pub use list_dir::ListDir;

@@ -23,12 +23,3 @@ pub use ss_table_id::SsTableId;
 pub use ss_table_info::SsTableInfo;
 pub use ss_table_view::SsTableView;
 pub use table_tags::{CompressionTag, FilterFormat, SstType};
-
-#[cfg(test)]
-mod queue_tests;
-#[cfg(test)]
-mod run_tests;
-#[cfg(test)]
-mod test_values;
-#[cfg(test)]
-mod view_tests;

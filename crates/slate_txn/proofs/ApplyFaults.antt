@@ -9,7 +9,8 @@ use Rattle.slate_ids.specs.declared.error.SlateDBError.TheVariants.{StoreFault, 
 use Rattle.slate_store.specs.Machines.{Goes, Stay, End, IsEnd}
 use Rattle.slate_store.specs.declared.store_answer.StoreAnswer.{StoreAnswer}
 use Rattle.slate_store.specs.declared.store_answer.StoreAnswer.TheVariants.{Fault}
-use Rattle.slate_txn.specs.Apply.{Ways, FaultFree, renews, wanted, some_commit, begun, read_on, commit_on, apply_asks, apply_goes, state_due}
+use Rattle.slate_txn.specs.Apply.{Ways, FaultFree, renews, begun, read_on, commit_on, apply_asks, apply_goes, state_due}
+use Rattle.slate_log.specs.Change.{wanted, some_commit}
 use Rattle.slate_log.specs.Commit.{commit_goes, commit_due, prepared, checked_commit, encoded_commit}
 use Rattle.slate_log.proofs.Commits.{commit_faults}
 use Rattle.slate_log.proofs.Faults.{OnlyFaults, Fine, fine_stay, fine_ok, fine_err}

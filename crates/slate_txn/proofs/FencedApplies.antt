@@ -14,10 +14,11 @@ use Rattle.slate_log.specs.Read.{read_goes, Reply}
 use Rattle.slate_log.specs.declared.commit.CommitPhase.{CommitPhase}
 use Rattle.slate_log.specs.declared.read.ReadPhase.TheVariants.{Listing}
 use Rattle.slate_txn.proofs.Fences.{Free, commit_free, read_free}
-use Rattle.slate_txn.specs.Apply.{Ways, ApplyState, ApplyGoes, Applies, Begins, apply_asks, apply_goes, renews, begun, read_on, commit_on, wanted}
+use Rattle.slate_txn.specs.Apply.{Ways, ApplyState, ApplyGoes, Applies, Begins, apply_asks, apply_goes, renews, begun, read_on, commit_on}
+use Rattle.slate_log.specs.Change.{wanted}
 use Rattle.slate_txn.specs.FencedApplying.{FenceFree, fenced_made}
-use Rattle.slate_txn.specs.FencedUpdating.{unless}
-use Rattle.slate_txn.specs.Fencing.{fence, FencedOnly, NotFenced}
+use Rattle.slate_log.specs.Fence.{unless, fence}
+use Rattle.slate_txn.specs.Fencing.{FencedOnly, NotFenced}
 use Rattle.slate_txn.specs.Holder.{Holder, at_version}
 use Rattle.slate_txn.specs.declared.apply.ApplyPhase.{ApplyPhase}
 use Rattle.slate_txn.specs.declared.apply.ApplyPhase.TheVariants.{Reading, Committing}

@@ -12,7 +12,8 @@ use Rattle.slate_log.specs.Due.{FaultOf, FaultRose}
 use Rattle.slate_log.specs.declared.read.ReadPhase.{ReadPhase}
 use Rattle.slate_txn.specs.FencedHolder.{FencedHolder, state_within}
 use Rattle.slate_txn.specs.FencedRefreshing.{FencedRefreshed, fence_after, fence_after_step, fence_within, fenced_refresh_goes}
-use Rattle.slate_txn.specs.Fencing.{fence, held_fence, FencedOnly, FencedStep, NotFenced, NotFencedStep}
+use Rattle.slate_txn.specs.Fencing.{held_fence, FencedOnly, FencedStep, NotFenced, NotFencedStep}
+use Rattle.slate_log.specs.Fence.{fence}
 use Rattle.slate_txn.specs.Holder.{Holder}
 use Rattle.slate_txn.specs.Refreshing.{Refreshes, refresh_asks, refresh_goes}
 

@@ -8,7 +8,8 @@ use Rattle.slate_store.specs.Machines.{Goes, Stay, End}
 use Rattle.slate_store.specs.Runs.{Ran, Began}
 use Rattle.slate_store.specs.declared.store_call.StoreCall.{StoreCall}
 use Rattle.slate_store.specs.declared.store_answer.StoreAnswer.{StoreAnswer}
-use Rattle.slate_log.specs.Commit.{prepared, commit_asks, commit_goes, commit_due, commit_rank}
+use Rattle.slate_log.specs.Change.{renewed}
+use Rattle.slate_log.specs.Commit.{commit_asks, commit_goes, commit_due, commit_rank}
 use Rattle.slate_log.specs.Due.{NoFault}
 use Rattle.slate_txn.specs.Holder.{Holder, at_version}
 use Rattle.slate_log.specs.Read.{read_asks, read_goes, read_due, is_listing, rank}
@@ -31,21 +32,6 @@ ApplyGoes T C R = Goes (ApplyState T C R) (Unit {0})
 abbrev pub apply_asks : {T C R : Type 0} → ApplyState T C R → StoreCall
 apply_asks (Reading read, holder) = read_asks holder.sequenced.db holder.sequenced.log read
 apply_asks (Committing commit, holder) = commit_asks holder.sequenced.db holder.sequenced.log commit
-
--- a commit, where it is not refused
-abbrev pub some_commit : {T : Type 0} → Result (CommitPhase T) SlateDBError → Result (Option (CommitPhase T)) SlateDBError
-some_commit (Ok commit) = Ok (Some commit)
-some_commit (Err e) = Err e
-
--- after a change: none is no commit
-abbrev pub wanted : {T : Type 0} → (T → Result (CommitPhase T) SlateDBError) → Result (Option T) SlateDBError → Result (Option (CommitPhase T)) SlateDBError
-wanted prepare (Err e) = Err e
-wanted prepare (Ok None) = Ok None
-wanted prepare (Ok (Some value)) = some_commit (prepare value)
-
--- the commit of what a change makes of a version
-abbrev pub renewed : {T : Type 0} → (ℕ → T → Result (Option T) SlateDBError) → (ℕ → T → T → Right → Option SlateDBError) → (T → Result (List ℕ) SlateDBError) → Right → ℕ → T → Result (Option (CommitPhase T)) SlateDBError
-renewed changed refusal encoded right id value = wanted (λ new. prepared refusal encoded id value new right) (changed id value)
 
 -- what a holder is generic over: the codec's two directions, the rules, the change and the right
 pub record Ways (T C R : Type 0) : Type 0 where

@@ -5,7 +5,7 @@ use Rattle.slate_store.specs.Calls.{Told}
 use Rattle.slate_txn.specs.Apply.{Ways, Applies}
 use Rattle.slate_txn.specs.FencedHolder.{FencedHolder, fenced_at}
 use Rattle.slate_txn.specs.Holder.{Holder}
-use Rattle.slate_txn.specs.Raise.{next_epoch}
+use Rattle.slate_log.specs.Change.{next_epoch}
 use Rattle.slate_log.specs.declared.right.Right.{Right}
 use Rattle.slate_log.specs.declared.right.Right.TheVariants.{Plain}
 

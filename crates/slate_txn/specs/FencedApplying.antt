@@ -2,8 +2,8 @@
 use Rattle.std.specs.Prelude.{ℕ, Option, Result}
 use Rattle.slate_ids.specs.declared.error.SlateDBError.{SlateDBError}
 use Rattle.slate_txn.specs.Apply.{Ways, renews}
-use Rattle.slate_txn.specs.FencedUpdating.{unless}
-use Rattle.slate_txn.specs.Fencing.{fence, NoFence, NotFenced}
+use Rattle.slate_log.specs.Fence.{unless, fence}
+use Rattle.slate_txn.specs.Fencing.{NoFence, NotFenced}
 use Rattle.slate_txn.specs.Holder.{Holder}
 
 -- what the function makes of a version, unless its epoch is above the own one

@@ -14,11 +14,6 @@ use Rattle.slate_txn.specs.Updating.{UpdateState, update_goes}
 use Rattle.slate_txn.specs.declared.update.UpdateMachine.{UpdateMachine}
 use Rattle.slate_txn.specs.declared.update.UpdateMachine.TheVariants.{Refused, Nothing, Committing}
 
--- what begins unless a fence refuses it
-abbrev pub unless : {X : Type 0} → Option SlateDBError → Result X SlateDBError → Result X SlateDBError
-unless (Some e) start = Err e
-unless None start = start
-
 -- the machine and the fenced holder
 abbrev pub FencedUpdateState : Type 0 → Type 0 → Type 0 → Type 0 → Type 0
 FencedUpdateState T C R E = UpdateMachine T × FencedHolder T C R E

@@ -1,15 +1,12 @@
--- The fence: which versions refuse a holder.
+-- The fence of a holder: what it refuses, and what is never refused by it.
 use Rattle.std.specs.Prelude.{◌≡◌, ◌≢◌, ℕ, nat_lt, Option, Some, None, Result, Err, if◌then◌else◌}
 use Rattle.slate_ids.specs.declared.error.SlateDBError.{SlateDBError}
 use Rattle.slate_ids.specs.declared.error.SlateDBError.TheVariants.{Fenced}
 use Rattle.slate_store.specs.Calls.{Told}
 use Rattle.slate_store.specs.declared.step.Step.{Step}
 use Rattle.slate_store.specs.declared.step.Step.TheVariants.{Done}
+use Rattle.slate_log.specs.Fence.{fence}
 use Rattle.slate_txn.specs.FencedHolder.{FencedHolder}
-
--- a version with an epoch above the own one refuses, and no other does
-abbrev pub fence : ℕ → ℕ → Option SlateDBError
-fence own read = if nat_lt own read then Some (Fenced own read) else None
 
 -- the fence of the version held
 abbrev pub held_fence : {T C R E : Type 0} → (E → T → ℕ) → FencedHolder T C R E → Option SlateDBError

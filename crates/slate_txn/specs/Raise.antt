@@ -1,5 +1,5 @@
 -- The raise: the commit of the value read with its epoch plus one.
-use Rattle.std.specs.Prelude.{ℕ, ◌+◌, ◌-◌, ◌^◌, ◌==◌, List, Option, Result, Err, if◌then◌else◌, Ok, Some}
+use Rattle.std.specs.Prelude.{ℕ, ◌+◌, ◌-◌, ◌^◌, ◌==◌, List, Option, Result, Err, if◌then◌else◌}
 use Rattle.slate_ids.specs.declared.error.SlateDBError.{SlateDBError}
 use Rattle.slate_ids.specs.declared.error.SlateDBError.TheVariants.{Exhausted}
 use Rattle.slate_log.specs.Commit.{prepared}
@@ -11,7 +11,3 @@ use Rattle.slate_log.specs.declared.right.Right.TheVariants.{Plain}
 abbrev pub raised : {T : Type 0} → (ℕ → T → T → Right → Option SlateDBError) → (T → Result (List ℕ) SlateDBError) → (T → ℕ) → (T → ℕ → T) → ℕ → T → Result (CommitPhase T) SlateDBError
 raised refusal encoded epoch with_epoch id value =
     if epoch value == 2 ^ 64 - 1 then Err (Exhausted (epoch value)) else prepared refusal encoded id value (with_epoch value (epoch value + 1)) Plain
-
--- the value with its epoch plus one, as a change of the value read
-abbrev pub next_epoch : {T : Type 0} → (T → ℕ) → (T → ℕ → T) → ℕ → T → Result (Option T) SlateDBError
-next_epoch epoch with_epoch id value = if epoch value == 2 ^ 64 - 1 then Err (Exhausted (epoch value)) else Ok (Some (with_epoch value (epoch value + 1)))

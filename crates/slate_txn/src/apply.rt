@@ -6,11 +6,12 @@ ghost use Rattle.slate_store.specs.Machines.{Steps, GoesOn, IsAgain};
 ghost use Rattle.slate_log.specs.Commit.{is_putting};
 ghost use Rattle.slate_log.specs.Due.{StillDue, WhereOut, FaultOf, FaultRose};
 ghost use Rattle.slate_txn.specs.Changing.{ComputesWith};
-ghost use Rattle.slate_txn.specs.Apply.{renewed, apply_goes, apply_asks, apply_due, ApplyFalls, is_start, is_reading_phase, Applied, ApplyBegan, Applies, FaultFree};
+ghost use Rattle.slate_txn.specs.Apply.{apply_goes, apply_asks, apply_due, ApplyFalls, is_start, is_reading_phase, Applied, ApplyBegan, Applies, FaultFree};
+ghost use Rattle.slate_log.specs.Change.{renewed};
 
 use crate::stored::Stored;
 use slate_ids::{Millis, ObjectCodec, OutOfMemory, SlateDBError};
-use slate_log::{CommitPhase, ReadPhase, Right, Rules, prepare};
+use slate_log::{CommitPhase, ReadPhase, Right, Rules, prepare_change};
 use slate_store::{ObjectStore, Step, StoreAnswer, StoreCall, perform};
 use std::alloc::Global;
 
@@ -42,10 +43,8 @@ fn renew<
     ensures commit { (made : ℕ → T → Result (Option T) Refusal) → ComputesWith (F.post change.now) made → Gives result (renewed made (R.refusal rules.now) (C.encoded codec.now) right.now id value.now) }
     ensures putting { IfOk result (λ commit. IfSome commit (λ c. is_putting c ≡ true)) }
 {
-    match change(codec, id, value)? {
-        None => Ok(None),
-        Some(new) => Ok(Some(prepare(alloc, codec, rules, id, value, new, right)?)),
-    }
+    let changed = change(codec, id, value)?;
+    prepare_change(alloc, codec, rules, id, value, changed, right)
 }
 
 impl<T: Drop> ApplyPhase<T> {

@@ -6,11 +6,10 @@ ghost use Rattle.slate_log.specs.Due.{FaultOf};
 ghost use Rattle.slate_txn.specs.Fence.{FencedBy, raising};
 ghost use Rattle.slate_txn.specs.Fencing.{held_fence};
 
-use crate::fencing::fence;
-use crate::next_value::next_epoch;
+use crate::raise::raise_copy;
 use crate::stored::{DirtyObject, Stored};
 use slate_ids::{Epochs, Millis, ObjectCodec, SlateDBError};
-use slate_log::{Right, Rules};
+use slate_log::{Right, Rules, fence};
 use slate_store::ObjectStore;
 use std::alloc::Global;
 use std::marker::Model;
@@ -53,7 +52,7 @@ impl<T: Drop, C: ObjectCodec<T> + Drop, R: Rules<T> + Drop, E: Epochs<T> + Drop>
         ensures fault { FaultFree (raising C.decoded C.encoded R.refusal E.epoch E.with_epoch epochs) → FaultOf (S.told store.old) (S.told store.new) result }
     {
         let mut stored = stored;
-        let raise = |codec: &C, id: u64, value: &T| next_epoch(alloc, codec, &epochs, id, value);
+        let raise = |codec: &C, id: u64, value: &T| raise_copy(alloc, codec, &epochs, id, value);
         match stored.apply(alloc, &raise, &Right::Plain, store, moment, tries) {
             Err(e) => Err(e),
             Ok(()) => {

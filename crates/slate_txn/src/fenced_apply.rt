@@ -3,18 +3,18 @@ ghost use Rattle.std.specs.Prelude.{◌≡◌, ◌<◌, ℕ, Option, Result, IfO
 ghost use Rattle.slate_ids.specs.declared.error.SlateDBError.{SlateDBError as Refusal};
 ghost use Rattle.slate_log.specs.Due.{FaultOf};
 ghost use Rattle.slate_txn.specs.Changing.{Computes};
-ghost use Rattle.slate_txn.specs.Apply.{renewed, Applies, FaultFree};
+ghost use Rattle.slate_txn.specs.Apply.{Applies, FaultFree};
+ghost use Rattle.slate_log.specs.Change.{renewed};
 ghost use Rattle.slate_txn.specs.FencedApplying.{fenced_made, FenceFree};
-ghost use Rattle.slate_txn.specs.FencedUpdating.{unless};
+ghost use Rattle.slate_log.specs.Fence.{unless};
 ghost use Rattle.slate_txn.specs.Fencing.{held_fence, FencedOnly};
 ghost use Rattle.slate_txn.specs.Updating.{maybe_of, update_open};
 
 use crate::fenced::Fenced;
 use crate::fenced_update::FencedUpdateMachine;
-use crate::fencing::fence;
 use crate::update::UpdateMachine;
 use slate_ids::{Epochs, Millis, ObjectCodec, OutOfMemory, SlateDBError};
-use slate_log::{Right, Rules};
+use slate_log::{Right, Rules, fence};
 use slate_store::ObjectStore;
 use std::alloc::Global;
 

@@ -3,7 +3,8 @@ ghost use Rattle.std.specs.Prelude.{◌≡◌, ◌≢◌, ◌+◌, ◌⊎◌, If
 ghost use Rattle.slate_ids.specs.declared.error.SlateDBError.TheVariants.{StoreFault};
 ghost use Rattle.slate_log.specs.Due.{FaultOf, FaultRose, StillDue};
 ghost use Rattle.slate_txn.specs.FencedHolder.{fenced_version};
-ghost use Rattle.slate_txn.specs.FencedUpdating.{unless, FencedUpdateSteps};
+ghost use Rattle.slate_txn.specs.FencedUpdating.{FencedUpdateSteps};
+ghost use Rattle.slate_log.specs.Fence.{unless};
 ghost use Rattle.slate_txn.specs.Fencing.{held_fence, UnlessFenced, FencedOnly, NotFenced, NotFencedStep};
 ghost use Rattle.slate_txn.specs.Standing.{SameContents, UpdateStands, may_stand};
 ghost use Rattle.slate_txn.specs.Updating.{started, Updates, update_of, update_due, update_open};

@@ -3,7 +3,8 @@ ghost use Rattle.std.specs.Prelude.{◌≡◌, ◌<◌, ℕ, Option, Result, IfO
 ghost use Rattle.slate_ids.specs.declared.error.SlateDBError.{SlateDBError as Refusal};
 ghost use Rattle.slate_log.specs.Due.{FaultOf};
 ghost use Rattle.slate_txn.specs.Changing.{Computes};
-ghost use Rattle.slate_txn.specs.Apply.{renewed, Applies, FaultFree};
+ghost use Rattle.slate_txn.specs.Apply.{Applies, FaultFree};
+ghost use Rattle.slate_log.specs.Change.{renewed};
 ghost use Rattle.slate_txn.specs.Updating.{maybe_of, update_open};
 
 use crate::stored::Stored;

@@ -2,11 +2,26 @@
 ghost use Rattle.std.specs.Prelude.{◌≡◌, ◌+◌, IfOk, Some, true};
 ghost use Rattle.slate_ids.specs.Answers.{Gives};
 ghost use Rattle.slate_log.specs.Commit.{is_putting, commit_version};
+ghost use Rattle.slate_log.specs.Change.{next_epoch as raised_once};
 ghost use Rattle.slate_txn.specs.Raise.{raised};
 
 use slate_ids::{Epochs, ObjectCodec, SlateDBError};
-use slate_log::{CommitPhase, Right, Rules, prepare};
+use slate_log::{CommitPhase, Right, Rules, next_epoch, prepare};
 use std::alloc::Global;
+
+/// A copy of the value with its epoch plus one, to follow the version of this number. Refused with `Exhausted` at the last
+/// epoch.
+pub(crate) fn raise_copy<T: Drop, C: ObjectCodec<T>, E: Epochs<T>>(
+    alloc: Global,
+    codec: &C,
+    epochs: &E,
+    id: u64,
+    value: &T,
+) -> Result<Option<T>, SlateDBError>
+    ensures { Gives result (raised_once (E.epoch epochs.now) (E.with_epoch epochs.now) id value.now) }
+{
+    next_epoch(epochs, id, codec.copy(alloc, value)?)
+}
 
 /// The put of the value of this number with its epoch plus one. Refused are, in this order: the last epoch
 /// (`Exhausted`), the last number (`Exhausted`), a value that the rules refuse, and a value that has no bytes.

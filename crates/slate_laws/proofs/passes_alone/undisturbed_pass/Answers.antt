@@ -1,5 +1,5 @@
 use Rattle.slate_protocol.specs.Calls.{options_of}
-use Rattle.slate_script.specs.declared.call.Call.TheVariants.{Pass}
+use Rattle.slate_events.specs.declared.call.Call.TheVariants.{Pass}
 use Rattle.slate_laws.proofs.Undisturbed.{undisturbed}
 use Rattle.slate_laws.proofs.passes_alone.undisturbed_pass.Goals as goal
 

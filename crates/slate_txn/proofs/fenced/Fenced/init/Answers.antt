@@ -1,7 +1,7 @@
 use Rattle.std.proofs.Common.{Ok, Err, refl, rules, sym, ap, ◌∙◌, w64}
 use Rattle.std.proofs.lemmas.Int.{to_z-of_z}
 use Rattle.slate_txn.specs.Fence.{fenced_with}
-use Rattle.slate_txn.specs.Raise.{next_epoch}
+use Rattle.slate_log.specs.Change.{next_epoch}
 use Rattle.slate_txn.proofs.fenced.Fenced.init.Goals as goal
 
 pub returns-in-Err-clause-fenced : goal.returns-in-Err-clause-fenced

@@ -1,0 +1,51 @@
+//! Names of calls in a script.
+ghost use Rattle.std.specs.Prelude.{◌≡◌};
+ghost use Rattle.slate_calls.specs.Names.{name_word};
+
+use serde_json::Value;
+use slate_json::{FromJson, Refusal};
+use std::alloc::Global;
+
+/// The name of a call, which decides its fields.
+#[derive(Clone, Copy, Debug, Drop, PartialEq, Eq)]
+pub(crate) enum CallName {
+    OpenWriter,
+    Flush,
+    WriteCheckpoint,
+    ReplaceCheckpoint,
+    RefreshCheckpoint,
+    DeleteCheckpoint,
+    Pass,
+}
+
+#[tactic(auto, unfolding(crate::specs::Names::name_word))]
+fn name_of(text: &str) -> Option<CallName>
+    ensures { result ≡ name_word text.now }
+{
+    match text {
+        "open_writer" => Some(CallName::OpenWriter),
+        "flush" => Some(CallName::Flush),
+        "write_checkpoint" => Some(CallName::WriteCheckpoint),
+        "replace_checkpoint" => Some(CallName::ReplaceCheckpoint),
+        "refresh_checkpoint" => Some(CallName::RefreshCheckpoint),
+        "delete_checkpoint" => Some(CallName::DeleteCheckpoint),
+        "pass" => Some(CallName::Pass),
+        _ => None,
+    }
+}
+
+impl FromJson for CallName {
+    ghost use Rattle.slate_calls.specs.Names.{name_in};
+
+    ghost reads = { name_in };
+
+    fn from_json(_alloc: Global, d: &Value) -> Result<CallName, Refusal> {
+        match d.as_str() {
+            Some(text) => match name_of(text) {
+                Some(name) => Ok(name),
+                None => Err(Refusal::Malformed),
+            },
+            None => Err(Refusal::Malformed),
+        }
+    }
+}

@@ -1,0 +1,91 @@
+//! The events that an item of a script stands for.
+ghost use Rattle.serde_json.specs.View.{view};
+ghost use Rattle.slate_json.specs.Fields.{Gives};
+ghost use Rattle.slate_calls.specs.Events.{open_in, start_in, step_in, stop_in, written_in};
+
+use crate::read_call::read_call;
+use serde_json::Value;
+use slate_events::Event;
+use slate_ids::Millis;
+use slate_json::{Refusal, defaulted, only, required};
+use slate_store::Mark;
+use std::alloc::Global;
+
+/// An item of a script: a step may stand for several.
+#[derive(Debug, Drop)]
+pub enum Written {
+    /// One event.
+    Once(Event),
+    /// As many equal steps as `times` says, from 1 to 1,000.
+    Steps {
+        party: u32,
+        moment: Millis,
+        mark: Mark,
+        times: u32,
+    },
+}
+
+#[tactic(auto, unfolding(crate::specs::Events::open_in))]
+fn open(alloc: Global, d: &Value) -> Result<Written, Refusal>
+    ensures { Gives result (open_in (view d.now)) }
+{
+    only(d, &["open", "kind", "db"])?;
+    let party = required(alloc, d, "open")?;
+    let kind = required(alloc, d, "kind")?;
+    let db = required(alloc, d, "db")?;
+    Ok(Written::Once(Event::Open { party, kind, db }))
+}
+
+#[tactic(auto, unfolding(crate::specs::Events::start_in))]
+fn start(alloc: Global, d: &Value) -> Result<Written, Refusal>
+    ensures { Gives result (start_in (view d.now)) }
+{
+    let party = required(alloc, d, "start")?;
+    let call = read_call(alloc, d)?;
+    Ok(Written::Once(Event::Start { party, call }))
+}
+
+#[tactic(auto, unfolding(crate::specs::Events::step_in))]
+fn step(alloc: Global, d: &Value) -> Result<Written, Refusal>
+    ensures { Gives result (step_in (view d.now)) }
+{
+    only(d, &["step", "at", "mark", "times"])?;
+    let party = required(alloc, d, "step")?;
+    let moment = required(alloc, d, "at")?;
+    let mark = defaulted(alloc, d, "mark", Mark::Good)?;
+    let times: u32 = defaulted(alloc, d, "times", 1)?;
+    if times < 1 || times > 1000 {
+        return Err(Refusal::Malformed);
+    }
+    Ok(Written::Steps {
+        party,
+        moment,
+        mark,
+        times,
+    })
+}
+
+#[tactic(auto, unfolding(crate::specs::Events::stop_in))]
+fn stop(alloc: Global, d: &Value) -> Result<Written, Refusal>
+    ensures { Gives result (stop_in (view d.now)) }
+{
+    only(d, &["stop"])?;
+    let party = required(alloc, d, "stop")?;
+    Ok(Written::Once(Event::Stop { party }))
+}
+
+/// The events that an item of a script stands for.
+#[tactic(auto, unfolding(crate::specs::Events::written_in))]
+pub fn read_event(alloc: Global, d: &Value) -> Result<Written, Refusal>
+    ensures { Gives result (written_in (view d.now)) }
+{
+    if d.get("open").is_some() {
+        open(alloc, d)
+    } else if d.get("start").is_some() {
+        start(alloc, d)
+    } else if d.get("step").is_some() {
+        step(alloc, d)
+    } else {
+        stop(alloc, d)
+    }
+}

@@ -1,0 +1,4 @@
+mod Ascending
+mod Grouped
+mod Ids
+mod Markers

@@ -1,0 +1,3 @@
+pub mod Unencodable
+pub mod Normal
+pub mod NormalLaws

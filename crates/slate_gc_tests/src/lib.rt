@@ -1,0 +1,9 @@
+//! Tests of updates and passes, on public calls alone.
+#![tactic(auto)]
+
+#[cfg(test)]
+mod checkpoint_tests;
+#[cfg(test)]
+mod pass_tests;
+#[cfg(test)]
+mod rule_tests;

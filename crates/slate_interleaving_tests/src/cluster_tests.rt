@@ -1,0 +1,230 @@
+//! A cluster by its own calls: what a script's text doesn't tell, and what no script can say.
+
+use crate::test_clusters::{after, bad_place, db, does, script_of};
+use slate_cluster::{Cluster, NewError};
+use slate_ids::{CheckpointId, GcMessage, Listed, ObjectPath, Text};
+use slate_layout::decode_manifest;
+use slate_model::Checkpoint;
+use slate_script::{Call, ClusterCause, DbSpec, Event, FilterWord};
+use std::alloc::Global;
+use std::process::Abort;
+
+// A writer that opens, and flushes a second later.
+const FLUSH: &str = r#"{"databases":[{"path":"db"}],"events":[
+  {"open":1,"kind":"writer","db":"db"},{"start":1,"call":"open_writer"},{"step":1,"at":1000,"times":5},
+  {"start":1,"call":"flush","tables":[]},{"step":1,"at":2000,"times":5}]}"#;
+
+// The first manifest, with writer epoch 1.
+const RAISED: [u8; 97] = [
+    0, 2, 0, 0, 0, 0, 1, 0, 0, 0, 0, 0, 0, 0, 1, 0, 0, 0, 0, 0, 0, 0, 0, 0, 0, 0, 0, 0, 0, 0, 0, 0,
+    0, 0, 0, 0, 0, 0, 0, 0, 0, 0, 0, 0, 0, 0, 0, 0, 0, 0, 0, 0, 0, 0x80, 0, 0, 0, 0, 0, 0, 0, 0, 0,
+    0, 0, 0, 0, 0, 0, 0, 0, 0, 0, 0, 0, 0, 0, 0, 0, 0, 0, 0, 0, 0, 0, 0, 0, 0, 0, 0, 0, 0, 0, 0, 0,
+    0, 0,
+];
+
+// The same after a flush at sequence number 0 and tick 0, which the tracker has as its one pair.
+const FLUSHED: [u8; 113] = [
+    0, 2, 0, 0, 0, 0, 1, 0, 0, 0, 0, 0, 0, 0, 1, 0, 0, 0, 0, 0, 0, 0, 0, 0, 0, 0, 0, 0, 0, 0, 0, 0,
+    0, 0, 0, 0, 0, 0, 0, 0, 0, 0, 0, 0, 0, 0, 0, 0, 0, 0, 0, 0, 0, 0, 0, 0, 0, 0, 0, 0, 0, 0, 0, 0,
+    0, 0, 0, 0, 0, 0, 0, 0, 0, 0, 0, 0, 0, 0, 0, 0, 1, 0, 0, 0, 0, 0, 0, 0, 0, 0, 0, 0, 0, 0, 0, 0,
+    0, 0, 0, 0, 0, 0, 0, 0, 0, 0, 0, 0, 0, 0, 0, 0, 0,
+];
+
+// Whether a version has these bytes and was put at this moment.
+fn is_version(rt: &impl Abort, cluster: &Cluster, number: u64, bytes: &[u8], moment: i64) -> bool {
+    match cluster
+        .store()
+        .object(&ObjectPath::Manifest(db(rt), number))
+    {
+        None => false,
+        Some(object) => object.bytes.as_slice() == bytes && object.last_modified == moment,
+    }
+}
+
+#[test]
+fn manifests_are_put_as_their_bytes(rt: HostRuntime) {
+    let cluster = after(&rt, rt.alloc(), FLUSH);
+    assert!(rt; cluster.trail().len() == 13);
+    assert!(rt; is_version(&rt, &cluster, 2, RAISED.as_slice(), 1000));
+    assert!(rt; is_version(&rt, &cluster, 3, FLUSHED.as_slice(), 2000));
+}
+
+const COMES: &str =
+    r#"{"databases":[{"path":"db"}],"events":[{"open":1,"kind":"writer","db":"db"}]}"#;
+
+const OPENS: &str =
+    r#"{"databases":[],"events":[{"start":1,"call":"open_writer"},{"step":1,"at":1000}]}"#;
+
+// The events before a bad one stand, and the next run goes on from there.
+#[test]
+fn a_cluster_goes_on_after_a_bad_event(rt: HostRuntime) {
+    let comes = script_of(&rt, rt.alloc(), COMES);
+    let opens = script_of(&rt, rt.alloc(), OPENS);
+    let mut cluster = after(&rt, rt.alloc(), COMES);
+    assert!(rt; bad_place(rt.alloc(), &mut cluster, comes.events.as_slice()) == Some(0));
+    assert!(rt; cluster.trail().len() == 1);
+    does(&rt, rt.alloc(), &mut cluster, opens.events.as_slice());
+    assert!(rt; cluster.trail().len() == 3);
+}
+
+const COLLECTOR: &str =
+    r#"{"databases":[{"path":"db"}],"events":[{"open":1,"kind":"collector","db":"db"}]}"#;
+
+// Whether a collector can start this pass.
+fn starts(rt: &impl Abort, alloc: Global, pass: GcMessage, filter: FilterWord) -> bool {
+    let mut cluster = after(rt, alloc, COLLECTOR);
+    let call = Call::Pass {
+        pass,
+        min_age: 0,
+        dry_run: false,
+        filter,
+    };
+    let bad = bad_place(alloc, &mut cluster, &[Event::Start { party: 1, call }]);
+    bad.is_none() && cluster.trail().len() == 2
+}
+
+const PASSES: [(GcMessage, bool); 6] = [
+    (GcMessage::Manifest, true),
+    (GcMessage::Wal, false),
+    (GcMessage::WalFence, false),
+    (GcMessage::Compacted, false),
+    (GcMessage::Compactions, false),
+    (GcMessage::Detach, false),
+];
+
+#[test]
+fn manifests_alone_have_a_pass(rt: HostRuntime) {
+    for (pass, starting) in &PASSES {
+        assert!(rt; starts(&rt, rt.alloc(), *pass, FilterWord::All) == *starting);
+    }
+}
+
+#[test]
+fn filters_allow_all_or_nothing(rt: HostRuntime) {
+    let paths: Listed<Text> = Listed::new(rt.alloc());
+    assert!(rt;
+        !starts(
+            &rt,
+            rt.alloc(),
+            GcMessage::Manifest,
+            FilterWord::Paths(paths)
+        )
+    );
+    assert!(rt; starts(&rt, rt.alloc(), GcMessage::Manifest, FilterWord::Nothing));
+}
+
+// A database with a table.
+const TABLE: &str =
+    r#"{"databases":[{"path":"db","floor":100,"l0":[{"view":"5:1","table":"100:1"}]}],"events":[]}"#;
+
+// What is changed of the database before the cluster is made.
+#[derive(Clone, Copy)]
+enum Change {
+    Nothing,
+    // The table is taken out of the store.
+    NoTable,
+    // A checkpoint of the version of this number is added.
+    Checkpoint(u64),
+}
+
+fn change_spec(rt: &impl Abort, alloc: Global, spec: &mut DbSpec, change: Change) {
+    match change {
+        Change::Nothing => {}
+        Change::NoTable => spec.tables = Listed::new(alloc),
+        Change::Checkpoint(version) => {
+            let checkpoint = Checkpoint {
+                id: CheckpointId::from_u64(1),
+                manifest_id: version,
+                expire_time: None,
+                create_time: 0,
+                name: None,
+            };
+            let checkpoints = &mut spec.manifest.core.checkpoints;
+            checkpoints.push(checkpoint).expect(rt, "memory");
+        }
+    }
+}
+
+// Why no cluster is made.
+fn cause(rt: &impl Abort, alloc: Global, change: Change) -> Option<ClusterCause> {
+    let mut specs = script_of(rt, alloc, TABLE).databases.into_vec();
+    for spec in specs.as_mut_slice() {
+        change_spec(rt, alloc, spec, change);
+    }
+    match Cluster::new(alloc, specs) {
+        Err(NewError::BadCluster(cause)) => Some(cause),
+        _ => None,
+    }
+}
+
+// The tables of trees are present, and opening checkpoints name the first version.
+#[test]
+fn no_script_has_these_databases(rt: HostRuntime) {
+    assert!(rt; cause(&rt, rt.alloc(), Change::Nothing).is_none());
+    assert!(rt; cause(&rt, rt.alloc(), Change::NoTable) == Some(ClusterCause::Tables));
+    assert!(rt; cause(&rt, rt.alloc(), Change::Checkpoint(1)).is_none());
+    assert!(rt; cause(&rt, rt.alloc(), Change::Checkpoint(2)) == Some(ClusterCause::Checkpoints));
+}
+
+// A checkpoint that a step at 1500 makes, whose moments are whole seconds.
+const LIFETIME: &str = r#"{"databases":[{"path":"db"}],"events":[
+  {"open":1,"kind":"holder","db":"db"},{"start":1,"call":"write_checkpoint","id":7,"lifetime":2500},
+  {"step":1,"at":1500,"times":5}]}"#;
+
+// A checkpoint whose put lost its answer, and a second one.
+const LOST: &str = r#"{"databases":[{"path":"db"}],"events":[
+  {"open":1,"kind":"holder","db":"db"},{"start":1,"call":"write_checkpoint","id":7},
+  {"step":1,"at":1000,"times":3},{"step":1,"at":1000,"mark":"lost"},
+  {"start":1,"call":"write_checkpoint","id":8},{"step":1,"at":1000,"times":5}]}"#;
+
+// A checkpoint: its number, the version that it names, its expiry and when it was made.
+type Made = (u64, u64, Option<i64>, i64);
+
+// A script, a number, and the checkpoints of the version of this number.
+const MADE: [(&str, u64, &[Made]); 2] = [
+    (LIFETIME, 2, &[(7, 2, Some(4000), 1000)]),
+    (LOST, 3, &[(7, 2, None, 1000), (8, 3, None, 1000)]),
+];
+
+fn is_made(checkpoint: &Checkpoint, made: Made) -> bool {
+    checkpoint.id.is(&CheckpointId::from_u64(made.0))
+        && checkpoint.manifest_id == made.1
+        && checkpoint.expire_time == made.2
+        && checkpoint.create_time == made.3
+}
+
+fn are_made(checkpoints: &[Checkpoint], made: &[Made]) -> bool {
+    for (i, checkpoint) in checkpoints.iter().enumerate() {
+        match made.get(i) {
+            Some(made) if is_made(checkpoint, *made) => {}
+            _ => return false,
+        }
+    }
+    checkpoints.len() == made.len()
+}
+
+// Whether the bytes are of a manifest with just these checkpoints.
+fn tells(rt: &impl Abort, alloc: Global, bytes: &[u8], made: &[Made]) -> bool {
+    let manifest = decode_manifest(alloc, bytes).expect(rt, "a manifest");
+    are_made(manifest.core.checkpoints.as_slice(), made)
+}
+
+// Whether a version that a script leaves has just these checkpoints.
+fn leaves(rt: &impl Abort, alloc: Global, script: &str, number: u64, made: &[Made]) -> bool {
+    let cluster = after(rt, alloc, script);
+    match cluster
+        .store()
+        .object(&ObjectPath::Manifest(db(rt), number))
+    {
+        None => false,
+        Some(object) => tells(rt, alloc, object.bytes.as_slice(), made),
+    }
+}
+
+// Each names the version that its commit makes.
+#[test]
+fn checkpoints_stand_in_their_own_version(rt: HostRuntime) {
+    for (script, number, made) in &MADE {
+        assert!(rt; leaves(&rt, rt.alloc(), script, *number, made), "{script}");
+    }
+}

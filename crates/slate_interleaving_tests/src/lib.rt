@@ -1,0 +1,21 @@
+//! Tests of passes, of clusters by their own calls, and of calls whose steps mix, on public calls alone.
+#![tactic(auto)]
+
+#[cfg(test)]
+mod cluster_tests;
+#[cfg(test)]
+mod generated_tests;
+#[cfg(test)]
+mod order_tests;
+#[cfg(test)]
+mod pass_tests;
+#[cfg(test)]
+mod race_tests;
+#[cfg(test)]
+mod test_audit;
+#[cfg(test)]
+mod test_clusters;
+#[cfg(test)]
+mod test_lists;
+#[cfg(test)]
+mod test_runs;

@@ -1,0 +1,4 @@
+pub mod Fields
+pub mod WrittenIds
+pub mod Words
+pub mod Checkpoints

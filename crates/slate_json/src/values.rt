@@ -1,0 +1,160 @@
+//! JSON values that stand for plain values.
+ghost use Rattle.std.specs.Prelude.{◌≡◌, Option, IfOk};
+ghost use Rattle.serde_json.specs.Data.{Data};
+ghost use Rattle.serde_json.specs.Find.{as_str};
+ghost use Rattle.serde_json.specs.View.{view, items_view};
+ghost use Rattle.slate_json.specs.WrittenIds.{id_in};
+ghost use Rattle.slate_json.specs.Fields.{Gives, u64_in, u32_in, i64_in, bool_in, db_path_in, checkpoint_id_in, items_in, list_in};
+
+use crate::refusal::Refusal;
+use crate::written_id::written_id;
+use bytes::Bytes;
+use serde_json::Value;
+use slate_ids::{CheckpointId, DbPath, Listed, OutOfMemory, Text, Ulid};
+use std::alloc::Global;
+
+/// What a JSON value may stand for.
+pub trait FromJson: Drop {
+    /// What it stands for, where it does.
+    ghost reads: { Data → Option Self };
+
+    /// Reads it.
+    fn from_json(alloc: Global, value: &Value) -> Result<Self, Refusal>
+    where
+        Self: Sized,
+        ensures { Gives result (reads (view value.now)) };
+}
+
+// The bytes of a text.
+fn copied(alloc: Global, text: &str) -> Result<Bytes, OutOfMemory>
+    ensures { IfOk result (λ bytes. bytes ≡ text.now) }
+{
+    Ok(Bytes::copy_from_slice(alloc, text.as_bytes())?)
+}
+
+impl FromJson for u64 {
+    ghost reads = { u64_in };
+
+    fn from_json(_alloc: Global, value: &Value) -> Result<u64, Refusal> {
+        match value.as_u64() {
+            Some(n) => Ok(n),
+            None => Err(Refusal::Malformed),
+        }
+    }
+}
+
+impl FromJson for u32 {
+    ghost reads = { u32_in };
+
+    fn from_json(_alloc: Global, value: &Value) -> Result<u32, Refusal> {
+        match value.as_u64() {
+            Some(n) if n < 1 << 32 => Ok(n as u32),
+            _ => Err(Refusal::Malformed),
+        }
+    }
+}
+
+impl FromJson for i64 {
+    ghost reads = { i64_in };
+
+    fn from_json(_alloc: Global, value: &Value) -> Result<i64, Refusal> {
+        match value.as_i64() {
+            Some(n) => Ok(n),
+            None => Err(Refusal::Malformed),
+        }
+    }
+}
+
+impl FromJson for bool {
+    ghost reads = { bool_in };
+
+    fn from_json(_alloc: Global, value: &Value) -> Result<bool, Refusal> {
+        match value.as_bool() {
+            Some(b) => Ok(b),
+            None => Err(Refusal::Malformed),
+        }
+    }
+}
+
+impl FromJson for DbPath {
+    ghost reads = { db_path_in };
+
+    fn from_json(_alloc: Global, value: &Value) -> Result<DbPath, Refusal> {
+        match value.as_str() {
+            Some(text) => match DbPath::from_text(text)? {
+                Some(path) => Ok(path),
+                None => Err(Refusal::Malformed),
+            },
+            None => Err(Refusal::Malformed),
+        }
+    }
+}
+
+impl FromJson for Text {
+    ghost reads = { as_str };
+
+    fn from_json(alloc: Global, value: &Value) -> Result<Text, Refusal> {
+        match value.as_str() {
+            Some(text) => Ok(Text::copy_of(alloc, text)?),
+            None => Err(Refusal::Malformed),
+        }
+    }
+}
+
+impl FromJson for Bytes {
+    ghost reads = { as_str };
+
+    fn from_json(alloc: Global, value: &Value) -> Result<Bytes, Refusal> {
+        match value.as_str() {
+            Some(text) => Ok(copied(alloc, text)?),
+            None => Err(Refusal::Malformed),
+        }
+    }
+}
+
+impl FromJson for Ulid {
+    ghost reads = { id_in };
+
+    fn from_json(_alloc: Global, value: &Value) -> Result<Ulid, Refusal> {
+        match value.as_str() {
+            Some(text) => match written_id(text.as_bytes()) {
+                Some(id) => Ok(id),
+                None => Err(Refusal::Malformed),
+            },
+            None => Err(Refusal::Malformed),
+        }
+    }
+}
+
+impl FromJson for CheckpointId {
+    ghost reads = { checkpoint_id_in };
+
+    fn from_json(_alloc: Global, value: &Value) -> Result<CheckpointId, Refusal> {
+        match value.as_u64() {
+            Some(n) => Ok(CheckpointId::from_u64(n)),
+            None => Err(Refusal::Malformed),
+        }
+    }
+}
+
+impl<T: FromJson> FromJson for Listed<T> {
+    ghost reads = { list_in T.reads };
+
+    fn from_json(alloc: Global, value: &Value) -> Result<Listed<T>, Refusal> {
+        match value.as_array() {
+            Some(values) => all(alloc, values),
+            None => Err(Refusal::Malformed),
+        }
+    }
+}
+
+// Each of the values.
+fn all<T: FromJson>(alloc: Global, values: &[Value]) -> Result<Listed<T>, Refusal>
+    ensures { Gives result (items_in T.reads (items_view values.now)) }
+{
+    let mut items = Listed::new(alloc);
+    for value in values {
+        items.push(T::from_json(alloc, value)?)?;
+    }
+    Ok(items)
+}

@@ -1,0 +1,119 @@
+//! Words of a script.
+ghost use Rattle.std.specs.Prelude.{◌≡◌};
+ghost use Rattle.slate_json.specs.Words.{kind_word, mark_word, pass_word, filter_word};
+
+use crate::refusal::Refusal;
+use crate::values::FromJson;
+use serde_json::Value;
+use slate_events::{FilterWord, PartyKind};
+use slate_ids::GcMessage;
+use slate_store::Mark;
+use std::alloc::Global;
+
+#[tactic(auto, unfolding(crate::specs::Words::kind_word))]
+fn kind_of(text: &str) -> Option<PartyKind>
+    ensures { result ≡ kind_word text.now }
+{
+    match text {
+        "writer" => Some(PartyKind::Writer),
+        "holder" => Some(PartyKind::Holder),
+        "collector" => Some(PartyKind::Collector),
+        _ => None,
+    }
+}
+
+impl FromJson for PartyKind {
+    ghost use Rattle.slate_json.specs.Words.{kind_in};
+
+    ghost reads = { kind_in };
+
+    fn from_json(_alloc: Global, d: &Value) -> Result<PartyKind, Refusal> {
+        match d.as_str() {
+            Some(text) => match kind_of(text) {
+                Some(kind) => Ok(kind),
+                None => Err(Refusal::Malformed),
+            },
+            None => Err(Refusal::Malformed),
+        }
+    }
+}
+
+#[tactic(auto, unfolding(crate::specs::Words::mark_word))]
+fn mark_of(text: &str) -> Option<Mark>
+    ensures { result ≡ mark_word text.now }
+{
+    match text {
+        "fail" => Some(Mark::Fail),
+        "lost" => Some(Mark::Lost),
+        _ => None,
+    }
+}
+
+impl FromJson for Mark {
+    ghost use Rattle.slate_json.specs.Words.{mark_in};
+
+    ghost reads = { mark_in };
+
+    fn from_json(_alloc: Global, d: &Value) -> Result<Mark, Refusal> {
+        match d.as_str() {
+            Some(text) => match mark_of(text) {
+                Some(mark) => Ok(mark),
+                None => Err(Refusal::Malformed),
+            },
+            None => Err(Refusal::Malformed),
+        }
+    }
+}
+
+#[tactic(auto, unfolding(crate::specs::Words::pass_word))]
+fn pass_of(text: &str) -> Option<GcMessage>
+    ensures { result ≡ pass_word text.now }
+{
+    match text {
+        "manifest" => Some(GcMessage::Manifest),
+        _ => None,
+    }
+}
+
+impl FromJson for GcMessage {
+    ghost use Rattle.slate_json.specs.Words.{pass_in};
+
+    ghost reads = { pass_in };
+
+    fn from_json(_alloc: Global, d: &Value) -> Result<GcMessage, Refusal> {
+        match d.as_str() {
+            Some(text) => match pass_of(text) {
+                Some(pass) => Ok(pass),
+                None => Err(Refusal::Malformed),
+            },
+            None => Err(Refusal::Malformed),
+        }
+    }
+}
+
+#[tactic(auto, unfolding(crate::specs::Words::filter_word))]
+fn filter_of(text: &str) -> Option<FilterWord>
+    ensures { result ≡ filter_word text.now }
+{
+    match text {
+        "all" => Some(FilterWord::All),
+        "none" => Some(FilterWord::Nothing),
+        _ => None,
+    }
+}
+
+impl FromJson for FilterWord {
+    ghost use Rattle.slate_json.specs.Words.{filter_in};
+
+    ghost reads = { filter_in };
+
+    fn from_json(_alloc: Global, d: &Value) -> Result<FilterWord, Refusal> {
+        match d.as_str() {
+            Some(text) => match filter_of(text) {
+                Some(filter) => Ok(filter),
+                None => Err(Refusal::Malformed),
+            },
+            None => Err(Refusal::Malformed),
+        }
+    }
+}

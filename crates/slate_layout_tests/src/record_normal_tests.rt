@@ -1,0 +1,171 @@
+//! What is read back of a record, and fields of records that have no bytes.
+
+use crate::record_test_rows::read_record;
+use crate::test_texts::bytes_of;
+use bytes::Bytes;
+use slate_ids::{BytesRange, FieldName, Listed, SlateDBError, Ulid};
+use slate_layout::{encode_compactions, normal_form_compactions};
+use slate_model::{Plain, SsTableHandle, SsTableId, SsTableInfo};
+use slate_records::{
+    Compaction, CompactionContext, CompactionSpec, CompactionStatus, Compactions, SourceId,
+    Subcompaction,
+};
+use std::alloc::Global;
+use std::process::Abort;
+
+/// A list of one item.
+fn one<T: Drop>(rt: &impl Abort, alloc: Global, item: T) -> Listed<T> {
+    let mut items = Listed::new(alloc);
+    items.push(item).expect(rt, "memory");
+    items
+}
+
+/// The id of this number.
+fn id(number: u32) -> Ulid {
+    Ulid::from_parts(number as u64, 0)
+}
+
+/// A merge of run 7 and view 5, in this order.
+fn merge(rt: &impl Abort, alloc: Global) -> CompactionSpec {
+    let mut sources = one(rt, alloc, SourceId::SortedRun(7));
+    sources.push(SourceId::SstView(id(5))).expect(rt, "memory");
+    CompactionSpec::Tiered {
+        segment: Bytes::from("seg"),
+        sources,
+        destination: 3,
+    }
+}
+
+/// One output: table 11, or a file of the write-ahead log.
+fn outputs(rt: &impl Abort, alloc: Global, is_compacted: bool) -> Listed<SsTableHandle> {
+    let table = SsTableHandle {
+        id: if is_compacted {
+            SsTableId::Compacted(id(11))
+        } else {
+            SsTableId::Wal(1)
+        },
+        format_version: 2,
+        info: SsTableInfo::default(),
+    };
+    one(rt, alloc, table)
+}
+
+/// What a worker goes on with, of these parts, without a retention.
+fn context(parts: Listed<Subcompaction>) -> CompactionContext {
+    CompactionContext {
+        subcompactions: parts,
+        retention_min_seq: None,
+    }
+}
+
+/// A record of that merge, submitted, with one output and these parts.
+fn record(
+    rt: &impl Abort,
+    alloc: Global,
+    is_compacted: bool,
+    parts: Listed<Subcompaction>,
+) -> Compactions {
+    let compaction = Compaction {
+        id: id(9),
+        spec: merge(rt, alloc),
+        status: CompactionStatus::Submitted,
+        worker: None,
+        output_ssts: outputs(rt, alloc, is_compacted),
+        ctx: Some(context(parts)),
+    };
+    let mut record = Compactions::new(alloc, 4);
+    record.insert(compaction).expect(rt, "memory");
+    record
+}
+
+/// The bytes of that record without parts: views before runs, no outputs, retention 0.
+const NORMAL: [&str; 9] = [
+    "0002",
+    "0000000000000004",
+    "00000001",
+    "000000000009 00000000000000000000",
+    "00 00000003 736567",
+    "00000001 000000000005 00000000000000000000",
+    "00000001 00000007",
+    "00000003",
+    "00 00 00000000 01 00000000 0000000000000000",
+];
+
+/// Whether a record has these bytes.
+fn has_bytes(rt: &impl Abort, alloc: Global, record: &Compactions) -> bool {
+    let bytes = bytes_of(rt, alloc, &NORMAL);
+    encode_compactions(alloc, record).expect(rt, "bytes") == bytes
+}
+
+/// Whether the record of these bytes is a record's normal form.
+fn is_normal(rt: &impl Abort, alloc: Global, record: &Compactions) -> bool {
+    let normal = normal_form_compactions(alloc, record).expect(rt, "memory");
+    normal.is(&read_record(rt, alloc, &NORMAL, &[]))
+}
+
+#[test]
+fn the_normal_form_is_what_is_read_back(rt: HostRuntime) {
+    let record = record(&rt, rt.alloc(), true, Listed::new(rt.alloc()));
+    assert!(rt; has_bytes(&rt, rt.alloc(), &record));
+    assert!(rt; is_normal(&rt, rt.alloc(), &record));
+}
+
+/// How many outputs compaction 9 of a record has.
+fn output_count(record: &Compactions) -> Option<usize> {
+    match record.get(id(9)) {
+        Some(compaction) => Some(compaction.output_ssts.as_slice().len()),
+        None => None,
+    }
+}
+
+#[test]
+fn a_submitted_compaction_has_no_outputs(rt: HostRuntime) {
+    let record = record(&rt, rt.alloc(), true, Listed::new(rt.alloc()));
+    let normal = normal_form_compactions(rt.alloc(), &record).expect(&rt, "memory");
+    assert!(rt; output_count(&record) == Some(1));
+    assert!(rt; output_count(&normal) == Some(0));
+}
+
+/// Parts: none, or one of no keys.
+fn parts(rt: &impl Abort, alloc: Global, has_keys: bool) -> Listed<Subcompaction> {
+    if has_keys {
+        return Listed::new(alloc);
+    }
+    let part = Subcompaction {
+        range: BytesRange::new_empty(),
+        output_ssts: Listed::new(alloc),
+    };
+    one(rt, alloc, part)
+}
+
+/// Whether outputs are compacted tables, whether parts have keys, and the field that has no bytes.
+const FIELDS: [(bool, bool, Option<FieldName>); 4] = [
+    (true, true, None),
+    (true, false, Some(FieldName::NoKeys)),
+    (false, true, Some(FieldName::WalId)),
+    (false, false, Some(FieldName::WalId)),
+];
+
+/// The field of such a record that has no bytes.
+fn refused(
+    rt: &impl Abort,
+    alloc: Global,
+    is_compacted: bool,
+    has_keys: bool,
+) -> Option<FieldName> {
+    let record = record(rt, alloc, is_compacted, parts(rt, alloc, has_keys));
+    match encode_compactions(alloc, &record) {
+        Err(SlateDBError::Unencodable(field)) => Some(field),
+        _ => None,
+    }
+}
+
+#[test]
+fn outputs_of_the_log_and_ranges_without_keys_have_no_bytes(rt: HostRuntime) {
+    for (is_compacted, has_keys, field) in &FIELDS {
+        assert!(rt;
+            refused(&rt, rt.alloc(), *is_compacted, *has_keys) == *field,
+            "at {field:?}"
+        );
+    }
+}

@@ -1,0 +1,8 @@
+//! The lines of a report.
+#![tactic(auto)]
+
+mod report_lines;
+mod store_lines;
+
+pub use report_lines::{entry_line, push_cause, push_entries, push_entry, push_left, push_place};
+pub use store_lines::push_path;

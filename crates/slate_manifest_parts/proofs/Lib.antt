@@ -1,0 +1,2 @@
+mod Used
+mod Gathering

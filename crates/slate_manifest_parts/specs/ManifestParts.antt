@@ -1,0 +1,145 @@
+-- The bytes of a manifest after its tables: version 2.
+use Rattle.std.specs.Prelude.{◌≡◌, ℕ, ℤ, ◌+◌, ◌-◌, ◌==◌, ◌&&◌, not, Bool, true, List, Option, Some, None, if◌then◌else◌}
+use Rattle.std.specs.List.{list_all}
+use Rattle.slate_tables.specs.declared.ss_table_handle.SsTableHandle.{SsTableHandle}
+use Rattle.slate_model.specs.declared.lsm_tree_state.LsmTreeState.{LsmTreeState}
+use Rattle.slate_model.specs.declared.checkpoint.Checkpoint.{Checkpoint}
+use Rattle.slate_model.specs.declared.external_db.ExternalDb.{ExternalDb}
+use Rattle.slate_model.specs.declared.manifest.Manifest.{Manifest}
+use Rattle.slate_model.specs.Segments.{Prefixed, are_ascending}
+use Rattle.slate_model.specs.Trees.{views_of}
+use Rattle.slate_parts.specs.Tables.{table_id, ascend}
+use Rattle.slate_manifest_parts.specs.UsedTables.{any_of}
+use Rattle.slate_parts.specs.Bytes.{is_u64, is_i64, u64_bytes, i64_bytes, flag_bytes, counted_bytes, option_bytes, list_bytes, pair_bytes}
+use Rattle.slate_parts.specs.Reading.{◌>>=◌, u64_in, i64_in, flag_in, option_in, list_in, pair_in, whole}
+use Rattle.slate_parts.specs.Reads.{Reads, OptionFits, ListFits, PairFits, option_reads, list_reads, pair_reads}
+use Rattle.slate_parts.specs.Atoms.{u64_reads, i64_reads, flag_reads}
+use Rattle.slate_parts.specs.Texts.{text_in, TextFits, text_reads}
+use Rattle.slate_parts.specs.InfoParts.{handle_in}
+use Rattle.slate_manifest_parts.specs.TreeParts.{tree_bytes, tree_in, TreeFits, tree_reads, segment_bytes, segment_in, SegmentFits, segment_reads}
+use Rattle.slate_manifest_parts.specs.CheckpointParts.{checkpoint_bytes, checkpoint_in, CheckpointFits, checkpoint_reads, entry_bytes, entry_in, EntryFits, entry_reads, tracker_bytes, tracker_in, TrackerFits, tracker_reads}
+
+-- ---- the parts
+
+-- whether the database is ready; the epochs of the writer and of the compactor; the last replayed file of the write-ahead log and the last one seen
+abbrev pub Head : Type 0
+Head = Bool × ((ℕ × ℕ) × (ℕ × ℕ))
+
+-- the extractor's name; the last clock tick; the last sequence number and the least that a snapshot needs
+abbrev pub Middle : Type 0
+Middle = Option (List ℕ) × (ℤ × (ℕ × ℕ))
+
+-- the tracker, the checkpoints, the entries, and the floor
+abbrev pub Tail : Type 0
+Tail = List (ℕ × ℤ) × (List Checkpoint × (List ExternalDb × ℕ))
+
+-- head, root tree, segments, middle, tail
+abbrev pub Body : Type 0
+Body = Head × (LsmTreeState × (List Prefixed × (Middle × Tail)))
+
+-- the greatest number of 64 bits
+abbrev pub last_number : ℕ
+last_number = 18446744073709551615
+
+-- the manifest of its parts
+abbrev pub joined : Body → Manifest
+joined b = record { external_dbs = b.1.1.1.1.1.1.0; core = record { initialized = b.0.0; tree = b.1.0; segments = b.1.1.0; segment_extractor_name = b.1.1.1.0.0; wal_object_store_uri = None; next_wal_sst_id = b.0.1.1.1 + 1; replay_after_wal_id = b.0.1.1.0; last_l0_seq = b.1.1.1.0.1.1.0; recent_snapshot_min_seq = b.1.1.1.0.1.1.1; floor = b.1.1.1.1.1.1.1; last_l0_clock_tick = b.1.1.1.0.1.0; sequence_tracker = b.1.1.1.1.0; checkpoints = b.1.1.1.1.1.0 }; writer_epoch = b.0.1.0.0; compactor_epoch = b.0.1.0.1 }
+
+-- the same, where a next file of the write-ahead log has a number, and the segments ascend
+abbrev pub manifest_of : Body → Option Manifest
+manifest_of b = if not (b.0.1.1.1 == last_number) && are_ascending b.1.1.0 then Some (joined b) else None
+
+-- the parts of a manifest: the last file seen of the write-ahead log stands before the next one
+abbrev pub body_of : Manifest → Body
+body_of m = ((m.core.initialized, ((m.writer_epoch, m.compactor_epoch), (m.core.replay_after_wal_id, m.core.next_wal_sst_id - 1))), (m.core.tree, (m.core.segments, ((m.core.segment_extractor_name, (m.core.last_l0_clock_tick, (m.core.last_l0_seq, m.core.recent_snapshot_min_seq))), (m.core.sequence_tracker, (m.core.checkpoints, (m.external_dbs, m.core.floor)))))))
+
+-- ---- their bytes
+
+abbrev IsU64 : ℕ → Type 0
+IsU64 n = is_u64 n ≡ true
+
+abbrev two_in : List ℕ → Option ((ℕ × ℕ) × List ℕ)
+two_in = pair_in u64_in u64_in
+
+abbrev two_bytes : ℕ × ℕ → List ℕ
+two_bytes = pair_bytes u64_bytes u64_bytes
+
+abbrev TwoFit : ℕ × ℕ → Type 0
+TwoFit = PairFits IsU64 IsU64
+
+two_reads : Reads two_in two_bytes TwoFit 8
+two_reads = pair_reads _ _ _ 8 u64_reads _ _ _ 8 u64_reads
+
+abbrev head_in : List ℕ → Option (Head × List ℕ)
+head_in = pair_in flag_in (pair_in two_in two_in)
+
+abbrev pub head_bytes : Head → List ℕ
+head_bytes = pair_bytes flag_bytes (pair_bytes two_bytes two_bytes)
+
+abbrev HeadFits : Head → Type 0
+HeadFits = PairFits (λ flag. Unit {0}) (PairFits TwoFit TwoFit)
+
+head_reads : Reads head_in head_bytes HeadFits 1
+head_reads = pair_reads _ _ _ 1 flag_reads _ _ _ 8 (pair_reads _ _ _ 8 two_reads _ _ _ 8 two_reads)
+
+abbrev middle_in : List ℕ → Option (Middle × List ℕ)
+middle_in = pair_in (option_in text_in) (pair_in i64_in two_in)
+
+abbrev pub middle_bytes : Middle → List ℕ
+middle_bytes = pair_bytes (option_bytes counted_bytes) (pair_bytes i64_bytes two_bytes)
+
+abbrev MiddleFits : Middle → Type 0
+MiddleFits = PairFits (OptionFits TextFits) (PairFits (λ z. is_i64 z ≡ true) TwoFit)
+
+middle_reads : Reads middle_in middle_bytes MiddleFits 1
+middle_reads = pair_reads _ _ _ 1 (option_reads _ _ _ 4 text_reads) _ _ _ 8 (pair_reads _ _ _ 8 i64_reads _ _ _ 8 two_reads)
+
+abbrev tail_in : List ℕ → Option (Tail × List ℕ)
+tail_in = pair_in tracker_in (pair_in (list_in checkpoint_in 16) (pair_in (list_in entry_in 4) u64_in))
+
+abbrev pub tail_bytes : Tail → List ℕ
+tail_bytes = pair_bytes tracker_bytes (pair_bytes (list_bytes checkpoint_bytes) (pair_bytes (list_bytes entry_bytes) u64_bytes))
+
+abbrev TailFits : Tail → Type 0
+TailFits = PairFits TrackerFits (PairFits (ListFits CheckpointFits) (PairFits (ListFits EntryFits) IsU64))
+
+tail_reads : Reads tail_in tail_bytes TailFits 4
+tail_reads = pair_reads _ _ _ 4 tracker_reads _ _ _ 4 (pair_reads _ _ _ 4 (list_reads _ _ _ 16 checkpoint_reads) _ _ _ 4 (pair_reads _ _ _ 4 (list_reads _ _ _ 4 entry_reads) _ _ _ 8 u64_reads))
+
+-- the root tree and the segments
+abbrev pub trees_bytes : LsmTreeState × List Prefixed → List ℕ
+trees_bytes = pair_bytes tree_bytes (list_bytes segment_bytes)
+
+abbrev pub body_in : List SsTableHandle → List ℕ → Option (Body × List ℕ)
+body_in tables = pair_in head_in (pair_in (tree_in tables) (pair_in (list_in (segment_in tables) 4) (pair_in middle_in tail_in)))
+
+abbrev pub body_bytes : Body → List ℕ
+body_bytes = pair_bytes head_bytes (pair_bytes tree_bytes (pair_bytes (list_bytes segment_bytes) (pair_bytes middle_bytes tail_bytes)))
+
+abbrev pub BodyFits : List SsTableHandle → Body → Type 0
+BodyFits tables = PairFits HeadFits (PairFits (TreeFits tables) (PairFits (ListFits (SegmentFits tables)) (PairFits MiddleFits TailFits)))
+
+pub body_reads : (tables : List SsTableHandle) → Reads (body_in tables) body_bytes (BodyFits tables) 1
+body_reads tables = pair_reads _ _ _ 1 head_reads _ _ _ 1 (pair_reads _ _ _ 1 (tree_reads tables) _ _ _ 4 (pair_reads _ _ _ 4 (list_reads _ _ _ 4 (segment_reads tables)) _ _ _ 1 (pair_reads _ _ _ 1 middle_reads _ _ _ 4 tail_reads)))
+
+-- ---- the manifest
+
+-- whether each of these tables is used by a view of the manifest
+abbrev pub all_used : List SsTableHandle → Manifest → Bool
+all_used tables m = list_all (λ h. any_of (table_id h.id) (views_of m.core)) tables
+
+-- the manifest, where it uses all of these tables
+abbrev pub using_all : List SsTableHandle → Manifest → Option Manifest
+using_all tables m = if all_used tables m then Some m else None
+
+-- the manifest of parts, where they were read
+abbrev pub made_of : Option Body → Option Manifest
+made_of body = body >>= manifest_of
+
+-- the manifest of all these bytes, among these tables
+abbrev pub manifest_among : List SsTableHandle → List ℕ → Option Manifest
+manifest_among tables bytes = made_of (whole (body_in tables bytes)) >>= using_all tables
+
+-- the manifest of all these bytes, after tables that ascend by id
+abbrev pub second_version : List ℕ → Option Manifest
+second_version bytes = list_in handle_in 8 bytes >>= λ tables. if ascend tables.0 then manifest_among tables.0 tables.1 else None

@@ -1,0 +1,105 @@
+//! The watermark: the greatest moment of a flushed table.
+
+use crate::test_values::{core_with, segment_of, table, tree_of};
+use bytes::Bytes;
+use slate_ids::Ulid;
+use slate_model::{ManifestCore, Segment, SsTableId};
+use std::alloc::Global;
+use std::process::Abort;
+
+/// A table of a tree: one of the log, or the one of this moment and tail.
+#[derive(Clone, Copy)]
+enum Flushed {
+    Log(u64),
+    Table(u32, u32),
+}
+
+type Trees = (&'static [Flushed], &'static [Flushed], Option<(u32, u32)>);
+
+/// The tables of a root, those of a segment and the segment's marker, and the id with the watermark's milliseconds.
+const LATEST: [(Trees, Option<(u32, u32)>); 7] = [
+    ((&[], &[], None), None),
+    (
+        (&[Flushed::Table(5, 0)], &[Flushed::Table(6, 0)], None),
+        Some((6, 0)),
+    ),
+    ((&[Flushed::Table(5, 0)], &[], Some((8, 3))), Some((8, 3))),
+    (
+        (
+            &[Flushed::Table(5, 0)],
+            &[Flushed::Table(2, 0)],
+            Some((8, 3)),
+        ),
+        Some((5, 0)),
+    ),
+    ((&[Flushed::Log(900)], &[Flushed::Log(900)], None), None),
+    (
+        (&[Flushed::Table(5, 0)], &[Flushed::Log(900)], Some((8, 3))),
+        Some((5, 0)),
+    ),
+    (
+        (
+            &[Flushed::Table(1, 0), Flushed::Table(7, 1)],
+            &[Flushed::Table(7, 9)],
+            None,
+        ),
+        Some((7, 1)),
+    ),
+];
+
+/// The id of this moment and tail.
+fn id(parts: (u32, u32)) -> Ulid {
+    Ulid::from_parts(parts.0 as u64, parts.1 as u128)
+}
+
+/// The ids of these tables.
+fn ids(rt: &impl Abort, alloc: Global, tables: &[Flushed]) -> Vec<SsTableId> {
+    let mut ids = Vec::new(alloc);
+    for table in tables {
+        let table = match table {
+            Flushed::Log(number) => SsTableId::Wal(*number),
+            Flushed::Table(moment, tail) => SsTableId::Compacted(id((*moment, *tail))),
+        };
+        ids.push(table).expect(rt, "memory");
+    }
+    ids
+}
+
+/// The segment of these tables, with this marker.
+fn segment(rt: &impl Abort, alloc: Global, l0: &[Flushed], marker: Option<(u32, u32)>) -> Segment {
+    let mut tree = tree_of(rt, alloc, ids(rt, alloc, l0).as_slice(), &[]);
+    tree.last_compacted_l0_sst_view_id = marker.map(id);
+    Segment::new(Bytes::from("s"), tree)
+}
+
+/// What a database of these trees says. Its root has a later table in a run.
+fn core_of(rt: &impl Abort, alloc: Global, trees: Trees) -> ManifestCore {
+    let (root, l0, marker) = trees;
+    let mut segments = Vec::new(alloc);
+    segments
+        .push(segment(rt, alloc, l0, marker))
+        .expect(rt, "memory");
+    let mut core = core_with(rt, alloc, segments);
+    core.tree = tree_of(rt, alloc, ids(rt, alloc, root).as_slice(), &[table(1000)]);
+    core
+}
+
+/// Whether these trees have this latest id, and its moment as the watermark.
+fn has_latest(rt: &impl Abort, alloc: Global, trees: Trees, latest: Option<(u32, u32)>) -> bool {
+    let core = core_of(rt, alloc, trees);
+    let moment = match latest {
+        Some((moment, _)) => moment as u64,
+        None => 0,
+    };
+    core.max_l0_ulid_timestamp_across_trees() == latest.map(id) && core.watermark() == moment
+}
+
+#[test]
+fn is_the_latest_of_all_trees(rt: HostRuntime) {
+    for (trees, latest) in &LATEST {
+        assert!(rt;
+            has_latest(&rt, rt.alloc(), *trees, *latest),
+            "where {latest:?} is expected"
+        );
+    }
+}

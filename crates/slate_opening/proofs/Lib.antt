@@ -1,0 +1,4 @@
+mod Carrying
+mod Openings
+mod Seen
+mod Absent

@@ -1,0 +1,157 @@
+//! Why databases whose values have bytes can't be the beginning of a run.
+ghost use Rattle.std.specs.Prelude.{◌≡◌};
+ghost use Rattle.std.specs.List.{list_any, flat_map};
+ghost use Rattle.slate_model.specs.Trees.{views_of_tree, tables_of_views};
+ghost use Rattle.slate_protocol.specs.Specs as opens;
+
+use crate::objects::Objects;
+use slate_events::{ClusterCause, DbSpec};
+use slate_ids::{DbPath, ObjectPath};
+use slate_model::{ExternalDb, LsmTreeState, Segment, SortedRun, SsTableId, SsTableView};
+
+// Whether a segment's prefix begins with another's.
+fn overlaps(spec: &DbSpec) -> bool
+    ensures { result ≡ opens.overlaps spec.now }
+{
+    !Segment::are_apart(spec.manifest.core.segments())
+}
+
+// Whether this holds of one of the databases.
+fn one_overlaps(specs: &[DbSpec]) -> bool
+    ensures { result ≡ list_any opens.overlaps specs.now }
+{
+    specs.iter().any(|spec| overlaps(spec))
+}
+
+// Whether a checkpoint of the database names another version than the first.
+fn names_other(spec: &DbSpec) -> bool
+    ensures { result ≡ opens.names_other spec.now }
+{
+    let checkpoints = spec.manifest.core.checkpoints.as_slice();
+    checkpoints.iter().any(|c| c.manifest_id != 1)
+}
+
+// Whether one of the databases has such a checkpoint.
+fn one_names_other(specs: &[DbSpec]) -> bool
+    ensures { result ≡ list_any opens.names_other specs.now }
+{
+    specs.iter().any(|spec| names_other(spec))
+}
+
+// The database at whose path a table stands.
+fn place_of(own: DbPath, id: &SsTableId, entries: &[ExternalDb]) -> DbPath
+    ensures { result ≡ opens.place_of own id.now entries.now }
+{
+    for entry in entries {
+        if entry.lists(id) {
+            return entry.path;
+        }
+    }
+    own
+}
+
+// Whether one of the objects is at a path.
+fn is_there(objects: &Objects, path: &ObjectPath) -> bool
+    ensures { result ≡ opens.is_there path.now objects.now.entries }
+{
+    objects.contains_key(path)
+}
+
+// Whether a table of a tree isn't among the objects.
+fn is_absent(objects: &Objects, spec: &DbSpec, id: &SsTableId) -> bool
+    ensures { result ≡ opens.is_absent objects.now.entries spec.now id.now }
+{
+    match id {
+        SsTableId::Wal(_) => false,
+        SsTableId::Compacted(ulid) => {
+            let place = place_of(spec.path, id, spec.manifest.external_dbs.as_slice());
+            !is_there(objects, &ObjectPath::Table(place, *ulid))
+        }
+    }
+}
+
+// Whether the table of one of these views is absent.
+fn views_lack(objects: &Objects, spec: &DbSpec, views: &[SsTableView]) -> bool
+    ensures { result ≡ list_any (opens.is_absent objects.now.entries spec.now) (tables_of_views views.now) }
+{
+    for view in views {
+        if is_absent(objects, spec, &view.sst.id) {
+            return true;
+        }
+    }
+    false
+}
+
+// Whether a table of one of these runs is absent.
+fn runs_lack(objects: &Objects, spec: &DbSpec, runs: &[SortedRun]) -> bool
+    ensures { result ≡ list_any (opens.is_absent objects.now.entries spec.now) (tables_of_views (flat_map (λ run. run.views) runs.now)) }
+{
+    for run in runs {
+        if views_lack(objects, spec, run.sst_views()) {
+            return true;
+        }
+    }
+    false
+}
+
+// Whether a table of a tree is absent.
+fn tree_lacks(objects: &Objects, spec: &DbSpec, tree: &LsmTreeState) -> bool
+    ensures { result ≡ list_any (opens.is_absent objects.now.entries spec.now) (tables_of_views (views_of_tree tree.now)) }
+{
+    let (front, back) = tree.l0.as_slices();
+    views_lack(objects, spec, front)
+        || views_lack(objects, spec, back)
+        || runs_lack(objects, spec, tree.compacted.as_slice())
+}
+
+// Whether a table of a tree of a database is absent.
+fn lacks_table(objects: &Objects, spec: &DbSpec) -> bool
+    ensures { result ≡ opens.lacks_table objects.now.entries spec.now }
+{
+    for tree in spec.manifest.core.trees() {
+        if tree_lacks(objects, spec, tree) {
+            return true;
+        }
+    }
+    false
+}
+
+// Whether this holds of one of the databases.
+fn one_lacks_table(objects: &Objects, specs: &[DbSpec]) -> bool
+    ensures { result ≡ list_any (opens.lacks_table objects.now.entries) specs.now }
+{
+    specs.iter().any(|spec| lacks_table(objects, spec))
+}
+
+// Whether the floor of a database is below its watermark.
+fn is_floor_low(spec: &DbSpec) -> bool
+    ensures { result ≡ opens.is_floor_low spec.now }
+{
+    spec.manifest.core.floor < spec.manifest.core.watermark()
+}
+
+// Whether this holds of one of the databases.
+fn one_floor_is_low(specs: &[DbSpec]) -> bool
+    ensures { result ≡ list_any opens.is_floor_low specs.now }
+{
+    specs.iter().any(|spec| is_floor_low(spec))
+}
+
+/// Why databases whose values have bytes can't be the beginning of a run, as these objects.
+pub(crate) fn cause_beside(objects: &Objects, specs: &[DbSpec]) -> Option<ClusterCause>
+    ensures { result ≡ opens.cause_beside objects.now.entries specs.now }
+{
+    if one_overlaps(specs) {
+        return Some(ClusterCause::Segments);
+    }
+    if one_names_other(specs) {
+        return Some(ClusterCause::Checkpoints);
+    }
+    if one_lacks_table(objects, specs) {
+        return Some(ClusterCause::Tables);
+    }
+    if one_floor_is_low(specs) {
+        return Some(ClusterCause::Floor);
+    }
+    None
+}

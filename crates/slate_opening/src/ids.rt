@@ -1,0 +1,167 @@
+//! The ids that databases bring as a run begins: none comes twice, and those of runs fall.
+ghost use Rattle.std.specs.Prelude.{◌≡◌, ◌&&◌, [], Some, None, map, is_some, IfOk, option_map, if◌then◌else◌};
+ghost use Rattle.std.specs.List.{list_all};
+ghost use Rattle.slate_protocol.specs.Specs as opens;
+
+use crate::carried::{Carried, NOBODYS};
+use slate_events::DbSpec;
+use slate_ids::{OutOfMemory, Ulid};
+use slate_model::{Checkpoint, LsmTreeState, SortedRun, SsTableInfo, SsTableView};
+use std::alloc::Global;
+use std::collections::{BTreeSet, VecDeque};
+
+/// Ids of tables or views, in order.
+type Seen = BTreeSet<(u64, u128)>;
+
+// Notes the ids of checkpoints. False where one was carried already.
+fn add_ids(carried: &mut Carried, checkpoints: &[Checkpoint]) -> Result<bool, OutOfMemory>
+    ensures { IfOk result (λ all. (if all then Some carried.new.entries else None) ≡ opens.ids_from carried.old.entries checkpoints.now) }
+{
+    for checkpoint in checkpoints {
+        if carried.contains_key(&checkpoint.id) {
+            return Ok(false);
+        }
+        carried.insert(checkpoint.id, NOBODYS)?;
+    }
+    Ok(true)
+}
+
+/// The ids of all checkpoints. None where one comes twice.
+pub(crate) fn open_carried(alloc: Global, specs: &[DbSpec]) -> Result<Option<Carried>, OutOfMemory>
+    ensures { IfOk result (λ o. option_map (λ c. c.entries) o ≡ opens.carried_from [] specs.now) }
+{
+    let mut carried = Carried::new(alloc);
+    for spec in specs {
+        if !add_ids(&mut carried, spec.manifest.core.checkpoints.as_slice())? {
+            return Ok(None);
+        }
+    }
+    Ok(Some(carried))
+}
+
+// The parts of an id, by which ids are ordered.
+fn parts_of(id: &Ulid) -> (u64, u128)
+    ensures { result ≡ id.now }
+{
+    (id.timestamp_ms(), id.tail())
+}
+
+// Notes these ids. False where one came already.
+fn add_once(seen: &mut Seen, ids: &[Ulid]) -> Result<bool, OutOfMemory>
+    ensures { IfOk result (λ once. (if once then Some seen.new.keys else None) ≡ opens.seen_from seen.old.keys ids.now) }
+{
+    for id in ids {
+        let parts = parts_of(id);
+        if seen.contains(&parts) {
+            return Ok(false);
+        }
+        seen.insert(parts)?;
+    }
+    Ok(true)
+}
+
+// The ids of tables, in order.
+fn table_ids(alloc: Global, tables: &[(Ulid, SsTableInfo)]) -> Result<Vec<Ulid>, OutOfMemory>
+    ensures { IfOk result (λ ids. ids.items ≡ map (λ t. t.0) tables.now) }
+{
+    let mut ids = Vec::new(alloc);
+    for table in tables {
+        ids.push(table.0)?;
+    }
+    Ok(ids)
+}
+
+// Whether no table comes twice.
+fn are_tables_once(alloc: Global, specs: &[DbSpec]) -> Result<bool, OutOfMemory>
+    ensures { IfOk result (λ once. once ≡ is_some (opens.tables_seen_from [] specs.now)) }
+{
+    let mut seen = BTreeSet::new(alloc);
+    for spec in specs {
+        let ids = table_ids(alloc, spec.tables.as_slice())?;
+        if !add_once(&mut seen, ids.as_slice())? {
+            return Ok(false);
+        }
+    }
+    Ok(true)
+}
+
+// The ids of views, in order.
+fn view_ids(alloc: Global, views: &VecDeque<SsTableView>) -> Result<Vec<Ulid>, OutOfMemory>
+    ensures { IfOk result (λ ids. ids.items ≡ map (λ v. v.id) views.now.items) }
+{
+    let mut ids = Vec::new(alloc);
+    for view in views.iter() {
+        ids.push(view.id)?;
+    }
+    Ok(ids)
+}
+
+// Whether these ids differ.
+fn do_differ(alloc: Global, ids: &[Ulid]) -> Result<bool, OutOfMemory>
+    ensures { IfOk result (λ differ. differ ≡ is_some (opens.seen_from [] ids.now)) }
+{
+    let mut seen = BTreeSet::new(alloc);
+    if add_once(&mut seen, ids)? {
+        return Ok(true);
+    }
+    Ok(false)
+}
+
+// Whether the ids of runs fall strictly.
+fn do_runs_fall(runs: &[SortedRun]) -> bool
+    ensures { result ≡ opens.runs_fall runs.now }
+{
+    let Some((first, others)) = runs.split_first() else {
+        return true;
+    };
+    let mut last = first;
+    for run in others {
+        if run.id >= last.id {
+            return false;
+        }
+        last = run;
+    }
+    true
+}
+
+// Whether the ids of a tree's views differ, and those of its runs fall.
+fn is_tree_in_order(alloc: Global, tree: &LsmTreeState) -> Result<bool, OutOfMemory>
+    ensures { IfOk result (λ fine. fine ≡ opens.is_tree_in_order tree.now) }
+{
+    let ids = view_ids(alloc, tree.l0.as_deque())?;
+    let differ = do_differ(alloc, ids.as_slice())?;
+    Ok(differ && do_runs_fall(tree.compacted.as_slice()))
+}
+
+// Whether all trees of a database are in order.
+fn are_trees_in_order(alloc: Global, spec: &DbSpec) -> Result<bool, OutOfMemory>
+    ensures { IfOk result (λ fine. fine ≡ opens.are_trees_in_order spec.now) }
+{
+    for tree in spec.manifest.core.trees() {
+        if !is_tree_in_order(alloc, tree)? {
+            return Ok(false);
+        }
+    }
+    Ok(true)
+}
+
+// Whether all trees of all databases are in order.
+fn are_all_in_order(alloc: Global, specs: &[DbSpec]) -> Result<bool, OutOfMemory>
+    ensures { IfOk result (λ fine. fine ≡ list_all opens.are_trees_in_order specs.now) }
+{
+    for spec in specs {
+        if !are_trees_in_order(alloc, spec)? {
+            return Ok(false);
+        }
+    }
+    Ok(true)
+}
+
+/// Whether no id of a table comes twice, and all trees are in order.
+pub(crate) fn are_tables_in_order(alloc: Global, specs: &[DbSpec]) -> Result<bool, OutOfMemory>
+    ensures { IfOk result (λ fine. fine ≡ (is_some (opens.tables_seen_from [] specs.now) && list_all opens.are_trees_in_order specs.now)) }
+{
+    let once = are_tables_once(alloc, specs)?;
+    let in_order = are_all_in_order(alloc, specs)?;
+    Ok(once && in_order)
+}

@@ -1,0 +1,16 @@
+//! How a run begins: the state that databases open with, or the first cause that refuses them; and what is noted of their ids
+//! and committed numbers from then on.
+#![tactic(auto)]
+
+mod carried;
+mod causes;
+mod ids;
+mod new_error;
+mod objects;
+mod opening;
+mod tallies;
+
+pub use carried::{Carried, carry, is_stale};
+pub use new_error::NewError;
+pub use opening::{Opening, names, opened};
+pub use tallies::{Tallies, count, tally};

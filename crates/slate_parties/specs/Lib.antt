@@ -1,0 +1,3 @@
+pub mod Moved
+pub mod Numbered
+pub mod Events

@@ -1,0 +1,192 @@
+//! The state of a cluster, and what an event does to it.
+ghost use Rattle.std.specs.Prelude.{◌≡◌, IfOk, OnErr};
+ghost use Rattle.slate_events.specs.declared.event.Event.TheVariants as events;
+ghost use Rattle.slate_protocol.specs.World.{party_of, refuses_start};
+ghost use Rattle.slate_opening.specs.Opened.{world_of};
+ghost use Rattle.slate_parties.specs.Events.{Happened};
+
+use crate::parties::{Parties, add, find, has_call, start, step, stop};
+use crate::party_calls::has_due_call;
+use slate_events::{Call, Entry, Event, PartyKind};
+use slate_ids::{DbPath, Millis, OutOfMemory};
+use slate_opening::{Carried, Opening, Tallies, carry, count, is_stale, tally};
+use slate_steps::Stepped;
+use slate_store::{Mark, MemoryStore};
+use std::alloc::Global;
+use std::marker::Model;
+
+/// The databases with their greatest committed numbers, the count of deletes, the store, the parties, and the ids that were
+/// carried.
+#[derive(Drop)]
+pub struct ClusterState {
+    tallies: Tallies,
+    deleted: u64,
+    store: MemoryStore,
+    parties: Parties,
+    carried: Carried,
+}
+
+impl Model for ClusterState {
+    ghost use Rattle.slate_protocol.specs.World.{World};
+
+    ghost Value = { World };
+
+    ghost view = { λ a. record { tallies = a.tallies.entries; deleted = a.deleted; store = a.store.store; parties = a.parties.entries; carried = a.carried.entries } };
+}
+
+impl ClusterState {
+    /// The state as a run begins, with no party. Takes no memory.
+    pub fn of(alloc: Global, opening: Opening) -> ClusterState
+        ensures { result ≡ world_of opening }
+    {
+        let Opening {
+            tallies,
+            carried,
+            store,
+        } = opening;
+        ClusterState {
+            tallies,
+            deleted: 0,
+            store,
+            parties: Parties::new(alloc),
+            carried,
+        }
+    }
+
+    /// The databases, with their greatest committed numbers.
+    pub fn tallies(&self) -> &Tallies
+        ensures { result.now.entries ≡ self.now.tallies }
+    {
+        &self.tallies
+    }
+
+    /// How many deletes removed an object.
+    pub fn deleted(&self) -> u64
+        ensures { result ≡ self.now.deleted }
+    {
+        self.deleted
+    }
+
+    /// The store.
+    pub fn store(&self) -> &MemoryStore
+        ensures { result.now.store ≡ self.now.store }
+    {
+        &self.store
+    }
+
+    // A party comes.
+    fn open(
+        &mut self,
+        number: u32,
+        kind: PartyKind,
+        db: DbPath,
+    ) -> Result<Option<Entry>, OutOfMemory>
+        ensures ok { IfOk result (λ o. Happened self.old (events.Open number kind db) o self.new) }
+        ensures err { OnErr result (self.new ≡ self.old) }
+    {
+        match (find(&self.parties, number), self.tallies.get(&db)) {
+            (None, Some(_)) => {
+                add(&mut self.parties, number, kind, db)?;
+                Ok(Some(Entry::Opened { party: number }))
+            }
+            _ => Ok(None),
+        }
+    }
+
+    // Whether a start of a call by the party of a number is bad.
+    fn refuses_start(&self, number: u32, call: &Call) -> bool
+        ensures { result ≡ refuses_start self.now call.now (party_of number self.now.parties) }
+    {
+        match find(&self.parties, number) {
+            None => true,
+            Some(party) => !has_call(party.facts.kind, call) || is_stale(&self.carried, call),
+        }
+    }
+
+    // A party starts a call, whose ids are carried.
+    fn start(
+        &mut self,
+        alloc: Global,
+        number: u32,
+        call: &Call,
+    ) -> Result<Option<Entry>, OutOfMemory>
+        ensures ok { IfOk result (λ o. Happened self.old (events.Start number call.now) o self.new) }
+        ensures err { OnErr result (self.new ≡ self.old) }
+    {
+        if self.refuses_start(number, call) {
+            return Ok(None);
+        }
+        let started = call.copy(alloc)?;
+        carry(alloc, &mut self.carried, number, call)?;
+        Ok(Some(start(&mut self.parties, number, started)))
+    }
+
+    // A party stops.
+    fn stop(&mut self, number: u32) -> Option<Entry>
+        ensures { Happened self.old (events.Stop number) result self.new }
+    {
+        stop(&mut self.parties, number)
+    }
+
+    // A party that has a call makes its next store call.
+    fn step(
+        &mut self,
+        alloc: Global,
+        number: u32,
+        moment: Millis,
+        mark: Mark,
+    ) -> Result<Option<Entry>, OutOfMemory>
+        ensures ok { IfOk result (λ o. Happened self.old (events.Step number moment mark) o self.new) }
+        ensures err { OnErr result (self.new ≡ self.old) }
+    {
+        match find(&self.parties, number) {
+            None => return Ok(None),
+            Some(party) => {
+                if !has_due_call(&party.state) {
+                    return Ok(Some(Entry::Idle { party: number }));
+                }
+            }
+        }
+        let last_tag = self.store.last_tag();
+        let objects = self.store.len();
+        let Stepped { made, reply } = step(
+            alloc,
+            &mut self.parties,
+            number,
+            &mut self.store,
+            moment,
+            mark,
+        )?;
+        tally(
+            &mut self.tallies,
+            &made.call,
+            last_tag < self.store.last_tag(),
+        );
+        self.deleted = count(self.deleted, &made.call, self.store.len() < objects);
+        Ok(Some(Entry::Called {
+            party: number,
+            call: made.call,
+            moment,
+            mark,
+            answer: made.answer,
+            reply,
+        }))
+    }
+
+    /// Does one event. None where it is bad. A bad event, and want of memory, change nothing.
+    pub fn event(&mut self, alloc: Global, event: &Event) -> Result<Option<Entry>, OutOfMemory>
+        ensures ok { IfOk result (λ o. Happened self.old event.now o self.new) }
+        ensures err { OnErr result (self.new ≡ self.old) }
+    {
+        match event {
+            Event::Open { party, kind, db } => self.open(*party, *kind, *db),
+            Event::Start { party, call } => self.start(alloc, *party, call),
+            Event::Stop { party } => Ok(self.stop(*party)),
+            Event::Step {
+                party,
+                moment,
+                mark,
+            } => self.step(alloc, *party, *moment, *mark),
+        }
+    }
+}

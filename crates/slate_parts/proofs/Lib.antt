@@ -1,0 +1,3 @@
+pub mod Items
+mod Lookups
+mod Shown

@@ -1,0 +1,16 @@
+pub mod Tables
+pub mod Bytes
+pub mod Reading
+pub mod Parts
+pub mod Reads
+pub mod Atoms
+pub mod Texts
+pub mod RangeParts
+pub mod InfoParts
+pub mod InfoCodec
+pub mod ViewParts
+pub mod RecordParts
+pub mod Lengths
+pub mod Typed
+pub mod TypedCompactions
+pub mod Fitting

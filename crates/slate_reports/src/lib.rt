@@ -1,0 +1,12 @@
+//! The commands of the program and the texts that it writes, and how it ends.
+#![tactic(auto)]
+
+mod command;
+mod run_report;
+mod status;
+mod texts;
+
+pub use command::{Command, command_in};
+pub use run_report::{bad_cluster, bad_script, report};
+pub use status::Status;
+pub use texts::{deliver, help, run_help, version};

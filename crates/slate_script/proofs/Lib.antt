@@ -1,6 +1,0 @@
-mod Ascending
-mod Grouped
-mod Ids
-mod Lists
-mod Markers
-mod NoItems

@@ -1,0 +1,310 @@
+//! Events of scripts, and texts that are no script.
+
+use crate::test_scripts::{refusal_of, refusal_within, script_of, text_of};
+use slate_ids::{CheckpointId, Text};
+use slate_script::{Call, Event, ScriptError, ScriptPlace};
+use std::alloc::{AllocError, Global};
+use std::process::Abort;
+
+/// A script with each kind of event and each optional field.
+const WHOLE: &str = r#"{"databases":[],
+"events":[
+{"open":1,"kind":"writer","db":"a"},
+{"open":4294967295,"kind":"holder","db":"none"},
+{"start":1,"call":"open_writer"},
+{"start":1,"call":"flush","tables":[]},
+{"start":2,"call":"write_checkpoint","id":7},
+{"start":2,"call":"write_checkpoint","id":7,"lifetime":18446744073709551615,"source":8,"name":""},
+{"start":2,"call":"replace_checkpoint","old":3,"id":4},
+{"start":2,"call":"replace_checkpoint","old":3,"id":4,"lifetime":0,"source":5,"name":"n"},
+{"start":2,"call":"refresh_checkpoint","id":9},
+{"start":2,"call":"refresh_checkpoint","id":9,"lifetime":10},
+{"start":2,"call":"delete_checkpoint","id":0},
+{"open":5,"kind":"collector","db":"a"},
+{"start":5,"call":"pass","pass":"manifest"},
+{"start":5,"call":"pass","pass":"manifest","min_age":18446744073709551615,"dry_run":true,"filter":"none"},
+{"start":5,"call":"pass","pass":"manifest","min_age":0,"dry_run":false,"filter":"all"},
+{"step":1,"at":-9223372036854775808},
+{"step":2,"at":6,"mark":"fail","times":2},
+{"step":3,"at":9223372036854775807,"mark":"lost","times":1},
+{"stop":2}]}"#;
+
+/// What its events are.
+const EVENTS: [&str; 20] = [
+    "open 1 Writer a",
+    "open 4294967295 Holder none",
+    "start 1 open writer",
+    "start 1 flush 0 0",
+    "start 2 write 7 None None None",
+    "start 2 write 7 Some(18446744073709551615) Some(8) Some(\"\")",
+    "start 2 replace 3 4 None None None",
+    "start 2 replace 3 4 Some(0) Some(5) Some(\"n\")",
+    "start 2 refresh 9 None",
+    "start 2 refresh 9 Some(10)",
+    "start 2 delete 0",
+    "open 5 Collector a",
+    "start 5 pass Manifest 300000 false All",
+    "start 5 pass Manifest 18446744073709551615 true Nothing",
+    "start 5 pass Manifest 0 false All",
+    "step 1 -9223372036854775808 Good",
+    "step 2 6 Fail",
+    "step 2 6 Fail",
+    "step 3 9223372036854775807 Lost",
+    "stop 2",
+];
+
+fn letters(name: &Option<Text>) -> Option<&str> {
+    name.as_ref().map(|text| text.as_str())
+}
+
+fn number(id: &Option<CheckpointId>) -> Option<u128> {
+    id.as_ref().map(|id| id.as_u128())
+}
+
+// What a checkpoint gets of its call.
+fn push_named(
+    out: &mut String,
+    lifetime: Option<u64>,
+    source: &Option<CheckpointId>,
+    name: &Option<Text>,
+) -> Result<(), AllocError> {
+    let (source, name) = (number(source), letters(name));
+    write!(out, " {lifetime:?} {source:?} {name:?}")
+}
+
+fn push_id(out: &mut String, word: &str, id: &CheckpointId) -> Result<(), AllocError> {
+    let id = id.as_u128();
+    write!(out, "{word} {id}")
+}
+
+fn push_call(out: &mut String, call: &Call) -> Result<(), AllocError> {
+    match call {
+        Call::OpenWriter => out.push_str("open writer"),
+        Call::Flush { seq, tick } => write!(out, "flush {seq} {tick}"),
+        Call::WriteCheckpoint {
+            id,
+            lifetime,
+            source,
+            name,
+        } => {
+            push_id(out, "write", id)?;
+            push_named(out, *lifetime, source, name)
+        }
+        Call::ReplaceCheckpoint {
+            old,
+            id,
+            lifetime,
+            source,
+            name,
+        } => {
+            push_id(out, "replace", old)?;
+            push_id(out, "", id)?;
+            push_named(out, *lifetime, source, name)
+        }
+        Call::RefreshCheckpoint { id, lifetime } => {
+            push_id(out, "refresh", id)?;
+            write!(out, " {lifetime:?}")
+        }
+        Call::DeleteCheckpoint { id } => push_id(out, "delete", id),
+        Call::Pass {
+            pass,
+            min_age,
+            dry_run,
+            filter,
+        } => write!(out, "pass {pass:?} {min_age} {dry_run} {filter:?}"),
+    }
+}
+
+fn push_event(out: &mut String, event: &Event) -> Result<(), AllocError> {
+    match event {
+        Event::Open { party, kind, db } => write!(out, "open {party} {kind:?} {db}"),
+        Event::Start { party, call } => {
+            write!(out, "start {party} ")?;
+            push_call(out, call)
+        }
+        Event::Step {
+            party,
+            moment,
+            mark,
+        } => write!(out, "step {party} {moment} {mark:?}"),
+        Event::Stop { party } => write!(out, "stop {party}"),
+    }
+}
+
+// Whether an event is told by this text, and a copy of it too.
+fn is_told(rt: &impl Abort, alloc: Global, event: &Event, text: &str) -> bool {
+    let mut one = String::new(alloc);
+    push_event(&mut one, event).expect(rt, "memory");
+    let copied = event.copy(alloc).expect(rt, "memory");
+    let mut other = String::new(alloc);
+    push_event(&mut other, &copied).expect(rt, "memory");
+    one.as_str() == text && other.as_str() == text
+}
+
+#[test]
+fn events_of_each_kind(rt: HostRuntime) {
+    let alloc = rt.alloc();
+    let script = script_of(&rt, alloc, WHOLE);
+    let events = script.events.as_slice();
+    assert!(rt; events.len() == EVENTS.len());
+    for (event, text) in events.iter().zip(&EVENTS) {
+        assert!(rt; is_told(&rt, alloc, event, *text), "at {text}");
+    }
+}
+
+/// Texts that are no script as a whole.
+const BAD_TEXTS: [(&str, ScriptPlace); 7] = [
+    ("", ScriptPlace::Json),
+    (r#"{"databases":[],"events":[1e400]}"#, ScriptPlace::Json),
+    ("[]", ScriptPlace::Top),
+    (r#"{"databases":[]}"#, ScriptPlace::Top),
+    (r#"{"databases":[],"events":{}}"#, ScriptPlace::Top),
+    (r#"{"databases":null,"events":[]}"#, ScriptPlace::Top),
+    (
+        r#"{"databases":[0],"events":[],"more":0}"#,
+        ScriptPlace::Top,
+    ),
+];
+
+#[test]
+fn texts_that_are_no_script(rt: HostRuntime) {
+    for (text, place) in &BAD_TEXTS {
+        let refusal = refusal_of(rt.alloc(), *text);
+        assert!(rt;
+            refusal == Some(ScriptError::BadScript(*place)),
+            "at {text}"
+        );
+    }
+}
+
+/// Events of which one is none, with its place.
+const BAD_EVENTS: [(&str, u64); 24] = [
+    ("1", 0),
+    (r#"{"stop":1},{"stop":1,"at":0}"#, 1),
+    (r#"{"step":1,"at":0,"times":1000},{}"#, 1000),
+    (r#"{"open":1,"kind":"compactor","db":"a"}"#, 0),
+    (r#"{"open":1,"kind":"holder","db":"a","stop":1}"#, 0),
+    (r#"{"step":1,"at":0,"times":0}"#, 0),
+    (r#"{"step":1,"at":0,"times":1001}"#, 0),
+    (r#"{"step":1,"at":0,"mark":"good"}"#, 0),
+    (r#"{"step":1,"at":0,"mark":null}"#, 0),
+    (r#"{"step":1,"at":9223372036854775808}"#, 0),
+    (r#"{"step":1,"stop":1}"#, 0),
+    (r#"{"stop":4294967296}"#, 0),
+    (r#"{"start":1,"call":"refresh"}"#, 0),
+    (r#"{"start":1,"call":"flush","tables":[0]}"#, 0),
+    (r#"{"start":1,"call":"flush","tables":[],"seq":0}"#, 0),
+    (r#"{"start":1,"call":"write_checkpoint"}"#, 0),
+    (
+        r#"{"start":1,"call":"write_checkpoint","id":1,"lifetime":-1}"#,
+        0,
+    ),
+    (
+        r#"{"start":1,"call":"write_checkpoint","id":1,"name":1}"#,
+        0,
+    ),
+    (r#"{"start":1,"call":"write_checkpoint","id":1,"old":1}"#, 0),
+    (r#"{"start":1,"call":"replace_checkpoint","id":1}"#, 0),
+    (
+        r#"{"start":1,"call":"replace_checkpoint","old":1,"id":1,"source":"1"}"#,
+        0,
+    ),
+    (
+        r#"{"start":1,"call":"refresh_checkpoint","id":1,"lifetime":1.0}"#,
+        0,
+    ),
+    (
+        r#"{"start":1,"call":"refresh_checkpoint","id":1,"name":"x"}"#,
+        0,
+    ),
+    (
+        r#"{"start":1,"call":"delete_checkpoint","id":1,"lifetime":1}"#,
+        0,
+    ),
+];
+
+#[test]
+fn events_that_are_none(rt: HostRuntime) {
+    let alloc = rt.alloc();
+    for (items, place) in &BAD_EVENTS {
+        let refusal = refusal_within(&rt, alloc, r#"{"databases":[],"events":["#, *items, "]}");
+        assert!(rt;
+            refusal == Some(ScriptError::BadScript(ScriptPlace::Event(*place))),
+            "at {items}"
+        );
+    }
+}
+
+/// What stands before the fields of a pass.
+const BEFORE_PASS: &str = r#"{"databases":[],"events":[{"stop":1},{"start":1,"call":"pass","#;
+
+/// Fields of passes that are none.
+const BAD_PASSES: [&str; 17] = [
+    r#""min_age":0"#,
+    r#""pass":"wal""#,
+    r#""pass":"Manifest""#,
+    r#""pass":["manifest"]"#,
+    r#""pass":"manifest","min_age":-1"#,
+    r#""pass":"manifest","min_age":1.0"#,
+    r#""pass":"manifest","min_age":18446744073709551616"#,
+    r#""pass":"manifest","min_age":null"#,
+    r#""pass":"manifest","dry_run":1"#,
+    r#""pass":"manifest","dry_run":"true""#,
+    r#""pass":"manifest","dry_run":null"#,
+    r#""pass":"manifest","filter":[]"#,
+    r#""pass":"manifest","filter":"some""#,
+    r#""pass":"manifest","filter":"nothing""#,
+    r#""pass":"manifest","filter":null"#,
+    r#""pass":"manifest","id":1"#,
+    r#""pass":"manifest","at":0"#,
+];
+
+#[test]
+fn passes_that_are_none(rt: HostRuntime) {
+    let alloc = rt.alloc();
+    for fields in &BAD_PASSES {
+        let refusal = refusal_within(&rt, alloc, BEFORE_PASS, *fields, "}]}");
+        assert!(rt;
+            refusal == Some(ScriptError::BadScript(ScriptPlace::Event(1))),
+            "at {fields}"
+        );
+    }
+}
+
+// A stop, and 999 items of 1,000 steps.
+fn many_events(rt: &impl Abort, alloc: Global) -> String {
+    let mut text = String::from_str(alloc, r#"{"databases":[],"events":[{"stop":1}"#).expect(
+        rt, "memory",
+    );
+    for _ in 0..999 {
+        text.push_str(r#",{"step":1,"at":1,"times":1000}"#)
+            .expect(rt, "memory");
+    }
+    text
+}
+
+// A script has at most 1,000,000 events.
+#[test]
+fn the_most_events(rt: HostRuntime) {
+    let alloc = rt.alloc();
+    let many = many_events(&rt, alloc);
+    let fits = text_of(
+        &rt,
+        alloc,
+        many.as_str(),
+        r#",{"step":1,"at":1,"times":999}"#,
+        "]}",
+    );
+    assert!(rt; refusal_of(alloc, fits.as_str()) == None);
+    let over = text_of(
+        &rt,
+        alloc,
+        many.as_str(),
+        r#",{"step":1,"at":1,"times":1000}"#,
+        "]}",
+    );
+    assert!(rt;
+        refusal_of(alloc, over.as_str())
+            == Some(ScriptError::BadScript(ScriptPlace::Event(1_000_000)))
+    );
+}

@@ -1,0 +1,44 @@
+//! Texts as scripts.
+
+use slate_script::{Script, ScriptError, read_script};
+use std::alloc::Global;
+use std::process::Abort;
+
+/// A text with what stands before and after it.
+pub(crate) fn text_of(
+    rt: &impl Abort,
+    alloc: Global,
+    before: &str,
+    text: &str,
+    after: &str,
+) -> String {
+    let mut whole = String::from_str(alloc, before).expect(rt, "memory");
+    whole.push_str(text).expect(rt, "memory");
+    whole.push_str(after).expect(rt, "memory");
+    whole
+}
+
+/// The script of a text that is one.
+pub(crate) fn script_of(rt: &impl Abort, alloc: Global, text: &str) -> Script {
+    read_script(alloc, text.as_bytes()).expect(rt, "a script")
+}
+
+/// Why a text is no script.
+pub(crate) fn refusal_of(alloc: Global, text: &str) -> Option<ScriptError> {
+    match read_script(alloc, text.as_bytes()) {
+        Ok(_) => None,
+        Err(refusal) => Some(refusal),
+    }
+}
+
+/// Why a text is no script, with what stands before and after it.
+pub(crate) fn refusal_within(
+    rt: &impl Abort,
+    alloc: Global,
+    before: &str,
+    text: &str,
+    after: &str,
+) -> Option<ScriptError> {
+    let whole = text_of(rt, alloc, before, text, after);
+    refusal_of(alloc, whole.as_str())
+}

@@ -1,0 +1,10 @@
+use Rattle.std.proofs.Common.{refl, w64}
+use Rattle.std.proofs.lemmas.Int.{to_z-of_z}
+use Rattle.slate_protocol.specs.Phrases.{at_read, read_on}
+use Rattle.slate_steps.proofs.Around.{refused_around}
+use Rattle.slate_steps.proofs.phrases.read_on.Goals as goal
+
+pub returns-in-Done-Err-clause-steps : goal.returns-in-Done-Err-clause-steps
+returns-in-Done-Err-clause-steps g c =
+    let steps = rw (c.in-Done-Err.field-0-is, c.manifests.ensures.db, c.manifests.ensures.log, to_z-of_z w64 c.args.moment c.ranges.moment) at c.in-Done-Err.ensures.steps in
+    refused_around (at_read c.args.db) (read_on c.args.db) c.args.phase.now c.next.new.self c.in-Done-Err.e refl steps
