@@ -9,7 +9,7 @@ use std::alloc::Global;
 use std::process::Abort;
 
 /// A call on version 7 at moment 1000, with the numbers of the checkpoints that it names. The new one is 9.
-#[derive(Clone, Copy, Debug)]
+#[derive(Clone, Copy)]
 enum Call {
     /// A write, with a source.
     Write(Option<u64>),
@@ -134,17 +134,26 @@ fn told(made: &Result<Option<Manifest>, SlateDBError>) -> (Option<Ends>, u8) {
 #[test]
 fn calls_make_these_checkpoints(rt: HostRuntime) {
     let manifest = with_two(&rt, rt.alloc());
-    for (call, ends, refusal) in &MADE {
+    for (row, (call, ends, refusal)) in MADE.iter().enumerate() {
         let made = told(&makes(rt.alloc(), *call, &manifest));
-        assert!(rt; made.0 == *ends && made.1 == *refusal, "{call:?}");
+        assert!(rt; made.0 == *ends && made.1 == *refusal, "at row {row}");
     }
+}
+
+/// A manifest without checkpoints.
+fn without(alloc: Global, initialized: bool) -> Manifest {
+    let mut manifest = Manifest::initial(alloc, ManifestCore::new(alloc));
+    manifest.core.initialized = initialized;
+    manifest
 }
 
 /// The refusal's number of a write of checkpoint 9 into a manifest without checkpoints.
 fn write_into(alloc: Global, initialized: bool, n: u64) -> u8 {
-    let mut manifest = Manifest::initial(alloc, ManifestCore::new(alloc));
-    manifest.core.initialized = initialized;
-    told(&makes_of_version(alloc, n, &manifest)).1
+    refusal_of(alloc, n, &without(alloc, initialized))
+}
+
+fn refusal_of(alloc: Global, n: u64, manifest: &Manifest) -> u8 {
+    told(&makes_of_version(alloc, n, manifest)).1
 }
 
 fn makes_of_version(
@@ -207,17 +216,22 @@ fn ends_with_that(made: &Result<Option<Manifest>, SlateDBError>, name: &str) -> 
     }
 }
 
+/// Whether a checkpoint of these options is written.
+fn is_written(alloc: Global, options: CheckpointOptions, manifest: &Manifest) -> bool {
+    let id = CheckpointId::from_u64(9);
+    ends_with_that(
+        &write_checkpoint(alloc, id, options, 1000, 7, manifest),
+        "pin",
+    )
+}
+
+/// Whether a checkpoint with a name and a lifetime is written.
+fn is_pinned(rt: &impl Abort, alloc: Global, manifest: &Manifest) -> bool {
+    is_written(alloc, named(rt, alloc, "pin"), manifest)
+}
+
 #[test]
 fn a_written_checkpoint_has_its_options(rt: HostRuntime) {
     let manifest = with_two(&rt, rt.alloc());
-    let options = named(&rt, rt.alloc(), "pin");
-    let made = write_checkpoint(
-        rt.alloc(),
-        CheckpointId::from_u64(9),
-        options,
-        1000,
-        7,
-        &manifest,
-    );
-    assert!(rt; ends_with_that(&made, "pin"));
+    assert!(rt; is_pinned(&rt, rt.alloc(), &manifest));
 }

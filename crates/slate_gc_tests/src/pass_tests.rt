@@ -5,7 +5,7 @@ use slate_ids::{CheckpointId, DbPath, Listed, Millis, ObjectPath, SlateDBError};
 use slate_layout::{ManifestCodec, encode_manifest};
 use slate_log::{LogKind, Sequenced};
 use slate_model::{Checkpoint, Manifest, ManifestCore};
-use slate_store::{Mark, MemoryStore, ObjectStore, Step, perform};
+use slate_store::{Mark, MemoryStore, ObjectStore, Step, StoreAnswer, perform};
 use std::alloc::Global;
 use std::process::Abort;
 
@@ -307,9 +307,18 @@ fn naming(rt: &impl Abort, alloc: Global, versions: &[u64]) -> Listed<Checkpoint
 
 /// The bytes of a manifest whose checkpoints name these versions.
 fn bytes_of(rt: &impl Abort, alloc: Global, versions: &[u64]) -> Vec<u8> {
+    encoded(rt, alloc, &of_names(alloc, naming(rt, alloc, versions)))
+}
+
+fn encoded(rt: &impl Abort, alloc: Global, manifest: &Manifest) -> Vec<u8> {
+    encode_manifest(alloc, manifest).expect(rt, "memory")
+}
+
+/// A manifest with these checkpoints.
+fn of_names(alloc: Global, checkpoints: Listed<Checkpoint>) -> Manifest {
     let mut manifest = Manifest::initial(alloc, ManifestCore::new(alloc));
-    manifest.core.checkpoints = naming(rt, alloc, versions);
-    encode_manifest(alloc, &manifest).expect(rt, "memory")
+    manifest.core.checkpoints = checkpoints;
+    manifest
 }
 
 fn put(
@@ -490,13 +499,33 @@ fn without_versions_there_is_no_pass(rt: HostRuntime) {
 
 /// Whether a pass whose call is asked, made and answered apart goes on to the next.
 fn goes_on(rt: &impl Abort, alloc: Global, log: &Manifests, store: &mut MemoryStore) -> bool {
+    gets(alloc, log, &answered(rt, alloc, log, store))
+}
+
+/// The answer to the first call of a pass.
+fn answered(
+    rt: &impl Abort,
+    alloc: Global,
+    log: &Manifests,
+    store: &mut MemoryStore,
+) -> StoreAnswer {
+    let call = PassPhase::Listing.asks(alloc, log).expect(rt, "memory");
+    perform(alloc, store, &call, NOW).expect(rt, "memory")
+}
+
+/// Whether a pass goes on from its list to the get of the third version.
+fn gets(alloc: Global, log: &Manifests, answer: &StoreAnswer) -> bool {
     let mut pass = PassPhase::Listing;
-    let call = pass.asks(alloc, log).expect(rt, "memory");
-    let answer = perform(alloc, store, &call, NOW).expect(rt, "memory");
-    match pass.goes_on(alloc, &log.codec, &OPTIONS, NOW, &answer) {
-        Step::Done(_) => false,
-        Step::Again => matches!(pass, PassPhase::Getting(NOW, 3, _)),
-    }
+    let step = pass.goes_on(alloc, &log.codec, &OPTIONS, NOW, answer);
+    is_again(&step) && is_getting(&pass)
+}
+
+fn is_again(step: &Step<PassCounts>) -> bool {
+    matches!(step, Step::Again)
+}
+
+fn is_getting(pass: &PassPhase) -> bool {
+    matches!(pass, PassPhase::Getting(NOW, 3, _))
 }
 
 #[test]

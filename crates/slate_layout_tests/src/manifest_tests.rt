@@ -3,7 +3,7 @@
 use crate::manifest_test_rows::{Changes, NEW, OF_OLD, OLD, WHOLE, read};
 use crate::test_texts::{bytes_of, changed};
 use bytes::Bytes;
-use slate_ids::{ObjectCodec, Text, Ulid};
+use slate_ids::{CheckpointId, ObjectCodec, Text, Ulid};
 use slate_layout::{ManifestCodec, encode_manifest};
 use slate_model::{
     Checkpoint, ExternalDb, LsmTreeState, Manifest, ManifestCore, Plain, Segment, SortedRun,
@@ -100,13 +100,20 @@ fn is_checkpoint(checkpoint: &Checkpoint) -> bool {
         && is_text(&checkpoint.name, "pin")
 }
 
+/// Whether the pin of an entry is that of the rows.
+fn is_pin(pin: &Option<CheckpointId>) -> bool {
+    match pin {
+        Some(pin) => pin.as_u128() == 0x202122232425262728292a2b2c2d2e2f,
+        None => false,
+    }
+}
+
 /// Whether an entry is that of the rows.
 fn is_entry(entry: &ExternalDb) -> bool {
     let tables = [SsTableId::Compacted(Ulid::from_parts(5, 6))];
     entry.path.as_str() == "p"
         && entry.source_checkpoint_id.as_u128() == 0x101112131415161718191a1b1c1d1e1f
-        && entry.final_checkpoint_id.map(|pin| pin.as_u128())
-            == Some(0x202122232425262728292a2b2c2d2e2f)
+        && is_pin(&entry.final_checkpoint_id)
         && entry.sst_ids.as_slice() == tables.as_slice()
 }
 

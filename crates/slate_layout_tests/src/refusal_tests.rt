@@ -6,6 +6,7 @@ use crate::manifest_test_rows::{
 use crate::test_texts::{add, bytes_of, changed};
 use slate_ids::{FormatName, SlateDBError};
 use slate_layout::decode_manifest;
+use slate_model::Manifest;
 use std::alloc::Global;
 use std::process::Abort;
 
@@ -24,16 +25,24 @@ fn cause(refusal: &SlateDBError) -> Option<u8> {
 
 /// The same of bytes; 0 where they stand for a manifest.
 fn refusal(alloc: Global, bytes: &[u8]) -> Option<u8> {
-    match decode_manifest(alloc, bytes) {
+    cause_of(&decode_manifest(alloc, bytes))
+}
+
+fn cause_of(read: &Result<Manifest, SlateDBError>) -> Option<u8> {
+    match read {
         Ok(_) => Some(0),
-        Err(refusal) => cause(&refusal),
+        Err(refusal) => cause(refusal),
     }
 }
 
 /// The version that a refusal of bytes names.
 fn version(alloc: Global, bytes: &[u8]) -> Option<u16> {
-    match decode_manifest(alloc, bytes) {
-        Err(SlateDBError::InvalidVersion { actual, .. }) => Some(actual),
+    version_of(&decode_manifest(alloc, bytes))
+}
+
+fn version_of(read: &Result<Manifest, SlateDBError>) -> Option<u16> {
+    match read {
+        Err(SlateDBError::InvalidVersion { actual, .. }) => Some(*actual),
         _ => None,
     }
 }

@@ -6,11 +6,17 @@ use std::process::Abort;
 /// Adds the bytes of a text at the end. A space stands between words of digits; an empty text has no bytes.
 pub(crate) fn add(rt: &impl Abort, alloc: Global, bytes: &mut Vec<u8>, text: &str) {
     for word in text.split(' ') {
-        let part = hex::decode(alloc, word).expect(rt, "digits");
-        bytes
-            .extend_from_slice(part.as_slice())
-            .expect(rt, "memory");
+        extend(rt, bytes, digits(rt, alloc, word).as_slice());
     }
+}
+
+/// The bytes of a word of digits.
+fn digits(rt: &impl Abort, alloc: Global, word: &str) -> Vec<u8> {
+    hex::decode(alloc, word).expect(rt, "digits")
+}
+
+fn extend(rt: &impl Abort, bytes: &mut Vec<u8>, part: &[u8]) {
+    bytes.extend_from_slice(part).expect(rt, "memory");
 }
 
 /// Adds the bytes of the text at a place of a row at the end: of the one that changes put there, or else of the old one.
