@@ -1,5 +1,6 @@
 -- A pass over the manifests: list, get the greatest, get the boundary, move it up to the greatest candidate, delete each pick.
-use Rattle.std.specs.Prelude.{ℕ, ◌+◌, min, ℤ, Bool, true, false, List, length, drop, Option, Some, None, Result, Ok, Err, nat_le, if◌then◌else◌}
+use Rattle.std.specs.Prelude.{ℕ, ℤ, Bool, true, false, List, length, drop, Option, Some, None, Result, Ok, Err, nat_le, if◌then◌else◌}
+use Rattle.slate_ids.specs.Limits.{next_count}
 use Rattle.slate_gc.specs.Picks.{Dated, dated, candidates, greatest_number, picks}
 use Rattle.slate_gc.specs.Queue.{first_number, has_number}
 use Rattle.slate_gc.specs.declared.pass_counts.PassCounts.{PassCounts}
@@ -122,17 +123,13 @@ advanced_goes options numbers (Stay advance) = Stay (Advancing advance numbers)
 advanced_goes options numbers (End advance (Ok done)) = deletes_next (picks options numbers) (counts_of (length (picks options numbers)))
 advanced_goes options numbers (End advance (Err e)) = End Over (Err e)
 
--- a count in 64 bits, which stops at its end
-abbrev pub one_more : ℕ → ℕ
-one_more n = min (n + 1) 18446744073709551615
-
 -- one more pick is deleted
 abbrev pub one_deleted : PassCounts → PassCounts
-one_deleted counts = record counts { deleted = one_more counts.deleted }
+one_deleted counts = record counts { deleted = next_count counts.deleted }
 
 -- the delete of one more pick faulted
 abbrev pub one_failed : PassCounts → PassCounts
-one_failed counts = record counts { failed = one_more counts.failed }
+one_failed counts = record counts { failed = next_count counts.failed }
 
 -- after the delete of one pick, with those that are left after it
 abbrev pub deleted_goes : List ℕ → PassCounts → StoreAnswer → PassGoes

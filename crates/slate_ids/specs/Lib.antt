@@ -1,4 +1,5 @@
 pub mod Ids
+pub mod Limits
 pub mod Padded
 pub mod Ranges
 pub mod Keys

@@ -1,6 +1,7 @@
 -- What a call makes of its phrase's end.
 use Rattle.std.proofs.Common.{◌≡◌, ℕ, ℤ, ◌+◌, ◌-◌, ◌<◌, ◌≤◌, ◌^◌, ◌==◌, false, Option, Some, None, Result, Ok, Err, refl, sym, ap, ◌∙◌, subst, arith}
 use Rattle.std.proofs.lemmas.Bool.Decides.{nat_tests}
+use Rattle.slate_ids.specs.Limits.{last_number}
 use Rattle.slate_ids.specs.declared.error.SlateDBError.{SlateDBError}
 use Rattle.slate_model.specs.declared.manifest.Manifest.{Manifest}
 use Rattle.slate_store.specs.Machines.{Goes, Stay, End}
@@ -29,7 +30,7 @@ abbrev pub NextKnows : Store → Chain → ℕ → Facts → Call → Next → T
 NextKnows s c n facts call (Go purpose position) = (position.db ≡ facts.db) × PhraseKnows s c facts.db (author_of n facts call purpose) purpose position.phrase
 NextKnows s c n facts call (Finish reply) = Unit {0}
 
-room_for : (n top : ℕ) → n ≤ top → top < 2 ^ 64 → (n == 2 ^ 64 - 1) ≡ false → n + 1 < 2 ^ 64
+room_for : (n top : ℕ) → n ≤ top → top < 2 ^ 64 → (n == last_number) ≡ false → n + 1 < 2 ^ 64
 room_for n top le small room = grind (arith, nat_tests)
 
 module _ (s : Store) (c : Chain) (n : ℕ) (facts : Facts) (call : Call) (i : IsSound manifests facts.db s c) where

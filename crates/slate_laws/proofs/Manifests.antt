@@ -3,6 +3,7 @@ use Rattle.std.proofs.Common.{◌≡◌, ℕ, ℤ, ◌+◌, ◌-◌, ◌^◌, �
 use Rattle.std.proofs.lemmas.Bool.Decides.{nat_tests}
 use Rattle.std.specs.Prelude.{if◌then◌else◌, ◌||◌, ◌&&◌}
 use Rattle.std.specs.List.{list_all}
+use Rattle.slate_ids.specs.Limits.{last_number}
 use Rattle.slate_ids.specs.declared.error.SlateDBError.{SlateDBError}
 use Rattle.slate_ids.specs.declared.error.SlateDBError.TheVariants.{Exhausted}
 use Rattle.slate_ids.specs.declared.error.UpdateRule.TheVariants.{U1, U2}
@@ -79,23 +80,23 @@ pub record IsPrepared {V : Type 0} (refusal : ℕ → V → V → Right → Opti
   pub is : commit ≡ Putting (n + 1) bytes new
   pub encodes : encoded new ≡ Ok bytes
   pub lawful : refusal n old new right ≡ None
-  pub room : (n == 2 ^ 64 - 1) ≡ false
+  pub room : (n == last_number) ≡ false
 
 module _ {V : Type 0} (refusal : ℕ → V → V → Right → Option SlateDBError) (encoded : V → Result (List ℕ) SlateDBError) (n : ℕ) (old new : V) (right : Right) (commit : CommitPhase V) where
-  by_bytes : (r : Result (List ℕ) SlateDBError) → encoded new ≡ r → refusal n old new right ≡ None → (n == 2 ^ 64 - 1) ≡ false → encoded_commit (n + 1) new r ≡ Ok commit → IsPrepared refusal encoded n old new right commit
+  by_bytes : (r : Result (List ℕ) SlateDBError) → encoded new ≡ r → refusal n old new right ≡ None → (n == last_number) ≡ false → encoded_commit (n + 1) new r ≡ Ok commit → IsPrepared refusal encoded n old new right commit
   by_bytes (Ok bytes) is lawful room h = record { bytes = bytes; is = cc; encodes = is; lawful = lawful; room = room }
   by_bytes (Err e) is lawful room h = absurd cc
 
-  by_rules : (o : Option SlateDBError) → refusal n old new right ≡ o → (n == 2 ^ 64 - 1) ≡ false → checked_commit o (n + 1) new (encoded new) ≡ Ok commit → IsPrepared refusal encoded n old new right commit
+  by_rules : (o : Option SlateDBError) → refusal n old new right ≡ o → (n == last_number) ≡ false → checked_commit o (n + 1) new (encoded new) ≡ Ok commit → IsPrepared refusal encoded n old new right commit
   by_rules (Some e) is room h = absurd cc
   by_rules None is room h = by_bytes (encoded new) refl is room h
 
-  by_room : (b : Bool) → (n == 2 ^ 64 - 1) ≡ b → (let r : Result (CommitPhase V) SlateDBError = if b then Err (Exhausted n) else checked_commit (refusal n old new right) (n + 1) new (encoded new) in r) ≡ Ok commit → IsPrepared refusal encoded n old new right commit
+  by_room : (b : Bool) → (n == last_number) ≡ b → (let r : Result (CommitPhase V) SlateDBError = if b then Err (Exhausted n) else checked_commit (refusal n old new right) (n + 1) new (encoded new) in r) ≡ Ok commit → IsPrepared refusal encoded n old new right commit
   by_room true is h = absurd cc
   by_room false is h = by_rules (refusal n old new right) refl is h
 
   pub is_prepared : prepared refusal encoded n old new right ≡ Ok commit → IsPrepared refusal encoded n old new right commit
-  is_prepared h = by_room (n == 2 ^ 64 - 1) refl h
+  is_prepared h = by_room (n == last_number) refl h
 
 -- what a call commits: what it makes of the version read, where its fence lets it
 pub record IsMade (facts : Facts) (call : Call) (now : ℤ) (n : ℕ) (m : Manifest) (commit : CommitPhase Manifest) : Type 0 where

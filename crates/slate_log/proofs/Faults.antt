@@ -1,8 +1,9 @@
 -- Where the fault of a whole run comes from.
-use Rattle.std.specs.Prelude.{◌≡◌, ◌≢◌, ◌⊎◌, ◌≤◌, ◌+◌, ◌-◌, ◌^◌, min, ℤ, ℕ, Bool, true, false, Option, Result, Ok, Err, List, [], ◌∷◌, refl}
+use Rattle.std.specs.Prelude.{◌≡◌, ◌≢◌, ◌⊎◌, ◌≤◌, ℤ, ℕ, Bool, true, false, Option, Result, Ok, Err, List, [], ◌∷◌, refl}
 use Rattle.std.proofs.Common.{inl, inr, arith, ap, subst, sym, ◌∙◌}
 use Rattle.std.proofs.lemmas.Bool.Decides.{nat_tests}
 use Rattle.slate_ids.specs.Answers.{OrMemory, ran_out}
+use Rattle.slate_ids.specs.Limits.{next_count}
 use Rattle.slate_ids.specs.declared.error.SlateDBError.{SlateDBError}
 use Rattle.slate_ids.specs.declared.error.SlateDBError.TheVariants.{StoreFault, Contended}
 use Rattle.slate_store.specs.Calls.{Told, Makes, Rose, IsAnswerTo, moment_of, fault_rose}
@@ -57,7 +58,7 @@ step_rose {goes = goes} old new moment p q (Done r) only due (inl stepped) = λ 
 step_rose old new moment p q (Done r) only due (inr m) = λ fault.
     absurd (let is : r ≡ Err StoreFault = cc in let not : ran_out r ≡ false = ap ran_out is in let out : ran_out r ≡ true = m.0 in cc)
 
-rose_later : (a b c : ℕ) → a ≤ b → min (b + 1) (2 ^ 64 - 1) ≤ c → min (a + 1) (2 ^ 64 - 1) ≤ c
+rose_later : (a b c : ℕ) → a ≤ b → next_count b ≤ c → next_count a ≤ c
 rose_later a b c less h = grind (arith, nat_tests)
 
 -- the first call of a run that ends in a fault, and those after it

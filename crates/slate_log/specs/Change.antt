@@ -1,5 +1,6 @@
 -- Changes of a version: what is committed of what a change makes of it.
-use Rattle.std.specs.Prelude.{ℕ, ◌+◌, ◌-◌, ◌^◌, ◌==◌, List, Option, Some, None, Result, Ok, Err, if◌then◌else◌}
+use Rattle.std.specs.Prelude.{ℕ, ◌+◌, ◌==◌, List, Option, Some, None, Result, Ok, Err, if◌then◌else◌}
+use Rattle.slate_ids.specs.Limits.{last_number}
 use Rattle.slate_ids.specs.declared.error.SlateDBError.{SlateDBError}
 use Rattle.slate_ids.specs.declared.error.SlateDBError.TheVariants.{Exhausted}
 use Rattle.slate_log.specs.Commit.{prepared}
@@ -8,7 +9,7 @@ use Rattle.slate_log.specs.declared.right.Right.{Right}
 
 -- the value with its epoch plus one, as a change of the value read
 abbrev pub next_epoch : {T : Type 0} → (T → ℕ) → (T → ℕ → T) → ℕ → T → Result (Option T) SlateDBError
-next_epoch epoch with_epoch id value = if epoch value == 2 ^ 64 - 1 then Err (Exhausted (epoch value)) else Ok (Some (with_epoch value (epoch value + 1)))
+next_epoch epoch with_epoch id value = if epoch value == last_number then Err (Exhausted (epoch value)) else Ok (Some (with_epoch value (epoch value + 1)))
 
 -- a commit, where it is not refused
 abbrev pub some_commit : {T : Type 0} → Result (CommitPhase T) SlateDBError → Result (Option (CommitPhase T)) SlateDBError

@@ -1,5 +1,6 @@
 -- Commit: put the next number, get the boundary.
-use Rattle.std.specs.Prelude.{◌≡◌, ℕ, ◌+◌, ◌-◌, ◌^◌, ◌==◌, Bool, true, false, List, Option, Some, None, Result, Ok, Err, nat_le, if◌then◌else◌}
+use Rattle.std.specs.Prelude.{◌≡◌, ℕ, ◌+◌, ◌==◌, Bool, true, false, List, Option, Some, None, Result, Ok, Err, nat_le, if◌then◌else◌}
+use Rattle.slate_ids.specs.Limits.{last_number}
 use Rattle.slate_ids.specs.declared.error.SlateDBError.{SlateDBError}
 use Rattle.slate_ids.specs.declared.error.SlateDBError.TheVariants.{TransactionalObjectVersionExists, StoreFault, Corrupt, Exhausted}
 use Rattle.slate_ids.specs.declared.error.FormatName.TheVariants.{Boundary as BoundaryFormat}
@@ -30,7 +31,7 @@ checked_commit None number value bytes = encoded_commit number value bytes
 -- the rules, then the encoding, then the put of the next number, where there is one
 abbrev pub prepared : {T : Type 0} → (ℕ → T → T → Right → Option SlateDBError) → (T → Result (List ℕ) SlateDBError) → ℕ → T → T → Right → Result (CommitPhase T) SlateDBError
 prepared refusal encoded id old value right =
-    if id == 2 ^ 64 - 1 then Err (Exhausted id) else checked_commit (refusal id old value right) (id + 1) value (encoded value)
+    if id == last_number then Err (Exhausted id) else checked_commit (refusal id old value right) (id + 1) value (encoded value)
 
 -- the one call of each phase
 abbrev pub commit_asks : {T : Type 0} → List ℕ → LogKind → CommitPhase T → StoreCall

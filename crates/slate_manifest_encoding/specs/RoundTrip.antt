@@ -6,6 +6,7 @@ use Rattle.std.proofs.Common.{ap, sym, ◌∙◌, subst, arith}
 use Rattle.std.proofs.lemmas.Bool.{and_parts, and_from}
 use Rattle.std.proofs.lemmas.Bool.Decides.{nat_tests}
 use Rattle.std.proofs.lemmas.List.{length-map}
+use Rattle.slate_ids.specs.Limits.{last_number}
 use Rattle.slate_ids.specs.declared.error.FieldName.{FieldName}
 use Rattle.slate_ids.specs.declared.error.FieldName.TheVariants.{ExpireTime, CreateTime, WalId, NoKeys, NextWal, Length}
 use Rattle.slate_tables.specs.declared.ss_table_handle.SsTableHandle.{SsTableHandle}
@@ -24,7 +25,7 @@ use Rattle.slate_parts.specs.Reads.{EachFits, ListFits, list_reads}
 use Rattle.slate_parts.specs.InfoParts.{handle_bytes, handle_in, handle_reads, HandleFits}
 use Rattle.slate_parts.specs.InfoCodec.{is_short, unless_field, whole_back}
 use Rattle.slate_manifest_parts.specs.CheckpointParts.{CheckpointFits, EntryFits}
-use Rattle.slate_manifest_parts.specs.ManifestParts.{last_number, joined, manifest_of, body_of, body_bytes, body_in, body_reads, BodyFits, all_used, using_all, made_of, manifest_among, second_version}
+use Rattle.slate_manifest_parts.specs.ManifestParts.{joined, manifest_of, body_of, body_bytes, body_in, body_reads, BodyFits, all_used, using_all, made_of, manifest_among, second_version}
 use Rattle.slate_manifest_parts.specs.Gathered.{ById, gathered}
 use Rattle.slate_manifest_encoding.specs.GatheredLaws.{values, AreGathered, gathered_well, each_has}
 use Rattle.slate_manifest_parts.specs.Decoding.{or_corrupt, after_version, decoded_manifest}

@@ -1,6 +1,7 @@
 -- The bytes of a manifest after its tables: version 2.
 use Rattle.std.specs.Prelude.{◌≡◌, ℕ, ℤ, ◌+◌, ◌-◌, ◌==◌, ◌&&◌, not, Bool, true, List, Option, Some, None, if◌then◌else◌}
 use Rattle.std.specs.List.{list_all}
+use Rattle.slate_ids.specs.Limits.{last_number}
 use Rattle.slate_tables.specs.declared.ss_table_handle.SsTableHandle.{SsTableHandle}
 use Rattle.slate_model.specs.declared.lsm_tree_state.LsmTreeState.{LsmTreeState}
 use Rattle.slate_model.specs.declared.checkpoint.Checkpoint.{Checkpoint}
@@ -36,10 +37,6 @@ Tail = List (ℕ × ℤ) × (List Checkpoint × (List ExternalDb × ℕ))
 -- head, root tree, segments, middle, tail
 abbrev pub Body : Type 0
 Body = Head × (LsmTreeState × (List Prefixed × (Middle × Tail)))
-
--- the greatest number of 64 bits
-abbrev pub last_number : ℕ
-last_number = 18446744073709551615
 
 -- the manifest of its parts
 abbrev pub joined : Body → Manifest

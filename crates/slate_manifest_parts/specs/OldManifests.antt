@@ -1,6 +1,7 @@
 -- The bytes of manifests of version 1, which are read alone.
 use Rattle.std.specs.Prelude.{ℕ, ℤ, ◌+◌, ◌==◌, Bool, List, [], Option, Some, None, is_some, if◌then◌else◌}
 use Rattle.slate_ids.specs.KeyRange.{KeyRange}
+use Rattle.slate_ids.specs.Limits.{last_number}
 use Rattle.slate_tables.specs.declared.ss_table_handle.SsTableHandle.{SsTableHandle}
 use Rattle.slate_tables.specs.Views.{View}
 use Rattle.slate_tables.specs.Runs.{Run}
@@ -18,7 +19,7 @@ use Rattle.slate_parts.specs.RangeParts.{range_in}
 use Rattle.slate_parts.specs.InfoParts.{handle_in}
 use Rattle.slate_parts.specs.ViewParts.{may_show, run_of}
 use Rattle.slate_manifest_parts.specs.CheckpointParts.{checkpoint_in, entry_in, tracker_in}
-use Rattle.slate_manifest_parts.specs.ManifestParts.{Head, last_number}
+use Rattle.slate_manifest_parts.specs.ManifestParts.{Head}
 
 -- the view of a table of its own handle, with the table's id
 abbrev pub old_view_of : SsTableHandle × Option KeyRange → Option View

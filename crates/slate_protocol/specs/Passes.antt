@@ -1,5 +1,6 @@
 -- What a pass picks of what it read, and the deletes that it makes: one for each pick, in their order.
 use Rattle.std.specs.Prelude.{◌≡◌, ℕ, ℤ, nat_le, Bool, true, false, List, [], ◌∷◌, ◌++◌, map, filter, length, Option, Some, None, Result, Ok, if◌then◌else◌}
+use Rattle.slate_ids.specs.Limits.{next_count}
 use Rattle.slate_ids.specs.declared.error.SlateDBError.{SlateDBError}
 use Rattle.slate_manifest_parts.specs.Decoding.{decoded_manifest}
 use Rattle.slate_model.specs.declared.manifest.Manifest.{Manifest}
@@ -18,7 +19,7 @@ use Rattle.slate_events.specs.declared.reply.Reply.TheVariants as reply
 use Rattle.slate_log.specs.Boundary.{boundary_got, greatest}
 use Rattle.slate_log.specs.LogPaths.{version_path}
 use Rattle.slate_log.specs.declared.log_kind.LogKind.TheVariants.{Manifest as ManifestLog}
-use Rattle.slate_gc.specs.Pass.{one_more, counts_of}
+use Rattle.slate_gc.specs.Pass.{counts_of}
 use Rattle.slate_gc.specs.Picks.{dated, candidates, picks}
 use Rattle.slate_gc.specs.declared.pass_counts.PassCounts.{PassCounts}
 use Rattle.slate_gc.specs.declared.pass_options.PassOptions.{PassOptions}
@@ -93,8 +94,8 @@ calls_of ms = map (λ m. m.call) ms
 
 -- one delete more: it failed where it faulted
 abbrev pub with_delete : StoreAnswer → PassCounts → PassCounts
-with_delete Fault counts = record counts { failed = one_more counts.failed }
-with_delete answer counts = record counts { deleted = one_more counts.deleted }
+with_delete Fault counts = record counts { failed = next_count counts.failed }
+with_delete answer counts = record counts { deleted = next_count counts.deleted }
 
 -- the counts after deletes
 abbrev pub with_deletes : PassCounts → List Made → PassCounts

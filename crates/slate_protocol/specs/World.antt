@@ -1,10 +1,11 @@
 -- The state of a cluster, and what an event does to it.
-use Rattle.std.specs.Prelude.{◌≡◌, ℕ, ◌+◌, ℤ, Bool, true, not, ◌&&◌, ◌||◌, List, Option, Some, None, is_some, is_none, length, nat_lt, max, min, if◌then◌else◌}
+use Rattle.std.specs.Prelude.{◌≡◌, ℕ, ℤ, Bool, true, not, ◌&&◌, ◌||◌, List, Option, Some, None, is_some, is_none, length, nat_lt, max, if◌then◌else◌}
 use Rattle.std.specs.Map.{lookup, set_value}
 use Rattle.std.specs.BTreeMap.{is_at, insert_entry}
 use Rattle.std.specs.Ordering.{nat_cmp}
 use Rattle.std.specs.Cmp.Lexicographic.{slice_cmp}
 use Rattle.std.specs.declared.cmp.Ordering.{Ordering}
+use Rattle.slate_ids.specs.Limits.{next_count}
 use Rattle.slate_ids.specs.declared.object_path.ObjectPath.{ObjectPath}
 use Rattle.slate_ids.specs.declared.object_path.ObjectPath.TheVariants as paths
 use Rattle.slate_store.specs.Store.{Store, effect}
@@ -93,13 +94,9 @@ abbrev pub tallied : StoreCall → Bool → List (List ℕ × Tally) → List (L
 tallied (PutNew path bytes) true tallies = committed path tallies
 tallied _ _ tallies = tallies
 
--- a count in 64 bits, which stops at its end
-abbrev pub one_more : ℕ → ℕ
-one_more n = min (n + 1) 18446744073709551615
-
 -- the count of deletes that removed an object, by whether the call removed one
 abbrev pub counted : StoreCall → Bool → ℕ → ℕ
-counted (Delete path) true deleted = one_more deleted
+counted (Delete path) true deleted = next_count deleted
 counted _ _ deleted = deleted
 
 -- ---- what an event does

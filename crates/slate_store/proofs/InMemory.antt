@@ -1,7 +1,8 @@
 -- Calls of a store in memory.
 use Rattle.std.proofs.Common.{◌≡◌, ◌≤◌, ℕ, ℤ, pos, Bool, true, false, not, nat_lt, ◌&&◌, if◌then◌else◌, Option, Some, None, is_some, is_none, Result, List, drop, refl, sym, ap, ◌∙◌, subst, arith}
+use Rattle.slate_ids.specs.Limits.{last_number}
 use Rattle.slate_ids.specs.declared.object_path.ObjectPath.{ObjectPath}
-use Rattle.slate_store.specs.Store.{Store, effect, whole, writes, taken, under, removed, put_new, tag_limit}
+use Rattle.slate_store.specs.Store.{Store, effect, whole, writes, taken, under, removed, put_new}
 use Rattle.slate_store.specs.Calls.{Calls, IsAnswerTo, IfFault, Rose, next_mark}
 use Rattle.slate_store.specs.InMemory.{Memory, told_of, answer_under, answered, faults_after, left_under}
 use Rattle.slate_store.specs.declared.mark.Mark.{Mark}
@@ -78,7 +79,7 @@ calls_by answer_of call moment x old Lost e a l = record {
 
 -- a call that writes no object goes by its mark
 pub not_taken : (mark : Mark) (call : StoreCall) (s : Store) → writes call s ≡ false → taken mark call s ≡ mark
-not_taken mark call s e = ap (λ (b : Bool). if b && not (nat_lt s.last_tag tag_limit) then Fail else mark) e
+not_taken mark call s e = ap (λ (b : Bool). if b && not (nat_lt s.last_tag last_number) then Fail else mark) e
 
 -- the same for a state that is equal to the one after it, and an equal answer
 pub calls_so : {X : Type 0} (answer_of : X → StoreAnswer) (call : StoreCall) (moment : ℤ) (x : X) (old new : Memory) (by : Mark) (r : Result X StoreError)

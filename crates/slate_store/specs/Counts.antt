@@ -1,10 +1,11 @@
 -- Counts of faults that are kept in 64 bits, and ends of bytes in memory.
-use Rattle.std.specs.Prelude.{◌≡◌, ℕ, ◌+◌, ◌-◌, ◌^◌, ◌<◌, ◌≤◌, ◌==◌, min, Bool, List, Result, MatchResult}
+use Rattle.std.specs.Prelude.{◌≡◌, ℕ, ◌<◌, ◌≤◌, ◌==◌, Bool, List, Result, MatchResult}
 use Rattle.std.specs.List.{list_any}
+use Rattle.slate_ids.specs.Limits.{next_count}
 
 -- a count in 64 bits rose, or stands at its end
 abbrev pub Rose : ℕ → ℕ → Type 0
-Rose before now = min (before + 1) (2 ^ 64 - 1) ≤ now
+Rose before now = next_count before ≤ now
 
 -- a call counts its fault, and nothing else
 abbrev pub CountsFault : {T E : Type 0} → Result T E → ℕ → ℕ → Type 0

@@ -1,7 +1,8 @@
 -- A store in memory.
-use Rattle.std.specs.Prelude.{◌≡◌, ℕ, ◌+◌, ◌-◌, ◌^◌, nat_lt, not, if◌then◌else◌, min, Option, Some, None, Result, Ok, Err, List, ◌∷◌, map, drop}
+use Rattle.std.specs.Prelude.{◌≡◌, ℕ, ◌+◌, nat_lt, not, if◌then◌else◌, Option, Some, None, Result, Ok, Err, List, ◌∷◌, map, drop}
+use Rattle.slate_ids.specs.Limits.{last_number, next_count}
 use Rattle.slate_ids.specs.declared.object_path.ObjectPath.{ObjectPath}
-use Rattle.slate_store.specs.Store.{Store, tag_limit}
+use Rattle.slate_store.specs.Store.{Store}
 use Rattle.slate_store.specs.Calls.{Told, next_mark}
 use Rattle.slate_store.specs.declared.mark.Mark.{Mark}
 use Rattle.slate_store.specs.declared.mark.Mark.TheVariants.{Good, Fail, Lost}
@@ -27,15 +28,11 @@ abbrev pub marks_of : Option Mark → List Mark → List Mark
 marks_of None marks = marks
 marks_of (Some mark) marks = mark ∷ drop 1 marks
 
--- a count of faults, one more in 64 bits
-abbrev pub raised : ℕ → ℕ
-raised faults = min (faults + 1) (2 ^ 64 - 1)
-
 -- the count of faults after a call under a mark
 abbrev pub faults_after : Mark → ℕ → ℕ
 faults_after Good faults = faults
-faults_after Fail faults = raised faults
-faults_after Lost faults = raised faults
+faults_after Fail faults = next_count faults
+faults_after Lost faults = next_count faults
 
 -- an answer under a mark
 abbrev pub answer_under : {X : Type 0} → Mark → X → Result X StoreError
@@ -49,11 +46,11 @@ answered m = record { store = m.store; marks = drop 1 m.marks; faults = faults_a
 
 -- with the first mark taken, and a fault counted
 abbrev pub faulted : Memory → Memory
-faulted m = record { store = m.store; marks = drop 1 m.marks; faults = raised m.faults }
+faulted m = record { store = m.store; marks = drop 1 m.marks; faults = next_count m.faults }
 
 -- the mark by which a write goes: where no tag is left it fails
 abbrev pub write_mark : Memory → Mark
-write_mark m = if not (nat_lt m.store.last_tag tag_limit) then Fail else next_mark m.marks
+write_mark m = if not (nat_lt m.store.last_tag last_number) then Fail else next_mark m.marks
 
 -- the tag of a write under a mark, where it writes
 abbrev pub tag_under : Mark → ℕ → Option ℕ

@@ -2,6 +2,7 @@
 use Rattle.std.specs.Prelude.{ℕ, ◌+◌, ◌==◌, nat_lt, Bool, true, false, not, ◌&&◌, if◌then◌else◌, ℤ, Option, Some, None, is_some, is_none, List, length, map, filter}
 use Rattle.std.specs.Map.{lookup, remove_entry}
 use Rattle.std.specs.BTreeMap.{is_at, insert_entry}
+use Rattle.slate_ids.specs.Limits.{last_number}
 use Rattle.slate_ids.specs.PathText.{path_cmp}
 use Rattle.slate_ids.specs.declared.object_path.ObjectPath.{ObjectPath}
 use Rattle.slate_store.specs.Folders.{is_in}
@@ -19,10 +20,6 @@ use Rattle.slate_store.specs.declared.store_answer.StoreAnswer.TheVariants.{Foun
 pub record Store : Type 0 where
   pub objects : List (ObjectPath × StoredObject)
   pub last_tag : ℕ
-
--- the greatest tag
-abbrev pub tag_limit : ℕ
-tag_limit = 18446744073709551615
 
 -- the object at a path
 abbrev pub object_at : ObjectPath → Store → Option StoredObject
@@ -86,7 +83,7 @@ writes _ s = false
 
 -- a write that has no tag left goes as under Fail, whatever its mark
 abbrev pub taken : Mark → StoreCall → Store → Mark
-taken mark call s = if writes call s && not (nat_lt s.last_tag tag_limit) then Fail else mark
+taken mark call s = if writes call s && not (nat_lt s.last_tag last_number) then Fail else mark
 
 abbrev pub under : Mark → Outcome → Store → Outcome
 under Good o s = o

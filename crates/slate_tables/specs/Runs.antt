@@ -4,8 +4,9 @@ use Rattle.std.specs.declared.ops.Bound.{Bound}
 use Rattle.std.specs.declared.ops.Bound.TheVariants.{Included, Excluded, Unbounded}
 use Rattle.slate_ids.specs.Keys.{key_le}
 use Rattle.slate_ids.specs.KeyRange.{KeyRange, has_key, ranges_meet}
+use Rattle.slate_ids.specs.Limits.{last_number}
 use Rattle.std.specs.List.{list_all}
-use Rattle.slate_tables.specs.Tables.{is_compacted, table_size, size_limit}
+use Rattle.slate_tables.specs.Tables.{is_compacted, table_size}
 use Rattle.slate_tables.specs.Views.{View, effective_range, shows_key}
 
 -- a run: its number and its views, in order
@@ -15,7 +16,7 @@ pub record Run : Type 0 where
 
 -- about how many bytes a run has: the sum over its views, saturating
 abbrev pub run_size : List View → ℕ
-run_size views = min (sum_by (λ v. table_size v.sst) views) size_limit
+run_size views = min (sum_by (λ v. table_size v.sst) views) last_number
 
 -- the last of views
 abbrev pub last_of : View → List View → View

@@ -2,6 +2,7 @@
 use Rattle.std.specs.Prelude.{ℕ, ◌+◌, min, Bool, true, false, List, Option, Some, None}
 use Rattle.std.specs.declared.ops.Bound.TheVariants.{Included, Unbounded}
 use Rattle.slate_ids.specs.KeyRange.{KeyRange, no_keys}
+use Rattle.slate_ids.specs.Limits.{last_number}
 use Rattle.slate_tables.specs.declared.ss_table_id.SsTableId.{SsTableId}
 use Rattle.slate_tables.specs.declared.ss_table_id.SsTableId.TheVariants.{Wal, Compacted}
 use Rattle.slate_tables.specs.declared.table_tags.SstType.{SstType}
@@ -39,13 +40,9 @@ default_format = Composite
 abbrev pub no_info : SsTableInfo
 no_info = record { first_entry = None; last_entry = None; index_offset = 0; index_len = 0; filter_offset = 0; filter_len = 0; compression_codec = compressed.None; sst_type = default_type; stats_offset = 0; stats_len = 0; filter_format = default_format }
 
--- the greatest size
-abbrev pub size_limit : ℕ
-size_limit = 18446744073709551615
-
 -- up to the end of the index, saturating
 abbrev pub table_size : SsTableHandle → ℕ
-table_size sst = min (sst.info.index_offset + sst.info.index_len) size_limit
+table_size sst = min (sst.info.index_offset + sst.info.index_len) last_number
 
 -- from the first entry to the last, both included; without a last entry all from the first, and without a first entry no keys
 abbrev pub keys_between : Option (List ℕ) → Option (List ℕ) → KeyRange

@@ -1,7 +1,8 @@
 -- An apply ends in a fault only where the store faults.
-use Rattle.std.specs.Prelude.{◌≡◌, ◌≢◌, ◌+◌, ◌-◌, ◌^◌, ◌==◌, ℕ, Bool, true, false, List, Option, Some, None, Result, Ok, Err, if◌then◌else◌, refl}
+use Rattle.std.specs.Prelude.{◌≡◌, ◌≢◌, ◌+◌, ◌==◌, ℕ, Bool, true, false, List, Option, Some, None, Result, Ok, Err, if◌then◌else◌, refl}
 use Rattle.std.proofs.Common.{◌⊎◌, inl, inr, ap, sym, subst, ◌∙◌}
 use Rattle.slate_ids.specs.Answers.{is_conflict, is_memory, Gives}
+use Rattle.slate_ids.specs.Limits.{last_number}
 use Rattle.slate_store.specs.Calls.{Told, IsAnswerTo}
 use Rattle.slate_log.specs.Due.{FaultOf}
 use Rattle.slate_ids.specs.declared.error.SlateDBError.{SlateDBError}
@@ -47,7 +48,7 @@ due_wanted : {T : Type 0} (refusal : ℕ → T → T → Right → Option SlateD
     → Due (wanted (λ v. prepared refusal encoded id value v right) new)
 due_wanted refusal encoded right id value (Err e) = tt
 due_wanted refusal encoded right id value (Ok None) = tt
-due_wanted refusal encoded right id value (Ok (Some v)) = due_if (id == 2 ^ 64 - 1) id (refusal id value v right) (id + 1) v (encoded v)
+due_wanted refusal encoded right id value (Ok (Some v)) = due_if (id == last_number) id (refusal id value v right) (id + 1) v (encoded v)
 
 due_renews : {T C R : Type 0} (ways : Ways T C R) (holder : Holder T C R) (id : ℕ) (value : T) → Due (renews ways holder id value)
 due_renews ways holder id value = due_wanted (ways.refusal holder.rules) (ways.encoded holder.sequenced.codec) ways.right id value (ways.changed id value)

@@ -2,12 +2,13 @@
 use Rattle.std.specs.Prelude.{◌≡◌, ◌||◌, ◌&&◌, not, nat_lt, nat_le, ℤ, ℕ, Bool, true, false, List, [], ◌∷◌, Option, Some, None, Result, Ok, Err, OnOk, OnErr, IfErr, if◌then◌else◌, refl}
 use Rattle.std.proofs.Common.{◌⊎◌, inl, inr, ap, sym, subst, ◌∙◌, arith}
 use Rattle.slate_ids.specs.Answers.{Gives, OrMemory, ran_out}
+use Rattle.slate_ids.specs.Limits.{last_number}
 use Rattle.slate_ids.specs.declared.error.SlateDBError.{SlateDBError}
 use Rattle.slate_ids.specs.declared.error.SlateDBError.TheVariants.{TransactionalObjectVersionExists, StoreFault}
 use Rattle.slate_store.specs.Calls.{Told, Makes, Answers, contents_after, moment_of}
 use Rattle.slate_store.specs.Machines.{Goes, Stay, End}
 use Rattle.slate_store.specs.Runs.{Run, turns, one_if}
-use Rattle.slate_store.specs.Store.{Store, Outcome, put_new, under, writes, object_at, tag_limit, whole}
+use Rattle.slate_store.specs.Store.{Store, Outcome, put_new, under, writes, object_at, whole}
 use Rattle.slate_store.specs.declared.made.Made.{Made}
 use Rattle.slate_store.specs.declared.mark.Mark.{Mark}
 use Rattle.slate_store.specs.declared.mark.Mark.TheVariants.{Good, Fail, Lost}
@@ -39,7 +40,7 @@ under_either false Lost o s = inr refl
 either_contents : (mark : Mark) (path : ObjectPath) (bytes : List ℕ) (moment : ℤ) (contents : Option Store)
     → (contents_after mark (PutNew path bytes) moment contents ≡ contents) ⊎ (contents_after mark (PutNew path bytes) moment contents ≡ contents_after Good (PutNew path bytes) moment contents)
 either_contents mark path bytes moment None = inl refl
-either_contents mark path bytes moment (Some s) = under_either (writes (PutNew path bytes) s && not (nat_lt s.last_tag tag_limit)) mark (whole (PutNew path bytes) moment s) s
+either_contents mark path bytes moment (Some s) = under_either (writes (PutNew path bytes) s && not (nat_lt s.last_tag last_number)) mark (whole (PutNew path bytes) moment s) s
 
 -- where no object was made the store is as it was
 under_none : (b : Bool) (mark : Mark) (object : Option StoredObject) (path : ObjectPath) (bytes : List ℕ) (moment : ℤ) (s : Store)
@@ -52,7 +53,7 @@ under_none false Lost object path bytes moment s same = absurd cc
 
 none_contents : (mark : Mark) (path : ObjectPath) (bytes : List ℕ) (moment : ℤ) (contents : Option Store) → Answers mark contents (PutNew path bytes) moment (Created None) → contents_after mark (PutNew path bytes) moment contents ≡ contents
 none_contents mark path bytes moment None answers = refl
-none_contents mark path bytes moment (Some s) answers = under_none (writes (PutNew path bytes) s && not (nat_lt s.last_tag tag_limit)) mark (object_at path s) path bytes moment s answers
+none_contents mark path bytes moment (Some s) answers = under_none (writes (PutNew path bytes) s && not (nat_lt s.last_tag last_number)) mark (object_at path s) path bytes moment s answers
 
 -- where one was made the put had its whole effect
 under_some : (b : Bool) (mark : Mark) (o : Outcome) (s : Store) (tag : ℕ) → Created (Some tag) ≡ (under (if b then Fail else mark) o s).answer → Some (under (if b then Fail else mark) o s).store ≡ Some (under (if b then Fail else Good) o s).store
@@ -63,7 +64,7 @@ under_some false Lost o s tag same = refl
 
 some_contents : (mark : Mark) (path : ObjectPath) (bytes : List ℕ) (moment : ℤ) (contents : Option Store) (tag : ℕ) → Answers mark contents (PutNew path bytes) moment (Created (Some tag)) → contents_after mark (PutNew path bytes) moment contents ≡ contents_after Good (PutNew path bytes) moment contents
 some_contents mark path bytes moment None tag answers = refl
-some_contents mark path bytes moment (Some s) tag answers = under_some (writes (PutNew path bytes) s && not (nat_lt s.last_tag tag_limit)) mark (whole (PutNew path bytes) moment s) s tag answers
+some_contents mark path bytes moment (Some s) tag answers = under_some (writes (PutNew path bytes) s && not (nat_lt s.last_tag last_number)) mark (whole (PutNew path bytes) moment s) s tag answers
 
 -- what stands where the commit is: its put may stand, stands after Ok, and doesn't after any refusal but these
 abbrev Fate : {T : Type 0} → Type 0 → Type 0 → Goes (CommitPhase T) (ℕ × T) → Type 0

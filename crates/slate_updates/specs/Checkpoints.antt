@@ -2,6 +2,7 @@
 use Rattle.std.specs.Prelude.{ℕ, ◌+◌, ◌==◌, ℤ, pos, ◌+ℤ◌, int_le, Bool, false, not, List, [], ◌∷◌, ◌++◌, map, filter, Option, Some, None, is_some, Result, Ok, Err, bytes_eq, if◌then◌else◌}
 use Rattle.std.specs.Int.{w64, saturate_signed}
 use Rattle.std.specs.List.{list_any}
+use Rattle.slate_ids.specs.Limits.{last_number}
 use Rattle.slate_ids.specs.declared.error.SlateDBError.{SlateDBError}
 use Rattle.slate_ids.specs.declared.error.SlateDBError.TheVariants.{CheckpointMissing, InvalidDBState, Exhausted}
 use Rattle.slate_ids.specs.declared.error.StateCause.TheVariants.{NotInitialised}
@@ -33,7 +34,7 @@ expiry now (Some lifetime) = Some (saturate_signed w64 (now +ℤ pos lifetime))
 
 -- the number of the version after this one
 abbrev pub number_after : ℕ → Result ℕ SlateDBError
-number_after n = if n == 18446744073709551615 then Err (Exhausted n) else Ok (n + 1)
+number_after n = if n == last_number then Err (Exhausted n) else Ok (n + 1)
 
 -- the version of the checkpoint that is the source of another
 abbrev pub source_version : List ℕ → Option Checkpoint → Result ℕ SlateDBError
