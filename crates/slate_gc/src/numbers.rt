@@ -2,9 +2,9 @@
 ghost use Rattle.std.specs.Prelude.{◌≡◌, ◌++◌, ◌∷◌, [], drop, length, not, OnOk, OnErr};
 ghost use Rattle.slate_gc.specs.Picks.{greatest_number};
 ghost use Rattle.slate_gc.specs.Queue.{first_number, has_number};
-ghost use Rattle.slate_log.specs.Boundary.{greater};
 
 use slate_ids::OutOfMemory;
+use slate_log::greater;
 use std::alloc::Global;
 use std::collections::VecDeque;
 use std::marker::Model;
@@ -22,16 +22,6 @@ impl Model for Numbers {
     ghost Value = { List ℕ };
 
     ghost view = { λ a. a.numbers.items };
-}
-
-// The greater of the best so far and a number.
-fn greater(best: Option<u64>, number: u64) -> Option<u64>
-    ensures { result ≡ greater best (Some number) }
-{
-    match best {
-        None => Some(number),
-        Some(m) => Some(m.max(number)),
-    }
 }
 
 impl Numbers {
@@ -87,7 +77,7 @@ impl Numbers {
     {
         let mut best = None;
         for number in &self.numbers {
-            best = greater(best, *number);
+            best = greater(best, Some(*number));
         }
         best
     }

@@ -7,6 +7,7 @@ pub mod KeyRange
 pub mod Codes
 pub mod Answers
 pub mod Numerals
+pub mod Decimals
 pub mod UlidText
 pub mod Ulids
 pub mod Twenty

@@ -1,20 +1,12 @@
 -- Ids of tables and views as scripts write them: milliseconds and tail in decimal, with a colon between them.
-use Rattle.std.specs.Prelude.{ℕ, ◌+◌, ◌-◌, ◌*◌, ◌^◌, ◌&&◌, ◌==◌, nat_le, nat_lt, List, [], ◌∷◌, length, take, drop, Option, Some, None, if◌then◌else◌}
+use Rattle.std.specs.Prelude.{ℕ, ◌+◌, ◌^◌, ◌==◌, List, take, drop, Option, Some}
 use Rattle.std.specs.List.{position}
 use Rattle.serde_json.specs.Data.{Data}
 use Rattle.serde_json.specs.Find.{as_str}
+use Rattle.slate_ids.specs.Decimals.{number_below}
 use Rattle.slate_json.specs.Fields.{◌>>=◌}
 
--- the number that the digits go on to, where it stays below the limit
-abbrev pub digits_from : ℕ → ℕ → List ℕ → Option ℕ
-digits_from limit n [] = Some n
-digits_from limit n (c ∷ cs) = if nat_le 48 c && nat_le c 57 && nat_lt (n * 10 + (c - 48)) limit then digits_from limit (n * 10 + (c - 48)) cs else None
-
--- the number that one or more digits write, where it is below the limit; zeros may lead
-abbrev pub number_below : ℕ → List ℕ → Option ℕ
-number_below limit s = if length s == 0 then None else digits_from limit 0 s
-
--- the id of these milliseconds, below 2^48, and this tail, below 2^80
+-- the id of these milliseconds, below 2^48, and this tail, below 2^80; zeros may lead
 abbrev pub id_of_parts : List ℕ → List ℕ → Option (ℕ × ℕ)
 id_of_parts ms tail = number_below (2 ^ 48) ms >>= λ m. number_below (2 ^ 80) tail >>= λ t. Some (m, t)
 

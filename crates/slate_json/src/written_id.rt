@@ -1,42 +1,8 @@
 //! Ids of tables and views as scripts write them: milliseconds and tail in decimal, with a colon between them.
-ghost use Rattle.std.specs.Prelude.{◌≡◌, ◌<◌, ◌≤◌, ◌^◌, ◌+◌, length, drop, IfSome};
+ghost use Rattle.std.specs.Prelude.{◌≡◌, ◌<◌, ◌≤◌, length, drop, IfSome};
 ghost use Rattle.slate_json.specs.WrittenIds as written;
-ghost use Rattle.slate_json.specs.WrittenIds.{digits_from};
 
-use slate_ids::Ulid;
-
-// The number that the digits are, where it is below the limit.
-fn digits(text: &[u8], limit: u128) -> Option<u128>
-    requires some { 0 < limit }
-    requires small { limit ≤ 2 ^ 80 }
-    ensures value { result ≡ digits_from limit 0 text.now }
-    ensures fits { IfSome result (λ n. n < limit) }
-{
-    let mut n = 0u128;
-    for c in text {
-        if *c < b'0' || *c > b'9' {
-            return None;
-        }
-        n = n * 10 + (*c - b'0') as u128;
-        if n >= limit {
-            return None;
-        }
-    }
-    Some(n)
-}
-
-// The number that one or more digits write, where it is below the limit.
-fn number_below(text: &[u8], limit: u128) -> Option<u128>
-    requires some { 0 < limit }
-    requires small { limit ≤ 2 ^ 80 }
-    ensures value { result ≡ written.number_below limit text.now }
-    ensures fits { IfSome result (λ n. n < limit) }
-{
-    if text.is_empty() {
-        return None;
-    }
-    digits(text, limit)
-}
+use slate_ids::{Ulid, number_below};
 
 // The id of these milliseconds and this tail.
 fn id_of_parts(ms: &[u8], tail: &[u8]) -> Option<Ulid>

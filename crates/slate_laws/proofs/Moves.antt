@@ -1,14 +1,13 @@
 -- What a boundary that is moved, and a version that is deleted, leave of a log.
 use Rattle.std.proofs.Common.{◌≡◌, ◌≢◌, ℕ, ℤ, ◌+◌, ◌<◌, ◌≤◌, ◌^◌, true, List, Option, Some, None, refl, sym, ap, ◌∙◌, arith}
-use Rattle.std.proofs.lemmas.Fmt.{decimal_injective}
 use Rattle.std.specs.Prelude.{decimal}
+use Rattle.slate_ids.proofs.DecimalTexts.{decimal_back}
 use Rattle.slate_ids.specs.Ids.{is_db_path}
 use Rattle.slate_ids.specs.declared.object_path.ObjectPath.{ObjectPath}
 use Rattle.slate_store.specs.Store.{Store, object_at, stored, removed}
 use Rattle.slate_store.specs.declared.object.StoredObject.{StoredObject}
-use Rattle.slate_log.specs.Boundary.{boundary_of, boundary_got, ReadsDecimal}
+use Rattle.slate_log.specs.Boundary.{boundary_got}
 use Rattle.slate_log.specs.LogPaths.{version_path, boundary_path}
-use Rattle.slate_log.proofs.Decimals.{reads_decimal}
 use Rattle.slate_protocol.specs.Chains.{Link, Log, top, bytes_of, bound_in}
 use Rattle.slate_protocol.specs.Chains.Changed.{Stays}
 use Rattle.slate_laws.proofs.Stores.{put_object, at_put, at_else, at_left}
@@ -17,14 +16,6 @@ use Rattle.slate_protocol.specs.Reach.{IsSpare}
 use Rattle.slate_laws.proofs.Facts.{IsCommitted, IsSound, IsReached, Grows}
 use Rattle.slate_laws.proofs.Puts.{Leaves, committed_small}
 use Rattle.slate_laws.proofs.Spares.{spare_else}
-
--- a number is read of its decimal text
-pub read_back : (n : ℕ) → n < 2 ^ 64 → boundary_of (decimal n) ≡ Some n
-read_back n small = by_read (boundary_of (decimal n)) (reads_decimal (decimal n))
-  where
-    by_read : (o : Option ℕ) → ReadsDecimal (decimal n) o → o ≡ Some n
-    by_read None h = absurd (h n small refl)
-    by_read (Some k) h = ap (λ (j : ℕ). Some j) (sym (decimal_injective n k small h.1 h.0))
 
 module _ {V A : Type 0} (log : Log V A) (db : List ℕ) (named : is_db_path db ≡ true) (author : A) (s : Store) (c : List (Link V A)) (i : IsSound log db s c) where
   -- the boundary is moved to a number that is not below it, and below the greatest
@@ -36,7 +27,7 @@ module _ {V A : Type 0} (log : Log V A) (db : List ℕ) (named : is_db_path db �
     small = let lt = i.small in omega arith
 
     moved_read : bound_in log db moved ≡ Some n
-    moved_read = ap boundary_got (at_put (boundary_path log.kind db) (decimal n) moment s) ∙ read_back n small
+    moved_read = ap boundary_got (at_put (boundary_path log.kind db) (decimal n) moment s) ∙ decimal_back n small
 
     moved_object : (o : StoredObject) → object_at (boundary_path log.kind db) moved ≡ Some o → o.e_tag ≡ s.last_tag + 1
     moved_object o at =

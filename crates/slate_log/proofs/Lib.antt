@@ -1,4 +1,3 @@
-pub mod Decimals
 mod Ascend
 pub mod Steps
 mod Once

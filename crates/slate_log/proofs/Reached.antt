@@ -25,7 +25,7 @@ use Rattle.slate_log.specs.declared.advance.AdvancePhase.{AdvancePhase}
 use Rattle.slate_log.specs.declared.advance.AdvancePhase.TheVariants.{Bounding, Creating, Replacing, Over}
 use Rattle.slate_log.specs.declared.log_kind.LogKind.{LogKind}
 use Rattle.slate_log.specs.declared.sequenced.Sequenced.{Sequenced}
-use Rattle.slate_log.proofs.Decimals.{boundary_decimal}
+use Rattle.slate_ids.proofs.DecimalTexts.{decimal_back}
 use Rattle.slate_log.proofs.Steps.{reads_keep}
 use Rattle.slate_log.proofs.Stored.{at_stored}
 
@@ -71,7 +71,7 @@ module _ (db : List ℕ) (log : LogKind) where
 
   -- after a write of a number the boundary is that number
   stored_is : (n : ℕ) (moment : ℤ) (s : Store) → n < 2 ^ 64 → boundary_at db log (stored path (decimal n) moment s) ≡ Some n
-  stored_is n moment s small = ap boundary_got (at_stored path (decimal n) moment s) ∙ boundary_decimal n small
+  stored_is n moment s small = ap boundary_got (at_stored path (decimal n) moment s) ∙ decimal_back n small
 
   stored_reaches : (n : ℕ) (moment : ℤ) (s : Store) → n < 2 ^ 64 → AtLeast n (boundary_at db log (stored path (decimal n) moment s))
   stored_reaches n moment s small = subst (λ (o : Option ℕ). AtLeast n o) (sym (stored_is n moment s small)) (omega arith)

@@ -23,7 +23,7 @@ mod try_read;
 mod versions;
 
 pub use advance::AdvancePhase;
-pub use boundary::{boundary_in, decode_boundary, encode_boundary, greatest};
+pub use boundary::{boundary_in, decode_boundary, encode_boundary, greater, greatest};
 pub use commit::{CommitPhase, prepare};
 pub use delete::DeletePhase;
 pub use fencing::fence;

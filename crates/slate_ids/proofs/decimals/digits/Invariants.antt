@@ -1,6 +1,6 @@
 use Rattle.std.proofs.Common.{◌≡◌, ◌<◌, drop}
-use Rattle.slate_json.specs.WrittenIds.{digits_from}
-use Rattle.slate_json.proofs.written_id.digits.Given as goal
+use Rattle.slate_ids.specs.Decimals.{digits_from}
+use Rattle.slate_ids.proofs.decimals.digits.Given as goal
 
 -- the digits that are left go on from the number so far
 abbrev pub invariant-loop-c : goal.invariant-loop-c
