@@ -6,6 +6,7 @@ ghost use Rattle.slate_ids.specs.Codes.{code_of};
 
 use crate::checkpoint_id::CheckpointId;
 use crate::out_of_memory::OutOfMemory;
+use crate::plain::Plain;
 use crate::text::Text;
 use crate::ulid::Ulid;
 use bytes::Bytes;
@@ -193,21 +194,6 @@ impl<T: Drop> From<AllocFailed<T>> for SlateDBError {
     }
 }
 
-fn copy_bytes(alloc: Global, bytes: &Bytes) -> Result<Bytes, OutOfMemory>
-    ensures { IfOk result (λ copied. copied ≡ bytes.now) }
-{
-    Ok(Bytes::copy_from_slice(alloc, bytes.as_slice())?)
-}
-
-fn copy_name(alloc: Global, name: &Option<Text>) -> Result<Option<Text>, OutOfMemory>
-    ensures { IfOk result (λ copied. copied ≡ name.now) }
-{
-    match name {
-        None => Ok(None),
-        Some(text) => Ok(Some(Text::copy_of(alloc, text.as_str())?)),
-    }
-}
-
 impl SlateDBError {
     /// The refusal's number, 1 to 23.
     pub fn code(&self) -> u8
@@ -276,25 +262,25 @@ impl SlateDBError {
             Self::Corrupt(format) => Self::Corrupt(*format),
             Self::Unencodable(field) => Self::Unencodable(*field),
             Self::SegmentWithoutWriter(prefix) => {
-                Self::SegmentWithoutWriter(copy_bytes(alloc, prefix)?)
+                Self::SegmentWithoutWriter(Plain::clone(prefix, alloc)?)
             }
             Self::InvalidSegmentPrefix { prefix, conflict } => {
                 Self::InvalidSegmentPrefix {
-                    prefix: copy_bytes(alloc, prefix)?,
-                    conflict: copy_bytes(alloc, conflict)?,
+                    prefix: Plain::clone(prefix, alloc)?,
+                    conflict: Plain::clone(conflict, alloc)?,
                 }
             }
             Self::SegmentExtractorMismatch {
                 persisted,
                 configured,
             } => Self::SegmentExtractorMismatch {
-                persisted: copy_name(alloc, persisted)?,
-                configured: copy_name(alloc, configured)?,
+                persisted: Plain::clone(persisted, alloc)?,
+                configured: Plain::clone(configured, alloc)?,
             },
             Self::SegmentPrefixNotRecognized { prefix, extractor } => {
                 Self::SegmentPrefixNotRecognized {
-                    prefix: copy_bytes(alloc, prefix)?,
-                    extractor: Text::copy_of(alloc, extractor.as_str())?,
+                    prefix: Plain::clone(prefix, alloc)?,
+                    extractor: extractor.copy(alloc)?,
                 }
             }
             Self::WalStoreReconfigurationError => { Self::WalStoreReconfigurationError }

@@ -24,8 +24,10 @@ mod path_order;
 mod path_pieces;
 mod path_rest;
 mod path_text;
+mod plain;
 mod text;
 mod ulid;
+mod walk;
 
 pub use byte_list::ByteList;
 pub use bytes_range::BytesRange;
@@ -43,5 +45,7 @@ pub use number_range::NumberRange;
 pub use object_path::ObjectPath;
 pub use out_of_memory::OutOfMemory;
 pub use path_rest::PathRest;
+pub use plain::{Plain, are_same, copies};
 pub use text::Text;
 pub use ulid::Ulid;
+pub use walk::Walk;

@@ -108,12 +108,12 @@ impl Segment {
 impl Plain for Segment {
     fn clone(&self, alloc: Global) -> Result<Segment, OutOfMemory> {
         Ok(Segment {
-            prefix: self.prefix.clone()?,
+            prefix: Plain::clone(&self.prefix, alloc)?,
             tree: self.tree.clone(alloc)?,
         })
     }
 
     fn is(&self, other: &Segment) -> bool {
-        self.prefix == other.prefix && self.tree.is(&other.tree)
+        self.prefix.is(&other.prefix) && self.tree.is(&other.tree)
     }
 }

@@ -75,7 +75,7 @@ impl Segments {
         ensures ok { OnOk result (self.new ≡ placed prefix.now empty_tree self.old) }
         ensures err { OnErr result (self.new ≡ self.old) }
     {
-        let segment = Segment::new(prefix.clone()?, LsmTreeState::new(alloc));
+        let segment = Segment::new(Plain::clone(prefix, alloc)?, LsmTreeState::new(alloc));
         self.items.insert(place, segment)?;
         Ok(())
     }
@@ -129,10 +129,10 @@ impl Segments {
 
 impl Plain for Segments {
     fn clone(&self, alloc: Global) -> Result<Segments, OutOfMemory> {
-        Ok(Segments::from_vec(copies(alloc, self.as_slice())?))
+        Ok(Segments::from_vec(copies(alloc, self.as_slice().iter())?))
     }
 
     fn is(&self, other: &Segments) -> bool {
-        are_same(self.as_slice(), other.as_slice())
+        are_same(self.as_slice().iter(), other.as_slice().iter())
     }
 }

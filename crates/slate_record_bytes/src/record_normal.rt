@@ -59,12 +59,12 @@ fn normal_spec(alloc: Global, spec: &CompactionSpec) -> Result<CompactionSpec, O
             sources,
             destination,
         } => Ok(CompactionSpec::Tiered {
-            segment: segment.clone()?,
+            segment: Plain::clone(segment, alloc)?,
             sources: normal_sources(alloc, sources.as_slice())?,
             destination: *destination,
         }),
         CompactionSpec::DrainSegment { segment, sources } => Ok(CompactionSpec::DrainSegment {
-            segment: segment.clone()?,
+            segment: Plain::clone(segment, alloc)?,
             sources: normal_sources(alloc, sources.as_slice())?,
         }),
     }

@@ -1,5 +1,5 @@
 //! What a compaction is to do.
-ghost use Rattle.std.specs.Prelude.{◌≡◌, IsTrue, ◌↔◌};
+ghost use Rattle.std.specs.Prelude.{◌≡◌};
 ghost use Rattle.slate_records.specs.Compactions.{segment_of, sources_of};
 
 use crate::source_id::SourceId;
@@ -51,12 +51,6 @@ impl CompactionSpec {
     }
 }
 
-fn same_segment(a: &Bytes, b: &Bytes) -> bool
-    ensures { IsTrue result ↔ a.now ≡ b.now }
-{
-    a == b
-}
-
 impl Plain for CompactionSpec {
     fn clone(&self, alloc: Global) -> Result<CompactionSpec, OutOfMemory> {
         match self {
@@ -65,12 +59,12 @@ impl Plain for CompactionSpec {
                 sources,
                 destination,
             } => Ok(CompactionSpec::Tiered {
-                segment: segment.clone()?,
+                segment: Plain::clone(segment, alloc)?,
                 sources: sources.copy(alloc)?,
                 destination: *destination,
             }),
             CompactionSpec::DrainSegment { segment, sources } => Ok(CompactionSpec::DrainSegment {
-                segment: segment.clone()?,
+                segment: Plain::clone(segment, alloc)?,
                 sources: sources.copy(alloc)?,
             }),
         }
@@ -89,7 +83,7 @@ impl Plain for CompactionSpec {
                     sources: y,
                     destination: z,
                 },
-            ) => same_segment(a, x) && b.is(y) && *c == *z,
+            ) => a.is(x) && b.is(y) && *c == *z,
             (
                 CompactionSpec::DrainSegment {
                     segment: a,
@@ -99,7 +93,7 @@ impl Plain for CompactionSpec {
                     segment: x,
                     sources: y,
                 },
-            ) => same_segment(a, x) && b.is(y),
+            ) => a.is(x) && b.is(y),
             _ => false,
         }
     }

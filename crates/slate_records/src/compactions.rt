@@ -7,10 +7,9 @@ ghost use Rattle.slate_records.specs.Retaining.{retained};
 
 use crate::compaction::Compaction;
 use crate::compactions_iter::CompactionsIter;
-use crate::entries::{Entries, are_same, copies, find, keep, least};
+use crate::entries::{Entries, copies, find, keep, least};
 use crate::retained::retain;
-use slate_ids::{OutOfMemory, Ulid};
-use slate_tables::Plain;
+use slate_ids::{OutOfMemory, Plain, Ulid, are_same};
 use std::alloc::Global;
 use std::collections::BTreeMap;
 use std::marker::Model;
@@ -112,6 +111,7 @@ impl Plain for Compactions {
     }
 
     fn is(&self, other: &Compactions) -> bool {
-        self.compactor_epoch == other.compactor_epoch && are_same(&self.entries, &other.entries)
+        self.compactor_epoch == other.compactor_epoch
+            && are_same(self.entries.values(), other.entries.values())
     }
 }

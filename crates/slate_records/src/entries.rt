@@ -1,5 +1,5 @@
 //! Compactions by their ids.
-ghost use Rattle.std.specs.Prelude.{◌≡◌, ℕ, None, Some, true, false, IfOk, IfSome, OnOk, OnErr, IsTrue, ◌↔◌, option_copied, if◌then◌else◌};
+ghost use Rattle.std.specs.Prelude.{◌≡◌, ℕ, None, Some, true, false, IfOk, IfSome, OnOk, OnErr, option_copied, if◌then◌else◌};
 ghost use Rattle.std.specs.List.{list_any};
 ghost use Rattle.slate_records.specs.Entries.{compactions_of, UnderOwnIds};
 ghost use Rattle.slate_records.specs.Records.{entry_of, first_id, inserted};
@@ -58,22 +58,4 @@ pub(crate) fn copies(alloc: Global, entries: &Entries) -> Result<Entries, OutOfM
         keep(&mut copied, compaction.clone(alloc)?)?;
     }
     Ok(copied)
-}
-
-/// Whether the compactions are equal, one by one.
-pub(crate) fn are_same(a: &Entries, b: &Entries) -> bool
-    ensures { IsTrue result ↔ compactions_of a.now.entries ≡ compactions_of b.now.entries }
-{
-    let mut others = b.values();
-    for compaction in a.values() {
-        match others.next() {
-            Some(other) => {
-                if !compaction.is(other) {
-                    return false;
-                }
-            }
-            None => return false,
-        }
-    }
-    others.next().is_none()
 }

@@ -16,12 +16,12 @@ pub struct Subcompaction {
 impl Plain for Subcompaction {
     fn clone(&self, alloc: Global) -> Result<Subcompaction, OutOfMemory> {
         Ok(Subcompaction {
-            range: self.range.clone()?,
+            range: Plain::clone(&self.range, alloc)?,
             output_ssts: self.output_ssts.clone(alloc)?,
         })
     }
 
     fn is(&self, other: &Subcompaction) -> bool {
-        self.range == other.range && self.output_ssts.is(&other.output_ssts)
+        self.range.is(&other.range) && self.output_ssts.is(&other.output_ssts)
     }
 }

@@ -4,7 +4,6 @@
 mod covering;
 mod l0_overlap;
 mod order;
-mod plain;
 mod queue;
 mod sorted_run;
 mod ss_table_handle;
@@ -15,8 +14,8 @@ mod table_tags;
 
 pub use l0_overlap::max_l0_overlap;
 pub use order::all_show_keys;
-pub use plain::{Plain, are_same, copies};
 pub use queue::Queue;
+pub use slate_ids::{Plain, are_same, copies};
 pub use sorted_run::SortedRun;
 pub use ss_table_handle::SsTableHandle;
 pub use ss_table_id::SsTableId;

@@ -1,8 +1,7 @@
 //! Values in order, taken and given at both ends.
-ghost use Rattle.std.specs.Prelude.{◌≡◌, ◌++◌, ◌∷◌, [], OnOk, OnErr, IsTrue, ◌↔◌, IfOk};
+ghost use Rattle.std.specs.Prelude.{◌≡◌, ◌++◌, ◌∷◌, [], OnOk, OnErr};
 
-use crate::plain::{Plain, push_copies};
-use slate_ids::OutOfMemory;
+use slate_ids::{OutOfMemory, Plain, are_same, copies};
 use std::alloc::Global;
 use std::collections::VecDeque;
 use std::marker::Model;
@@ -91,31 +90,12 @@ impl<T> Queue<T> {
     }
 }
 
-// Whether two queues have the same values, one by one.
-fn are_same<T: Plain>(a: &VecDeque<T>, b: &VecDeque<T>) -> bool
-    ensures { IsTrue result ↔ a.now.items ≡ b.now.items }
-{
-    if a.len() != b.len() {
-        return false;
-    }
-    for i in 0..a.len() {
-        if !a[i].is(&b[i]) {
-            return false;
-        }
-    }
-    true
-}
-
 impl<T: Plain + Drop> Plain for Queue<T> {
     fn clone(&self, alloc: Global) -> Result<Queue<T>, OutOfMemory> {
-        let (front, back) = self.items.as_slices();
-        let mut copied = Vec::new(alloc);
-        push_copies(alloc, &mut copied, front)?;
-        push_copies(alloc, &mut copied, back)?;
-        Ok(Queue::from_vec(copied))
+        Ok(Queue::from_vec(copies(alloc, self.items.iter())?))
     }
 
     fn is(&self, other: &Queue<T>) -> bool {
-        are_same(&self.items, &other.items)
+        are_same(self.items.iter(), other.items.iter())
     }
 }

@@ -4,10 +4,9 @@ ghost use Rattle.slate_tables.specs.Runs.{run_size, spans_meet, only_key, in_ord
 
 use crate::covering::covering_part;
 use crate::order::{all_compacted, all_show, ascend};
-use crate::plain::Plain;
 use crate::ss_table_view::SsTableView;
 use bytes::Bytes;
-use slate_ids::{BytesRange, KeySpan, Listed, OutOfMemory};
+use slate_ids::{BytesRange, KeySpan, Listed, OutOfMemory, Plain};
 use std::alloc::Global;
 use std::collections::VecDeque;
 use std::marker::Model;

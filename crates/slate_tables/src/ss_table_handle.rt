@@ -2,10 +2,9 @@
 ghost use Rattle.std.specs.Prelude.{◌≡◌};
 ghost use Rattle.slate_tables.specs.Tables.{table_size};
 
-use crate::plain::Plain;
 use crate::ss_table_id::SsTableId;
 use crate::ss_table_info::SsTableInfo;
-use slate_ids::OutOfMemory;
+use slate_ids::{OutOfMemory, Plain};
 use std::alloc::Global;
 use std::convert::AsRef;
 

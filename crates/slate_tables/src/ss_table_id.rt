@@ -2,7 +2,8 @@
 ghost use Rattle.std.specs.Prelude.{◌≡◌, true};
 ghost use Rattle.slate_tables.specs.Tables.{is_wal, is_compacted};
 
-use slate_ids::Ulid;
+use slate_ids::{OutOfMemory, Plain, Ulid};
+use std::alloc::Global;
 
 /// The id of a table: a number of the write-ahead log, or the id of a compacted table. Those of the log order first, by number.
 #[derive(Clone, Copy, Debug, PartialEq, Eq, PartialOrd, Ord, Hash)]
@@ -48,5 +49,15 @@ impl SsTableId {
             SsTableId::Wal(_) => unreachable!(),
             SsTableId::Compacted(id) => *id,
         }
+    }
+}
+
+impl Plain for SsTableId {
+    fn clone(&self, _alloc: Global) -> Result<SsTableId, OutOfMemory> {
+        Ok(*self)
+    }
+
+    fn is(&self, other: &SsTableId) -> bool {
+        self == other
     }
 }

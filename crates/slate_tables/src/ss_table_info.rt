@@ -1,11 +1,10 @@
 //! What is known of a table.
-ghost use Rattle.std.specs.Prelude.{◌≡◌, IfOk, IsTrue, ◌↔◌};
+ghost use Rattle.std.specs.Prelude.{◌≡◌};
 ghost use Rattle.slate_tables.specs.Tables.{no_info};
 
-use crate::plain::Plain;
 use crate::table_tags::{CompressionTag, FilterFormat, SstType};
 use bytes::Bytes;
-use slate_ids::OutOfMemory;
+use slate_ids::{OutOfMemory, Plain};
 use std::alloc::Global;
 
 /// What is known of a table: its first and its last key, where its parts lie in its object, in bytes, and how it is written.
@@ -56,26 +55,11 @@ impl Default for SsTableInfo {
     }
 }
 
-fn same_entry(a: &Option<Bytes>, b: &Option<Bytes>) -> bool
-    ensures { IsTrue result ↔ a.now ≡ b.now }
-{
-    a == b
-}
-
-fn copy_entry(entry: &Option<Bytes>) -> Result<Option<Bytes>, OutOfMemory>
-    ensures { IfOk result (λ copied. copied ≡ entry.now) }
-{
-    match entry {
-        Some(key) => Ok(Some(key.clone()?)),
-        None => Ok(None),
-    }
-}
-
 impl Plain for SsTableInfo {
-    fn clone(&self, _alloc: Global) -> Result<SsTableInfo, OutOfMemory> {
+    fn clone(&self, alloc: Global) -> Result<SsTableInfo, OutOfMemory> {
         Ok(SsTableInfo {
-            first_entry: copy_entry(&self.first_entry)?,
-            last_entry: copy_entry(&self.last_entry)?,
+            first_entry: Plain::clone(&self.first_entry, alloc)?,
+            last_entry: Plain::clone(&self.last_entry, alloc)?,
             index_offset: self.index_offset,
             index_len: self.index_len,
             filter_offset: self.filter_offset,
@@ -89,8 +73,8 @@ impl Plain for SsTableInfo {
     }
 
     fn is(&self, other: &SsTableInfo) -> bool {
-        same_entry(&self.first_entry, &other.first_entry)
-            && same_entry(&self.last_entry, &other.last_entry)
+        self.first_entry.is(&other.first_entry)
+            && self.last_entry.is(&other.last_entry)
             && self.index_offset == other.index_offset
             && self.index_len == other.index_len
             && self.filter_offset == other.filter_offset

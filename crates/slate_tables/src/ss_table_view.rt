@@ -1,16 +1,15 @@
 //! A view of a table: all of its keys, or a range of them.
-ghost use Rattle.std.specs.Prelude.{◌≡◌, true, IfOk, IsTrue, ◌↔◌, Some, None, is_some, option_copied};
+ghost use Rattle.std.specs.Prelude.{◌≡◌, true, IfOk, Some, None, is_some, option_copied};
 ghost use Rattle.std.specs.Option.{ForSome};
 ghost use Rattle.slate_ids.specs.KeyRange.{ranges_meet, no_keys};
 ghost use Rattle.slate_tables.specs.Tables.{physical_range, table_size};
 ghost use Rattle.slate_tables.specs.Views as views;
 ghost use Rattle.slate_tables.specs.Views.{FitsId, MayShow, starts_with_key, effective_range, view_range, projected};
 
-use crate::plain::Plain;
 use crate::ss_table_handle::SsTableHandle;
 use crate::ss_table_id::SsTableId;
 use bytes::Bytes;
-use slate_ids::{BytesRange, KeySpan, OutOfMemory, Ulid};
+use slate_ids::{BytesRange, KeySpan, OutOfMemory, Plain, Ulid};
 use std::alloc::Global;
 use std::marker::Model;
 use std::ops::Bound;
@@ -181,33 +180,16 @@ impl SsTableView {
     }
 }
 
-// Whether both show all, or the same range.
-fn same_visible(a: &Option<BytesRange>, b: &Option<BytesRange>) -> bool
-    ensures { IsTrue result ↔ a.now ≡ b.now }
-{
-    match (a, b) {
-        (None, None) => true,
-        (Some(a), Some(b)) => a.is(b),
-        _ => false,
-    }
-}
-
 impl Plain for SsTableView {
     fn clone(&self, alloc: Global) -> Result<SsTableView, OutOfMemory> {
-        let visible = match &self.visible {
-            Some(visible) => Some(visible.clone()?),
-            None => None,
-        };
         Ok(SsTableView {
             id: self.id,
             sst: self.sst.clone(alloc)?,
-            visible,
+            visible: Plain::clone(&self.visible, alloc)?,
         })
     }
 
     fn is(&self, other: &SsTableView) -> bool {
-        self.id == other.id
-            && self.sst.is(&other.sst)
-            && same_visible(&self.visible, &other.visible)
+        self.id == other.id && self.sst.is(&other.sst) && self.visible.is(&other.visible)
     }
 }

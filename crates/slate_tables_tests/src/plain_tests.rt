@@ -34,8 +34,9 @@ fn copies_of_ranges_are_equal(rt: HostRuntime) {
 
 /// Whether tables have equal copies.
 fn have_copies(rt: &impl Abort, alloc: Global) -> bool {
-    let copied = copies(alloc, &TABLES).expect(rt, "memory");
-    are_same(copied.as_slice(), &TABLES)
+    let tables: &[SsTableId] = &TABLES;
+    let copied = copies(alloc, tables.iter()).expect(rt, "memory");
+    are_same(copied.as_slice().iter(), tables.iter())
 }
 
 #[test]

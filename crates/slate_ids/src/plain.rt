@@ -1,8 +1,15 @@
 //! Values that are copied and compared whole.
-ghost use Rattle.std.specs.Prelude.{◌≡◌, ◌++◌, IfOk, OnOk, IsTrue, ◌↔◌};
+ghost use Rattle.std.specs.Prelude.{◌≡◌, IfOk, IsTrue, ◌↔◌};
 
-use crate::ss_table_id::SsTableId;
-use slate_ids::{BytesRange, CheckpointId, DbPath, Listed, OutOfMemory, Text};
+use crate::bytes_range::BytesRange;
+use crate::checkpoint_id::CheckpointId;
+use crate::db_path::DbPath;
+use crate::listed::Listed;
+use crate::out_of_memory::OutOfMemory;
+use crate::text::Text;
+use crate::ulid::Ulid;
+use crate::walk::Walk;
+use bytes::Bytes;
 use std::alloc::Global;
 
 /// A value of fields: it has an equal copy, and two are equal where all fields are.
@@ -14,6 +21,16 @@ pub trait Plain {
     /// Whether all fields are equal. Takes no memory.
     fn is(&self, other: &Self) -> bool
         ensures { IsTrue result ↔ self.now ≡ other.now };
+}
+
+impl Plain for Bytes {
+    fn clone(&self, _alloc: Global) -> Result<Bytes, OutOfMemory> {
+        Ok(<Bytes as Clone>::clone(self)?)
+    }
+
+    fn is(&self, other: &Bytes) -> bool {
+        self == other
+    }
 }
 
 impl Plain for BytesRange {
@@ -33,6 +50,16 @@ impl Plain for Text {
 
     fn is(&self, other: &Text) -> bool {
         self.as_str() == other.as_str()
+    }
+}
+
+impl Plain for Ulid {
+    fn clone(&self, _alloc: Global) -> Result<Ulid, OutOfMemory> {
+        Ok(*self)
+    }
+
+    fn is(&self, other: &Ulid) -> bool {
+        self == other
     }
 }
 
@@ -56,16 +83,6 @@ impl Plain for DbPath {
     }
 }
 
-impl Plain for SsTableId {
-    fn clone(&self, _alloc: Global) -> Result<SsTableId, OutOfMemory> {
-        Ok(*self)
-    }
-
-    fn is(&self, other: &SsTableId) -> bool {
-        self == other
-    }
-}
-
 impl<T: Plain + Drop> Plain for Option<T> {
     fn clone(&self, alloc: Global) -> Result<Option<T>, OutOfMemory> {
         match self {
@@ -83,50 +100,46 @@ impl<T: Plain + Drop> Plain for Option<T> {
     }
 }
 
-// Adds equal values at the end.
-pub(crate) fn push_copies<T: Plain + Drop>(
+/// A list of values equal to those of a walk.
+pub fn copies<'a, T: Plain + Drop + 'a, W: Walk<'a, T> + Drop>(
     alloc: Global,
-    copied: &mut Vec<T>,
-    items: &[T],
-) -> Result<(), OutOfMemory>
-    ensures { OnOk result (copied.new.items ≡ copied.old.items ++ items.now) }
-{
-    for item in items {
-        copied.push(item.clone(alloc)?)?;
-    }
-    Ok(())
-}
-
-/// An equal list.
-pub fn copies<T: Plain + Drop>(alloc: Global, items: &[T]) -> Result<Vec<T>, OutOfMemory>
-    ensures { IfOk result (λ copied. copied.items ≡ items.now) }
+    walk: W,
+) -> Result<Vec<T>, OutOfMemory>
+    ensures { IfOk result (λ copied. copied.items ≡ W.left walk) }
 {
     let mut copied = Vec::new(alloc);
-    push_copies(alloc, &mut copied, items)?;
+    let mut walk = walk;
+    while let Some(item) = walk.step() {
+        copied.push(item.clone(alloc)?)?;
+    }
     Ok(copied)
 }
 
-/// Whether two lists have the same values, one by one. Takes no memory.
-pub fn are_same<T: Plain>(a: &[T], b: &[T]) -> bool
-    ensures { IsTrue result ↔ a.now ≡ b.now }
+/// Whether two walks have the same values, one by one. Takes no memory.
+pub fn are_same<'a, T: Plain + 'a, W: Walk<'a, T> + Drop>(a: W, b: W) -> bool
+    ensures { IsTrue result ↔ W.left a ≡ W.left b }
 {
-    if a.len() != b.len() {
-        return false;
-    }
-    for i in 0..a.len() {
-        if !a[i].is(&b[i]) {
-            return false;
+    let mut walk = a;
+    let mut others = b;
+    while let Some(item) = walk.step() {
+        match others.step() {
+            Some(other) => {
+                if !item.is(other) {
+                    return false;
+                }
+            }
+            None => return false,
         }
     }
-    true
+    others.step().is_none()
 }
 
 impl<T: Plain + Drop> Plain for Listed<T> {
     fn clone(&self, alloc: Global) -> Result<Listed<T>, OutOfMemory> {
-        Ok(Listed::from_vec(copies(alloc, self.as_slice())?))
+        Ok(Listed::from_vec(copies(alloc, self.as_slice().iter())?))
     }
 
     fn is(&self, other: &Listed<T>) -> bool {
-        are_same(self.as_slice(), other.as_slice())
+        are_same(self.as_slice().iter(), other.as_slice().iter())
     }
 }
