@@ -10,7 +10,7 @@ use Rattle.slate_records.specs.declared.compaction.Compaction.{Compaction}
 use Rattle.slate_records.specs.Records.{are_ascending, inserted}
 use Rattle.slate_ids.specs.Ulids.{id_lt, id_cmp}
 use Rattle.slate_records.specs.Entries.{compactions_of, UnderOwnIds}
-use Rattle.slate_records.proofs.Ids.{less, greater, equal, one_way, chained, not_before_itself}
+use Rattle.slate_ids.proofs.IdOrder.{less, greater, equal, one_way, chained, not_before_itself}
 use Rattle.slate_records.proofs.Ordered.{Entry, both, parts}
 
 -- those after an id

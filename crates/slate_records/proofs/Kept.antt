@@ -9,7 +9,7 @@ use Rattle.slate_ids.specs.Ulids.{id_lt}
 use Rattle.slate_records.specs.Entries.{compactions_of, UnderOwnIds}
 use Rattle.slate_records.specs.Retaining.{has_id, is_passed, is_kept, retained}
 use Rattle.slate_records.specs.LastFinished.{last_finished, finished_or, is_one, is_kept_by}
-use Rattle.slate_records.proofs.Ids.{one_way, is_itself, not_before_itself, apart}
+use Rattle.slate_ids.proofs.IdOrder.{one_way, is_itself, not_before_itself, apart}
 use Rattle.slate_records.proofs.Ordered.{Entry, clash, parts}
 use Rattle.slate_records.proofs.Inserted.{after}
 

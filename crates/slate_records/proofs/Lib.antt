@@ -1,4 +1,3 @@
-mod Ids
 mod Ordered
 mod Inserted
 mod Kept

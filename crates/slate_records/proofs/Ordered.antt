@@ -13,7 +13,7 @@ use Rattle.slate_records.specs.declared.compaction.Compaction.{Compaction}
 use Rattle.slate_records.specs.Records.{are_ascending, entry_of, first_id}
 use Rattle.slate_ids.specs.Ulids.{same_id, id_lt, id_cmp}
 use Rattle.slate_records.specs.Entries.{compactions_of, UnderOwnIds}
-use Rattle.slate_records.proofs.Ids.{less, is_at_is, is_at_is_back, not_above}
+use Rattle.slate_ids.proofs.IdOrder.{less, is_at_is, is_at_is_back, not_above}
 
 abbrev pub Entry : Type 0
 Entry = (ℕ × ℕ) × Compaction
