@@ -1,6 +1,7 @@
 -- The watermark: the greatest moment of a flushed table, and the floor that it raises.
-use Rattle.std.specs.Prelude.{ℕ, max, nat_lt, List, [], ◌∷◌, map, Option, Some, None, option_to_list, if◌then◌else◌}
-use Rattle.std.specs.List.{flat_map, filter_map}
+use Rattle.std.specs.Prelude.{◌≡◌, ℕ, max, true, false, List, [], ◌∷◌, map, Option, Some, None, option_to_list, if◌then◌else◌}
+use Rattle.std.specs.List.{list_any, flat_map, filter_map}
+use Rattle.slate_ids.specs.Ulids.{id_lt, same_id}
 use Rattle.slate_tables.specs.declared.ss_table_id.SsTableId.{SsTableId}
 use Rattle.slate_tables.specs.declared.ss_table_id.SsTableId.TheVariants.{Wal, Compacted}
 use Rattle.slate_model.specs.declared.lsm_tree_state.LsmTreeState.{LsmTreeState}
@@ -43,16 +44,21 @@ watermark core = greatest (map (λ id. id.0) (flushed_of core))
 abbrev pub raised_floor : ℕ → Core → ℕ
 raised_floor old core = max old (watermark core)
 
--- the id of two that has more milliseconds; the first, where both have the same
+-- the later id of two; the first, where they are one
 abbrev pub later : Option (ℕ × ℕ) → Option (ℕ × ℕ) → Option (ℕ × ℕ)
 later None b = b
 later (Some a) None = Some a
-later (Some a) (Some b) = Some (if nat_lt a.0 b.0 then b else a)
+later (Some a) (Some b) = Some (if id_lt a b then b else a)
 
--- the id that has the most milliseconds, the first of several
+-- the greatest id, in the order of ids
 abbrev pub latest : List (ℕ × ℕ) → Option (ℕ × ℕ)
 latest [] = None
 latest (id ∷ ids) = later (Some id) (latest ids)
+
+-- an id that is one of these, and none of them is above it; none where there are none
+abbrev pub IsGreatestOf : List (ℕ × ℕ) → Option (ℕ × ℕ) → Type 0
+IsGreatestOf ids None = ids ≡ []
+IsGreatestOf ids (Some id) = (list_any (same_id id) ids ≡ true) × (list_any (id_lt id) ids ≡ false)
 
 -- the milliseconds of an id; 0 without one
 abbrev pub moment_of : Option (ℕ × ℕ) → ℕ

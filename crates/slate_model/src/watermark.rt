@@ -1,7 +1,7 @@
 //! The greatest moment of a flushed table.
 ghost use Rattle.std.specs.Prelude.{◌≡◌};
 ghost use Rattle.slate_model.specs.Watermark as moments;
-ghost use Rattle.slate_model.specs.Watermark.{timed_id, timed_ids, flushed_of_tree, flushed_of, latest, moment_of};
+ghost use Rattle.slate_model.specs.Watermark.{timed_id, timed_ids, flushed_of_tree, flushed_of, latest, moment_of, IsGreatestOf};
 
 use crate::lsm_tree_state::LsmTreeState;
 use crate::manifest_core::ManifestCore;
@@ -19,24 +19,18 @@ fn timed(id: &SsTableId) -> Option<Ulid>
     }
 }
 
-// The id that has more milliseconds; the first, where both have the same.
+// The later id of two.
 fn later(a: Option<Ulid>, b: Option<Ulid>) -> Option<Ulid>
     ensures { result ≡ moments.later a b }
 {
     match (a, b) {
         (None, b) => b,
         (Some(a), None) => Some(a),
-        (Some(a), Some(b)) => {
-            if a.timestamp_ms() < b.timestamp_ms() {
-                Some(b)
-            } else {
-                Some(a)
-            }
-        }
+        (Some(a), Some(b)) => { if a < b { Some(b) } else { Some(a) } }
     }
 }
 
-// The id of the tables that has the most milliseconds, the first of several.
+// The greatest id of the tables of these views.
 fn latest_of(views: &VecDeque<SsTableView>) -> Option<Ulid>
     ensures { result ≡ latest (timed_ids views.now.items) }
 {
@@ -47,7 +41,7 @@ fn latest_of(views: &VecDeque<SsTableView>) -> Option<Ulid>
     best
 }
 
-// The id of a tree's flushed tables that has the most milliseconds, the first of several.
+// The greatest id of a tree's flushed tables.
 fn latest_of_tree(tree: &LsmTreeState) -> Option<Ulid>
     ensures { result ≡ latest (flushed_of_tree tree.now) }
 {
@@ -59,11 +53,11 @@ fn latest_of_tree(tree: &LsmTreeState) -> Option<Ulid>
 }
 
 impl ManifestCore {
-    /// The id that has the watermark's milliseconds: of the ids of all trees' flushed tables the one that has the most, the first of
-    /// several, by tree and the newest first. A tree without such tables counts by the last view that was compacted. None where no
-    /// table was flushed.
+    /// The greatest id of all trees' flushed tables, by milliseconds and then by tail: none of them is above it. Its milliseconds are
+    /// the watermark. A tree without such tables counts by the last view that was compacted. None where no table was flushed.
     pub fn max_l0_ulid_timestamp_across_trees(&self) -> Option<Ulid>
         ensures id { result ≡ latest (flushed_of self.now) }
+        ensures greatest { IsGreatestOf (flushed_of self.now) result }
         ensures watermark { moment_of result ≡ moments.watermark self.now }
     {
         let mut best = None;

@@ -16,8 +16,8 @@ enum Flushed {
 
 type Trees = (&'static [Flushed], &'static [Flushed], Option<(u32, u32)>);
 
-/// The tables of a root, those of a segment and the segment's marker, and the id with the watermark's milliseconds.
-const LATEST: [(Trees, Option<(u32, u32)>); 7] = [
+/// The tables of a root, those of a segment and the segment's marker, and the greatest id.
+const LATEST: [(Trees, Option<(u32, u32)>); 10] = [
     ((&[], &[], None), None),
     (
         (&[Flushed::Table(5, 0)], &[Flushed::Table(6, 0)], None),
@@ -43,8 +43,22 @@ const LATEST: [(Trees, Option<(u32, u32)>); 7] = [
             &[Flushed::Table(7, 9)],
             None,
         ),
-        Some((7, 1)),
+        Some((7, 9)),
     ),
+    (
+        (
+            &[
+                Flushed::Table(7, 1),
+                Flushed::Table(7, 9),
+                Flushed::Table(7, 4),
+            ],
+            &[Flushed::Table(6, 20)],
+            None,
+        ),
+        Some((7, 9)),
+    ),
+    ((&[Flushed::Table(7, 1)], &[], Some((7, 5))), Some((7, 5))),
+    ((&[Flushed::Table(7, 6)], &[], Some((7, 5))), Some((7, 6))),
 ];
 
 /// The id of this moment and tail.
