@@ -1,1 +1,4 @@
 mod RecordOrder
+mod RecordFitting
+pub mod RecordTrip
+mod RecordKept

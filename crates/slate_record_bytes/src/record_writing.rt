@@ -80,7 +80,7 @@ fn encode(alloc: Global, compactions: &Compactions) -> Result<Vec<u8>, SlateDBEr
 
 /// The bytes of a record, by version 2 of the layout. Unencodable names the first field that has none, in this order: WalId, NoKeys,
 /// Length; outputs that aren't kept are asked too. The bytes are read back as the normal form, which has the same bytes.
-#[tactic(auto, using(crate::specs::RecordTrip::record_trip, crate::specs::RecordKept::record_same))]
+#[tactic(auto, using(crate::proofs::RecordTrip::record_trip, crate::proofs::RecordKept::record_same))]
 pub fn encode_compactions(alloc: Global, compactions: &Compactions) -> Result<Vec<u8>, SlateDBError>
     ensures exact { GivesList result (encoded_record compactions.now) }
     ensures typed { OnOk result (fields.is_record compactions.now ≡ true) }

@@ -22,8 +22,8 @@ use Rattle.slate_parts.specs.RecordParts.{views_in, runs_in, views_back, runs_ba
 use Rattle.slate_record_bytes.specs.Records.{has_outputs, raw_bytes, raw_of}
 use Rattle.slate_record_bytes.specs.RecordNormal.{normal_sources, normal_spec, normal_context, normal_compaction, normal_record}
 use Rattle.slate_record_bytes.specs.RecordFields.{of_context, of_outputs, has_entries, has_ranges, has_keys_of, short_handle, short_spec, short_worker, short_context, short_compaction, record_field, record_bytes, encoded_record}
-use Rattle.slate_record_bytes.specs.RecordFitting.{normal_raw, bytes_kept, kept_pass, kept_few, kept_twice}
-use Rattle.slate_record_bytes.specs.RecordTrip.{IsWhole, is_whole, bytes_of}
+use Rattle.slate_record_bytes.proofs.RecordFitting.{normal_raw, bytes_kept, kept_pass, kept_few, kept_twice}
+use Rattle.slate_record_bytes.proofs.RecordTrip.{IsWhole, is_whole, bytes_of}
 
 -- ---- fields of a compaction
 

@@ -22,7 +22,7 @@ use Rattle.slate_parts.specs.Lengths.{few}
 use Rattle.slate_record_bytes.specs.Records.{Raw, raw_in, raw_bytes, raw_of, compaction_of, leads, raws_ascend, record_of, entries_in, entries_bytes, second_record, record_or_corrupt, record_after_version, decoded_record}
 use Rattle.slate_record_bytes.specs.RecordNormal.{normal_compaction, normal_record}
 use Rattle.slate_record_bytes.specs.RecordFields.{of_outputs, has_keys_of, short_compaction, record_field, record_bytes, encoded_record, is_compaction, is_record}
-use Rattle.slate_record_bytes.specs.RecordFitting.{RawFits, raw_reads, normal_raw, normal_is, bytes_kept, compaction_fits}
+use Rattle.slate_record_bytes.proofs.RecordFitting.{RawFits, raw_reads, normal_raw, normal_is, bytes_kept, compaction_fits}
 
 -- ---- what was encoded
 
