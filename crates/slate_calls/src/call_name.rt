@@ -3,7 +3,7 @@ ghost use Rattle.std.specs.Prelude.{◌≡◌};
 ghost use Rattle.slate_calls.specs.Names.{name_word};
 
 use serde_json::Value;
-use slate_json::{FromJson, Refusal};
+use slate_json::{FromJson, JsonError};
 use std::alloc::Global;
 
 /// The name of a call, which decides its fields.
@@ -39,13 +39,13 @@ impl FromJson for CallName {
 
     ghost reads = { name_in };
 
-    fn from_json(_alloc: Global, d: &Value) -> Result<CallName, Refusal> {
+    fn from_json(_alloc: Global, d: &Value) -> Result<CallName, JsonError> {
         match d.as_str() {
             Some(text) => match name_of(text) {
                 Some(name) => Ok(name),
-                None => Err(Refusal::Malformed),
+                None => Err(JsonError::Malformed),
             },
-            None => Err(Refusal::Malformed),
+            None => Err(JsonError::Malformed),
         }
     }
 }

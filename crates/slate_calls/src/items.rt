@@ -7,7 +7,7 @@ use crate::read_call::read_call;
 use serde_json::Value;
 use slate_events::Event;
 use slate_ids::Millis;
-use slate_json::{Refusal, defaulted, only, required};
+use slate_json::{JsonError, defaulted, only, required};
 use slate_store::Mark;
 use std::alloc::Global;
 
@@ -26,7 +26,7 @@ pub enum Written {
 }
 
 #[tactic(auto, unfolding(crate::specs::Events::open_in))]
-fn open(alloc: Global, d: &Value) -> Result<Written, Refusal>
+fn open(alloc: Global, d: &Value) -> Result<Written, JsonError>
     ensures { Gives result (open_in (view d.now)) }
 {
     only(d, &["open", "kind", "db"])?;
@@ -37,7 +37,7 @@ fn open(alloc: Global, d: &Value) -> Result<Written, Refusal>
 }
 
 #[tactic(auto, unfolding(crate::specs::Events::start_in))]
-fn start(alloc: Global, d: &Value) -> Result<Written, Refusal>
+fn start(alloc: Global, d: &Value) -> Result<Written, JsonError>
     ensures { Gives result (start_in (view d.now)) }
 {
     let party = required(alloc, d, "start")?;
@@ -46,7 +46,7 @@ fn start(alloc: Global, d: &Value) -> Result<Written, Refusal>
 }
 
 #[tactic(auto, unfolding(crate::specs::Events::step_in))]
-fn step(alloc: Global, d: &Value) -> Result<Written, Refusal>
+fn step(alloc: Global, d: &Value) -> Result<Written, JsonError>
     ensures { Gives result (step_in (view d.now)) }
 {
     only(d, &["step", "at", "mark", "times"])?;
@@ -55,7 +55,7 @@ fn step(alloc: Global, d: &Value) -> Result<Written, Refusal>
     let mark = defaulted(alloc, d, "mark", Mark::Good)?;
     let times: u32 = defaulted(alloc, d, "times", 1)?;
     if times < 1 || times > 1000 {
-        return Err(Refusal::Malformed);
+        return Err(JsonError::Malformed);
     }
     Ok(Written::Steps {
         party,
@@ -66,7 +66,7 @@ fn step(alloc: Global, d: &Value) -> Result<Written, Refusal>
 }
 
 #[tactic(auto, unfolding(crate::specs::Events::stop_in))]
-fn stop(alloc: Global, d: &Value) -> Result<Written, Refusal>
+fn stop(alloc: Global, d: &Value) -> Result<Written, JsonError>
     ensures { Gives result (stop_in (view d.now)) }
 {
     only(d, &["stop"])?;
@@ -76,7 +76,7 @@ fn stop(alloc: Global, d: &Value) -> Result<Written, Refusal>
 
 /// The events that an item of a script stands for.
 #[tactic(auto, unfolding(crate::specs::Events::written_in))]
-pub fn read_event(alloc: Global, d: &Value) -> Result<Written, Refusal>
+pub fn read_event(alloc: Global, d: &Value) -> Result<Written, JsonError>
     ensures { Gives result (written_in (view d.now)) }
 {
     if d.get("open").is_some() {

@@ -7,11 +7,11 @@ use crate::call_name::CallName;
 use crate::read_pass::read_pass;
 use serde_json::Value;
 use slate_events::Call;
-use slate_json::{Refusal, array_of, only, optional, required};
+use slate_json::{JsonError, array_of, only, optional, required};
 use std::alloc::Global;
 
 #[tactic(auto, unfolding(crate::specs::Calls::open_writer_in))]
-fn open_writer(d: &Value) -> Result<Call, Refusal>
+fn open_writer(d: &Value) -> Result<Call, JsonError>
     ensures { Gives result (open_writer_in (view d.now)) }
 {
     only(d, &["start", "call"])?;
@@ -19,28 +19,28 @@ fn open_writer(d: &Value) -> Result<Call, Refusal>
 }
 
 // No item.
-fn none_in(items: &[Value]) -> Result<(), Refusal>
+fn none_in(items: &[Value]) -> Result<(), JsonError>
     ensures { Gives result (is_empty (items_view items.now)) }
 {
     if items.is_empty() {
         Ok(())
     } else {
-        Err(Refusal::Malformed)
+        Err(JsonError::Malformed)
     }
 }
 
 // A flush has no tables yet.
-fn no_tables(d: &Value) -> Result<(), Refusal>
+fn no_tables(d: &Value) -> Result<(), JsonError>
     ensures { Gives result (no_tables_in (view d.now)) }
 {
     match array_of(d, "tables") {
         Some(tables) => none_in(tables.as_slice()),
-        None => Err(Refusal::Malformed),
+        None => Err(JsonError::Malformed),
     }
 }
 
 #[tactic(auto, unfolding(crate::specs::Calls::flush_in))]
-fn flush(d: &Value) -> Result<Call, Refusal>
+fn flush(d: &Value) -> Result<Call, JsonError>
     ensures { Gives result (flush_in (view d.now)) }
 {
     only(d, &["start", "call", "tables"])?;
@@ -49,7 +49,7 @@ fn flush(d: &Value) -> Result<Call, Refusal>
 }
 
 #[tactic(auto, unfolding(crate::specs::Calls::write_checkpoint_in))]
-fn write_checkpoint(alloc: Global, d: &Value) -> Result<Call, Refusal>
+fn write_checkpoint(alloc: Global, d: &Value) -> Result<Call, JsonError>
     ensures { Gives result (write_checkpoint_in (view d.now)) }
 {
     only(d, &["start", "call", "id", "lifetime", "source", "name"])?;
@@ -66,7 +66,7 @@ fn write_checkpoint(alloc: Global, d: &Value) -> Result<Call, Refusal>
 }
 
 #[tactic(auto, unfolding(crate::specs::Calls::replace_checkpoint_in))]
-fn replace_checkpoint(alloc: Global, d: &Value) -> Result<Call, Refusal>
+fn replace_checkpoint(alloc: Global, d: &Value) -> Result<Call, JsonError>
     ensures { Gives result (replace_checkpoint_in (view d.now)) }
 {
     only(
@@ -88,7 +88,7 @@ fn replace_checkpoint(alloc: Global, d: &Value) -> Result<Call, Refusal>
 }
 
 #[tactic(auto, unfolding(crate::specs::Calls::refresh_checkpoint_in))]
-fn refresh_checkpoint(alloc: Global, d: &Value) -> Result<Call, Refusal>
+fn refresh_checkpoint(alloc: Global, d: &Value) -> Result<Call, JsonError>
     ensures { Gives result (refresh_checkpoint_in (view d.now)) }
 {
     only(d, &["start", "call", "id", "lifetime"])?;
@@ -98,7 +98,7 @@ fn refresh_checkpoint(alloc: Global, d: &Value) -> Result<Call, Refusal>
 }
 
 #[tactic(auto, unfolding(crate::specs::Calls::delete_checkpoint_in))]
-fn delete_checkpoint(alloc: Global, d: &Value) -> Result<Call, Refusal>
+fn delete_checkpoint(alloc: Global, d: &Value) -> Result<Call, JsonError>
     ensures { Gives result (delete_checkpoint_in (view d.now)) }
 {
     only(d, &["start", "call", "id"])?;
@@ -108,7 +108,7 @@ fn delete_checkpoint(alloc: Global, d: &Value) -> Result<Call, Refusal>
 
 /// The call by its name and its fields.
 #[tactic(auto, unfolding(crate::specs::Calls::call_in))]
-pub(crate) fn read_call(alloc: Global, d: &Value) -> Result<Call, Refusal>
+pub(crate) fn read_call(alloc: Global, d: &Value) -> Result<Call, JsonError>
     ensures { Gives result (call_in (view d.now)) }
 {
     match required(alloc, d, "call")? {

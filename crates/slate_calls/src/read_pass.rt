@@ -5,7 +5,7 @@ ghost use Rattle.slate_calls.specs.Calls.{collector_pass_in};
 
 use serde_json::Value;
 use slate_events::{Call, FilterWord};
-use slate_json::{Refusal, defaulted, only, required};
+use slate_json::{JsonError, defaulted, only, required};
 use std::alloc::Global;
 
 // Milliseconds: five minutes.
@@ -13,7 +13,7 @@ const DEFAULT_MIN_AGE: u64 = 300_000;
 
 /// A pass with its fields.
 #[tactic(auto, unfolding(crate::specs::Calls::collector_pass_in))]
-pub(crate) fn read_pass(alloc: Global, d: &Value) -> Result<Call, Refusal>
+pub(crate) fn read_pass(alloc: Global, d: &Value) -> Result<Call, JsonError>
     ensures { Gives result (collector_pass_in (view d.now)) }
 {
     only(

@@ -11,7 +11,7 @@ use crate::trees::{segments_of, tree_of};
 use serde_json::Value;
 use slate_events::DbSpec;
 use slate_ids::{Listed, OutOfMemory, Text};
-use slate_json::{Refusal, defaulted, only, optional, required};
+use slate_json::{JsonError, defaulted, only, optional, required};
 use slate_model::{Checkpoint, Manifest, ManifestCore};
 use std::alloc::Global;
 
@@ -28,7 +28,7 @@ pub(crate) struct OpeningFields {
 }
 
 #[tactic(auto, unfolding(crate::specs::DatabaseFields::opening_fields_in))]
-fn opening_fields(alloc: Global, d: &Value) -> Result<OpeningFields, Refusal>
+fn opening_fields(alloc: Global, d: &Value) -> Result<OpeningFields, JsonError>
     ensures { Gives result (opening_fields_in (view d.now)) }
 {
     let initialized = defaulted(alloc, d, "initialized", true)?;
@@ -90,7 +90,7 @@ fn manifest_of(
 
 /// A database, with its first manifest and the tables that stand in the store.
 #[tactic(auto, unfolding(crate::specs::DatabaseFields::database_in))]
-pub fn read_database(alloc: Global, d: &Value) -> Result<DbSpec, Refusal>
+pub fn read_database(alloc: Global, d: &Value) -> Result<DbSpec, JsonError>
     ensures { Gives result (database_in (view d.now)) }
 {
     only(

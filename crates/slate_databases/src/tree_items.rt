@@ -8,7 +8,7 @@ ghost use Rattle.slate_databases.specs.DatabaseFields.{tree_items_in};
 use bytes::Bytes;
 use serde_json::Value;
 use slate_ids::{Listed, OutOfMemory, Ulid};
-use slate_json::{FromJson, Refusal, defaulted, only, required};
+use slate_json::{FromJson, JsonError, defaulted, only, required};
 use std::alloc::Global;
 use std::collections::BTreeSet;
 
@@ -121,7 +121,7 @@ impl FromJson for L0Item {
     ghost reads = { l0_item_in };
 
     #[tactic(auto, unfolding(crate::specs::DatabaseFields::l0_item_in))]
-    fn from_json(alloc: Global, d: &Value) -> Result<L0Item, Refusal> {
+    fn from_json(alloc: Global, d: &Value) -> Result<L0Item, JsonError> {
         only(d, &["prefix", "view", "table"])?;
         let prefix = defaulted(alloc, d, "prefix", Bytes::new())?;
         let view_id = required(alloc, d, "view")?;
@@ -140,7 +140,7 @@ impl FromJson for RunItem {
     ghost reads = { run_item_in };
 
     #[tactic(auto, unfolding(crate::specs::DatabaseFields::run_item_in))]
-    fn from_json(alloc: Global, d: &Value) -> Result<RunItem, Refusal> {
+    fn from_json(alloc: Global, d: &Value) -> Result<RunItem, JsonError> {
         only(d, &["prefix", "id", "tables"])?;
         let prefix = defaulted(alloc, d, "prefix", Bytes::new())?;
         let id = required(alloc, d, "id")?;
@@ -159,7 +159,7 @@ impl FromJson for MarkerItem {
     ghost reads = { marker_item_in };
 
     #[tactic(auto, unfolding(crate::specs::DatabaseFields::marker_item_in))]
-    fn from_json(alloc: Global, d: &Value) -> Result<MarkerItem, Refusal> {
+    fn from_json(alloc: Global, d: &Value) -> Result<MarkerItem, JsonError> {
         only(d, &["prefix", "view"])?;
         let prefix = defaulted(alloc, d, "prefix", Bytes::new())?;
         let view_id = required(alloc, d, "view")?;
@@ -184,14 +184,14 @@ fn one_each(alloc: Global, markers: &[MarkerItem]) -> Result<bool, OutOfMemory>
 
 /// What a database says of its trees.
 #[tactic(auto, unfolding(crate::specs::DatabaseFields::tree_items_in))]
-pub(crate) fn read_tree_items(alloc: Global, d: &Value) -> Result<TreeItems, Refusal>
+pub(crate) fn read_tree_items(alloc: Global, d: &Value) -> Result<TreeItems, JsonError>
     ensures { Gives result (tree_items_in (view d.now)) }
 {
     let l0 = defaulted(alloc, d, "l0", Listed::new(alloc))?;
     let runs = defaulted(alloc, d, "runs", Listed::new(alloc))?;
     let markers: Listed<MarkerItem> = defaulted(alloc, d, "markers", Listed::new(alloc))?;
     if !one_each(alloc, markers.as_slice())? {
-        return Err(Refusal::Malformed);
+        return Err(JsonError::Malformed);
     }
     Ok(TreeItems { l0, runs, markers })
 }

@@ -4,8 +4,8 @@ use Rattle.std.specs.List.{list_any}
 use Rattle.serde_json.specs.Data.{Data, Items, no_items, item, Members, no_members, member}
 use Rattle.serde_json.specs.Find.{get, as_bool, as_number, as_str, as_array, as_object, as_u64, as_i64}
 use Rattle.slate_ids.specs.Ids.{is_db_path, checkpoint_of}
-use Rattle.slate_json.specs.declared.refusal.Refusal.{Refusal}
-use Rattle.slate_json.specs.declared.refusal.Refusal.TheVariants.{Malformed, OutOfMemory}
+use Rattle.slate_json.specs.declared.json_error.JsonError.{JsonError}
+use Rattle.slate_json.specs.declared.json_error.JsonError.TheVariants.{Malformed, OutOfMemory}
 
 infixl 10 ◌>>=◌
 abbrev pub ◌>>=◌ : {A B : Type 0} → Option A → (A → Option B) → Option B
@@ -13,14 +13,14 @@ abbrev pub ◌>>=◌ : {A B : Type 0} → Option A → (A → Option B) → Opti
 None >>= f = None
 
 -- A reader answers what the value stands for, unless memory runs out.
-abbrev pub Refuses : {X : Type 0} → Refusal → Option X → Type 0
-Refuses Malformed read = read ≡ None
-Refuses OutOfMemory read = Unit {0}
+abbrev pub Fails : {X : Type 0} → JsonError → Option X → Type 0
+Fails Malformed read = read ≡ None
+Fails OutOfMemory read = Unit {0}
 
--- a value is what was read, and a refusal says why
-abbrev pub Gives : {X : Type 0} → Result X Refusal → Option X → Type 0
+-- a value is what was read, and an error says why
+abbrev pub Gives : {X : Type 0} → Result X JsonError → Option X → Type 0
 Gives (Ok x) read = read ≡ Some x
-Gives (Err e) read = Refuses e read
+Gives (Err e) read = Fails e read
 
 -- ---- the fields of an object
 

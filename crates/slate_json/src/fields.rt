@@ -4,7 +4,7 @@ ghost use Rattle.std.specs.List.{list_any, list_all};
 ghost use Rattle.serde_json.specs.View.{view, items_view, members_view};
 ghost use Rattle.slate_json.specs.Fields.{Gives, is_among, only_among, only as only_in, required as required_in, array_in, defaulted as defaulted_in, optional as optional_in};
 
-use crate::refusal::Refusal;
+use crate::json_error::JsonError;
 use crate::values::FromJson;
 use serde_json::{Map, Value};
 use std::alloc::Global;
@@ -29,22 +29,22 @@ fn has_only(members: &Map<String, Value>, names: &[&str]) -> bool
 }
 
 /// Whether the value is an object with no field beside these.
-pub fn only(value: &Value, names: &[&str]) -> Result<(), Refusal>
+pub fn only(value: &Value, names: &[&str]) -> Result<(), JsonError>
     ensures { Gives result (only_in (map (λ n. n.now) names.now) (view value.now)) }
 {
     match value.as_object() {
         Some(members) if has_only(members, names) => Ok(()),
-        _ => Err(Refusal::Malformed),
+        _ => Err(JsonError::Malformed),
     }
 }
 
 /// A field that has to be there.
-pub fn required<T: FromJson>(alloc: Global, object: &Value, name: &str) -> Result<T, Refusal>
+pub fn required<T: FromJson>(alloc: Global, object: &Value, name: &str) -> Result<T, JsonError>
     ensures { Gives result (required_in T.reads name.now (view object.now)) }
 {
     match object.get(name) {
         Some(value) => T::from_json(alloc, value),
-        None => Err(Refusal::Malformed),
+        None => Err(JsonError::Malformed),
     }
 }
 
@@ -62,7 +62,7 @@ pub fn defaulted<T: FromJson>(
     object: &Value,
     name: &str,
     default: T,
-) -> Result<T, Refusal>
+) -> Result<T, JsonError>
     ensures { Gives result (defaulted_in default T.reads name.now (view object.now)) }
 {
     match object.get(name) {
@@ -76,7 +76,7 @@ pub fn optional<T: FromJson>(
     alloc: Global,
     object: &Value,
     name: &str,
-) -> Result<Option<T>, Refusal>
+) -> Result<Option<T>, JsonError>
     ensures { Gives result (optional_in T.reads name.now (view object.now)) }
 {
     match object.get(name) {

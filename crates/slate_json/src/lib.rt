@@ -2,12 +2,12 @@
 #![tactic(auto)]
 
 mod fields;
+mod json_error;
 mod opening_checkpoint;
-mod refusal;
 mod values;
 mod words;
 mod written_id;
 
 pub use fields::{array_of, defaulted, only, optional, required};
-pub use refusal::Refusal;
+pub use json_error::JsonError;
 pub use values::FromJson;

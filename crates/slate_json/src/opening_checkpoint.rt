@@ -1,7 +1,7 @@
 //! Checkpoints that a database begins with.
 
 use crate::fields::{only, optional, required};
-use crate::refusal::Refusal;
+use crate::json_error::JsonError;
 use crate::values::FromJson;
 use serde_json::Value;
 use slate_model::Checkpoint;
@@ -13,7 +13,7 @@ impl FromJson for Checkpoint {
     ghost reads = { checkpoint_in };
 
     #[tactic(auto, unfolding(crate::specs::Checkpoints::checkpoint_in))]
-    fn from_json(alloc: Global, d: &Value) -> Result<Checkpoint, Refusal> {
+    fn from_json(alloc: Global, d: &Value) -> Result<Checkpoint, JsonError> {
         only(d, &["id", "expire", "name"])?;
         let id = required(alloc, d, "id")?;
         let expire_time = optional(alloc, d, "expire")?;

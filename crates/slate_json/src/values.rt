@@ -6,7 +6,7 @@ ghost use Rattle.serde_json.specs.View.{view, items_view};
 ghost use Rattle.slate_json.specs.WrittenIds.{id_in};
 ghost use Rattle.slate_json.specs.Fields.{Gives, u64_in, u32_in, i64_in, bool_in, db_path_in, checkpoint_id_in, items_in, list_in};
 
-use crate::refusal::Refusal;
+use crate::json_error::JsonError;
 use crate::written_id::written_id;
 use bytes::Bytes;
 use serde_json::Value;
@@ -19,7 +19,7 @@ pub trait FromJson: Drop {
     ghost reads: { Data → Option Self };
 
     /// Reads it.
-    fn from_json(alloc: Global, value: &Value) -> Result<Self, Refusal>
+    fn from_json(alloc: Global, value: &Value) -> Result<Self, JsonError>
     where
         Self: Sized,
         ensures { Gives result (reads (view value.now)) };
@@ -35,10 +35,10 @@ fn copied(alloc: Global, text: &str) -> Result<Bytes, OutOfMemory>
 impl FromJson for u64 {
     ghost reads = { u64_in };
 
-    fn from_json(_alloc: Global, value: &Value) -> Result<u64, Refusal> {
+    fn from_json(_alloc: Global, value: &Value) -> Result<u64, JsonError> {
         match value.as_u64() {
             Some(n) => Ok(n),
-            None => Err(Refusal::Malformed),
+            None => Err(JsonError::Malformed),
         }
     }
 }
@@ -46,10 +46,10 @@ impl FromJson for u64 {
 impl FromJson for u32 {
     ghost reads = { u32_in };
 
-    fn from_json(_alloc: Global, value: &Value) -> Result<u32, Refusal> {
+    fn from_json(_alloc: Global, value: &Value) -> Result<u32, JsonError> {
         match value.as_u64() {
             Some(n) if n < 1 << 32 => Ok(n as u32),
-            _ => Err(Refusal::Malformed),
+            _ => Err(JsonError::Malformed),
         }
     }
 }
@@ -57,10 +57,10 @@ impl FromJson for u32 {
 impl FromJson for i64 {
     ghost reads = { i64_in };
 
-    fn from_json(_alloc: Global, value: &Value) -> Result<i64, Refusal> {
+    fn from_json(_alloc: Global, value: &Value) -> Result<i64, JsonError> {
         match value.as_i64() {
             Some(n) => Ok(n),
-            None => Err(Refusal::Malformed),
+            None => Err(JsonError::Malformed),
         }
     }
 }
@@ -68,10 +68,10 @@ impl FromJson for i64 {
 impl FromJson for bool {
     ghost reads = { bool_in };
 
-    fn from_json(_alloc: Global, value: &Value) -> Result<bool, Refusal> {
+    fn from_json(_alloc: Global, value: &Value) -> Result<bool, JsonError> {
         match value.as_bool() {
             Some(b) => Ok(b),
-            None => Err(Refusal::Malformed),
+            None => Err(JsonError::Malformed),
         }
     }
 }
@@ -79,13 +79,13 @@ impl FromJson for bool {
 impl FromJson for DbPath {
     ghost reads = { db_path_in };
 
-    fn from_json(_alloc: Global, value: &Value) -> Result<DbPath, Refusal> {
+    fn from_json(_alloc: Global, value: &Value) -> Result<DbPath, JsonError> {
         match value.as_str() {
             Some(text) => match DbPath::from_text(text)? {
                 Some(path) => Ok(path),
-                None => Err(Refusal::Malformed),
+                None => Err(JsonError::Malformed),
             },
-            None => Err(Refusal::Malformed),
+            None => Err(JsonError::Malformed),
         }
     }
 }
@@ -93,10 +93,10 @@ impl FromJson for DbPath {
 impl FromJson for Text {
     ghost reads = { as_str };
 
-    fn from_json(alloc: Global, value: &Value) -> Result<Text, Refusal> {
+    fn from_json(alloc: Global, value: &Value) -> Result<Text, JsonError> {
         match value.as_str() {
             Some(text) => Ok(Text::copy_of(alloc, text)?),
-            None => Err(Refusal::Malformed),
+            None => Err(JsonError::Malformed),
         }
     }
 }
@@ -104,10 +104,10 @@ impl FromJson for Text {
 impl FromJson for Bytes {
     ghost reads = { as_str };
 
-    fn from_json(alloc: Global, value: &Value) -> Result<Bytes, Refusal> {
+    fn from_json(alloc: Global, value: &Value) -> Result<Bytes, JsonError> {
         match value.as_str() {
             Some(text) => Ok(copied(alloc, text)?),
-            None => Err(Refusal::Malformed),
+            None => Err(JsonError::Malformed),
         }
     }
 }
@@ -115,13 +115,13 @@ impl FromJson for Bytes {
 impl FromJson for Ulid {
     ghost reads = { id_in };
 
-    fn from_json(_alloc: Global, value: &Value) -> Result<Ulid, Refusal> {
+    fn from_json(_alloc: Global, value: &Value) -> Result<Ulid, JsonError> {
         match value.as_str() {
             Some(text) => match written_id(text.as_bytes()) {
                 Some(id) => Ok(id),
-                None => Err(Refusal::Malformed),
+                None => Err(JsonError::Malformed),
             },
-            None => Err(Refusal::Malformed),
+            None => Err(JsonError::Malformed),
         }
     }
 }
@@ -129,10 +129,10 @@ impl FromJson for Ulid {
 impl FromJson for CheckpointId {
     ghost reads = { checkpoint_id_in };
 
-    fn from_json(_alloc: Global, value: &Value) -> Result<CheckpointId, Refusal> {
+    fn from_json(_alloc: Global, value: &Value) -> Result<CheckpointId, JsonError> {
         match value.as_u64() {
             Some(n) => Ok(CheckpointId::from_u64(n)),
-            None => Err(Refusal::Malformed),
+            None => Err(JsonError::Malformed),
         }
     }
 }
@@ -140,16 +140,16 @@ impl FromJson for CheckpointId {
 impl<T: FromJson> FromJson for Listed<T> {
     ghost reads = { list_in T.reads };
 
-    fn from_json(alloc: Global, value: &Value) -> Result<Listed<T>, Refusal> {
+    fn from_json(alloc: Global, value: &Value) -> Result<Listed<T>, JsonError> {
         match value.as_array() {
             Some(values) => all(alloc, values),
-            None => Err(Refusal::Malformed),
+            None => Err(JsonError::Malformed),
         }
     }
 }
 
 // Each of the values.
-fn all<T: FromJson>(alloc: Global, values: &[Value]) -> Result<Listed<T>, Refusal>
+fn all<T: FromJson>(alloc: Global, values: &[Value]) -> Result<Listed<T>, JsonError>
     ensures { Gives result (items_in T.reads (items_view values.now)) }
 {
     let mut items = Listed::new(alloc);

@@ -2,7 +2,7 @@
 ghost use Rattle.std.specs.Prelude.{◌≡◌};
 ghost use Rattle.slate_json.specs.Words.{kind_word, mark_word, pass_word, filter_word};
 
-use crate::refusal::Refusal;
+use crate::json_error::JsonError;
 use crate::values::FromJson;
 use serde_json::Value;
 use slate_events::{FilterWord, PartyKind};
@@ -27,13 +27,13 @@ impl FromJson for PartyKind {
 
     ghost reads = { kind_in };
 
-    fn from_json(_alloc: Global, d: &Value) -> Result<PartyKind, Refusal> {
+    fn from_json(_alloc: Global, d: &Value) -> Result<PartyKind, JsonError> {
         match d.as_str() {
             Some(text) => match kind_of(text) {
                 Some(kind) => Ok(kind),
-                None => Err(Refusal::Malformed),
+                None => Err(JsonError::Malformed),
             },
-            None => Err(Refusal::Malformed),
+            None => Err(JsonError::Malformed),
         }
     }
 }
@@ -54,13 +54,13 @@ impl FromJson for Mark {
 
     ghost reads = { mark_in };
 
-    fn from_json(_alloc: Global, d: &Value) -> Result<Mark, Refusal> {
+    fn from_json(_alloc: Global, d: &Value) -> Result<Mark, JsonError> {
         match d.as_str() {
             Some(text) => match mark_of(text) {
                 Some(mark) => Ok(mark),
-                None => Err(Refusal::Malformed),
+                None => Err(JsonError::Malformed),
             },
-            None => Err(Refusal::Malformed),
+            None => Err(JsonError::Malformed),
         }
     }
 }
@@ -80,13 +80,13 @@ impl FromJson for GcMessage {
 
     ghost reads = { pass_in };
 
-    fn from_json(_alloc: Global, d: &Value) -> Result<GcMessage, Refusal> {
+    fn from_json(_alloc: Global, d: &Value) -> Result<GcMessage, JsonError> {
         match d.as_str() {
             Some(text) => match pass_of(text) {
                 Some(pass) => Ok(pass),
-                None => Err(Refusal::Malformed),
+                None => Err(JsonError::Malformed),
             },
-            None => Err(Refusal::Malformed),
+            None => Err(JsonError::Malformed),
         }
     }
 }
@@ -107,13 +107,13 @@ impl FromJson for FilterWord {
 
     ghost reads = { filter_in };
 
-    fn from_json(_alloc: Global, d: &Value) -> Result<FilterWord, Refusal> {
+    fn from_json(_alloc: Global, d: &Value) -> Result<FilterWord, JsonError> {
         match d.as_str() {
             Some(text) => match filter_of(text) {
                 Some(filter) => Ok(filter),
-                None => Err(Refusal::Malformed),
+                None => Err(JsonError::Malformed),
             },
-            None => Err(Refusal::Malformed),
+            None => Err(JsonError::Malformed),
         }
     }
 }

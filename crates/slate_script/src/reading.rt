@@ -13,20 +13,20 @@ use slate_calls::{Written, read_event};
 use slate_databases::read_database;
 use slate_events::{DbSpec, Event, Script, ScriptError, ScriptPlace};
 use slate_ids::{Listed, OutOfMemory};
-use slate_json::{Refusal, array_of, only};
+use slate_json::{JsonError, array_of, only};
 use std::alloc::Global;
 use std::str;
 
 const EVENT_LIMIT: u64 = 1_000_000;
 
 // What was read of an item, or its place.
-fn at<X: Drop>(place: ScriptPlace, read: Result<X, Refusal>) -> Result<X, ScriptError>
+fn at<X: Drop>(place: ScriptPlace, read: Result<X, JsonError>) -> Result<X, ScriptError>
     ensures { (o : Option X) → Gives read o → Reads result (at_place place o) }
 {
     match read {
         Ok(x) => Ok(x),
-        Err(Refusal::Malformed) => Err(ScriptError::BadScript(place)),
-        Err(Refusal::OutOfMemory) => Err(ScriptError::OutOfMemory),
+        Err(JsonError::Malformed) => Err(ScriptError::BadScript(place)),
+        Err(JsonError::OutOfMemory) => Err(ScriptError::OutOfMemory),
     }
 }
 
@@ -115,28 +115,28 @@ fn script(alloc: Global, d: &Value) -> Result<Script, ScriptError>
 }
 
 // The JSON value of the text.
-fn json_text(alloc: Global, text: &str) -> Result<Value, Refusal>
+fn json_text(alloc: Global, text: &str) -> Result<Value, JsonError>
     ensures ok { IfOk result (λ v. read text.now ≡ Some (view v)) }
-    ensures malformed { result ≡ Err Refusal.Malformed → read text.now ≡ None }
+    ensures malformed { result ≡ Err JsonError.Malformed → read text.now ≡ None }
 {
     match Value::from_str(alloc, text) {
         Ok(value) => Ok(value),
         Err(e) => if e.is_memory() {
-            Err(Refusal::OutOfMemory)
+            Err(JsonError::OutOfMemory)
         } else {
-            Err(Refusal::Malformed)
+            Err(JsonError::Malformed)
         },
     }
 }
 
 // The JSON value of the bytes.
-fn json(alloc: Global, bytes: &[u8]) -> Result<Value, Refusal>
+fn json(alloc: Global, bytes: &[u8]) -> Result<Value, JsonError>
     ensures ok { IfOk result (λ v. json_of bytes.now ≡ Some (view v)) }
-    ensures malformed { result ≡ Err Refusal.Malformed → json_of bytes.now ≡ None }
+    ensures malformed { result ≡ Err JsonError.Malformed → json_of bytes.now ≡ None }
 {
     match str::from_utf8(bytes) {
         Ok(text) => json_text(alloc, text),
-        Err(_) => Err(Refusal::Malformed),
+        Err(_) => Err(JsonError::Malformed),
     }
 }
 
@@ -147,8 +147,8 @@ pub fn read_script(alloc: Global, bytes: &[u8]) -> Result<Script, ScriptError>
 {
     let value = match json(alloc, bytes) {
         Ok(value) => value,
-        Err(Refusal::Malformed) => return Err(ScriptError::BadScript(ScriptPlace::Json)),
-        Err(Refusal::OutOfMemory) => return Err(ScriptError::OutOfMemory),
+        Err(JsonError::Malformed) => return Err(ScriptError::BadScript(ScriptPlace::Json)),
+        Err(JsonError::OutOfMemory) => return Err(ScriptError::OutOfMemory),
     };
     script(alloc, &value)
 }

@@ -4,20 +4,20 @@ use slate_ids::OutOfMemory;
 
 /// Why a JSON value was not read.
 #[derive(Clone, Copy, Debug, Drop, PartialEq, Eq)]
-pub enum Refusal {
+pub enum JsonError {
     /// It stands for nothing here.
     Malformed,
     /// Memory ran out.
     OutOfMemory,
 }
 
-impl From<OutOfMemory> for Refusal {
+impl From<OutOfMemory> for JsonError {
     ghost use Rattle.std.specs.Prelude.{◌≡◌};
-    ghost use Rattle.slate_json.specs.declared.refusal.Refusal.TheVariants.{OutOfMemory as NoMemory};
+    ghost use Rattle.slate_json.specs.declared.json_error.JsonError.TheVariants.{OutOfMemory as NoMemory};
 
     ghost from_gives = { λ _ e. e ≡ NoMemory };
 
-    fn from(_e: OutOfMemory) -> Refusal {
-        Refusal::OutOfMemory
+    fn from(_e: OutOfMemory) -> JsonError {
+        JsonError::OutOfMemory
     }
 }
