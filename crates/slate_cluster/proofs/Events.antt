@@ -4,16 +4,16 @@ use Rattle.std.proofs.lemmas.List.{take_more, append-nil}
 use Rattle.std.proofs.Math.Seq.{take-length}
 use Rattle.slate_events.specs.declared.event.Event.{Event}
 use Rattle.slate_events.specs.declared.entry.Entry.{Entry}
-use Rattle.slate_protocol.specs.World.{World, Done, happens}
+use Rattle.slate_protocol.specs.World.{World, Transition, happens}
 use Rattle.slate_protocol.specs.Runs.{Course, Ran, going_on, run}
 use Rattle.slate_parties.specs.Events.{Happened}
 use Rattle.slate_cluster.specs.Ran.{Extends}
 
 -- what a run makes of its next event
-abbrev next : List Event → ℕ → Course → Option Done → Ran
+abbrev next : List Event → ℕ → Course → Option Transition → Ran
 next es place c o = elim o [ None ↦ record { course = c; bad = Some place } | Some done ↦ run es (place + 1) (going_on c done) ]
 
-run_good : (e : Event) (es : List Event) (place : ℕ) (c : Course) (d : Done) → happens c.world e ≡ Some d → run (e ∷ es) place c ≡ run es (place + 1) (going_on c d)
+run_good : (e : Event) (es : List Event) (place : ℕ) (c : Course) (d : Transition) → happens c.world e ≡ Some d → run (e ∷ es) place c ≡ run es (place + 1) (going_on c d)
 run_good e es place c d h = ap (next es place c) h
 
 run_bad : (e : Event) (es : List Event) (place : ℕ) (c : Course) → happens c.world e ≡ None → run (e ∷ es) place c ≡ record { course = c; bad = Some place }
@@ -22,15 +22,15 @@ run_bad e es place c h = ap (next es place c) h
 abbrev ended : Course → Ran
 ended c = record { course = c; bad = None }
 
-run_more : (xs : List Event) (e : Event) (place : ℕ) (c v : Course) (d : Done) → run xs place c ≡ ended v → happens v.world e ≡ Some d
+run_more : (xs : List Event) (e : Event) (place : ℕ) (c v : Course) (d : Transition) → run xs place c ≡ ended v → happens v.world e ≡ Some d
     → run (xs ++ e ∷ []) place c ≡ ended (going_on v d)
 run_more [] e place c v d r h =
     let same : c ≡ v = ap (λ (x : Ran). x.course) r in
     run_good e [] place c d (ap (λ (x : Course). happens x.world e) same ∙ h) ∙ ap (λ (x : Course). ended (going_on x d)) same
 run_more (x ∷ xs) e place c v d r h = step (happens c.world x) r (λ w r'. run_more xs e (place + 1) (going_on c w) v d r' h)
   where
-    step : (o : Option Done) → next xs place c o ≡ ended v
-        → ((w : Done) → run xs (place + 1) (going_on c w) ≡ ended v → run (xs ++ e ∷ []) (place + 1) (going_on c w) ≡ ended (going_on v d))
+    step : (o : Option Transition) → next xs place c o ≡ ended v
+        → ((w : Transition) → run xs (place + 1) (going_on c w) ≡ ended v → run (xs ++ e ∷ []) (place + 1) (going_on c w) ≡ ended (going_on v d))
         → next (xs ++ e ∷ []) place c o ≡ ended (going_on v d)
     step None r f = absurd (cc (ap (λ (y : Ran). y.bad) r))
     step (Some w) r f = f w r
@@ -53,7 +53,7 @@ pub record Goes (es : List Event) (i : ℕ) (old now : Course) : Type 0 where
 pub goes_from : (es : List Event) (old : Course) → Goes es 0 old old
 goes_from es old = record { left = refl; so_far = refl; added = []; grown = sym (append-nil old.trail) }
 
-goes_on : (es : List Event) (i : ℕ) (e : Event) (old now : Course) (d : Done) → i < length es → e ≡ get_or es i e → Goes es i old now → happens now.world e ≡ Some d → Goes es (i + 1) old (going_on now d)
+goes_on : (es : List Event) (i : ℕ) (e : Event) (old now : Course) (d : Transition) → i < length es → e ≡ get_or es i e → Goes es i old now → happens now.world e ≡ Some d → Goes es (i + 1) old (going_on now d)
 goes_on es i e old now d lt at g h = record {
   left = g.left ∙ (ap (λ xs. run xs i now) (drop_event es i e lt at) ∙ run_good e (drop (i + 1) es) i now d h);
   so_far = rw (take_more es i e lt) (rw (← at) (run_more (take i es) e 0 old now d g.so_far h));

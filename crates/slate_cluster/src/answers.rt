@@ -16,7 +16,7 @@ use std::alloc::Global;
 
 /// The text that is written, and the status where no write fails.
 #[derive(Drop)]
-pub(crate) struct Written {
+pub(crate) struct Output {
     pub text: String,
     pub status: Status,
 }
@@ -42,7 +42,7 @@ fn done(alloc: Global, cluster: &mut Cluster, events: &[Event]) -> Result<Option
     ensures run { IfOk result (λ bad. run events.now 0 cluster.old ≡ record { course = cluster.new; bad = bad }) }
     ensures lawful { Lawful cluster.new }
 {
-    match cluster.advance(alloc, events) {
+    match cluster.do_events(alloc, events) {
         Ok(()) => Ok(None),
         Err(ClusterError::BadEvent { place }) => Ok(Some(place)),
         Err(ClusterError::OutOfMemory { .. }) => Err(OutOfMemory),
@@ -59,28 +59,28 @@ fn status_of(bad: Option<u64>) -> Status
 }
 
 // What is written for a script whose databases begin a run.
-fn answer_run(alloc: Global, cluster: Cluster, events: &[Event]) -> Result<Written, OutOfMemory>
+fn answer_run(alloc: Global, cluster: Cluster, events: &[Event]) -> Result<Output, OutOfMemory>
     ensures text { IfOk result (λ a. string_bytes a.text ≡ report_text (run events.now 0 cluster)) }
     ensures status { IfOk result (λ a. a.status ≡ run_status (run events.now 0 cluster).bad) }
     ensures lawful { IfOk result (λ _. Lawful (run events.now 0 cluster).course) }
 {
     let mut cluster = cluster;
     let bad = done(alloc, &mut cluster, events)?;
-    Ok(Written {
+    Ok(Output {
         text: report_of(alloc, &cluster, bad)?,
         status: status_of(bad),
     })
 }
 
 // What is written for a script.
-fn answer_script(alloc: Global, script: Script) -> Result<Written, OutOfMemory>
+fn answer_script(alloc: Global, script: Script) -> Result<Output, OutOfMemory>
     ensures text { IfOk result (λ a. string_bytes a.text ≡ text_for (Ok script)) }
     ensures status { IfOk result (λ a. a.status ≡ status_for (Ok script)) }
     ensures lawful { IfOk result (λ _. IsLawfulRun (Ok script)) }
 {
     match Cluster::new(alloc, script.databases.into_vec()) {
         Ok(cluster) => answer_run(alloc, cluster, script.events.as_slice()),
-        Err(NewError::BadCluster(cause)) => Ok(Written {
+        Err(NewError::BadCluster(cause)) => Ok(Output {
             text: bad_cluster(alloc, cause)?,
             status: Status::BadCluster(cause),
         }),
@@ -89,14 +89,14 @@ fn answer_script(alloc: Global, script: Script) -> Result<Written, OutOfMemory>
 }
 
 /// What is written for an input. It is made whole in memory, and the run is done by then.
-pub(crate) fn answer(alloc: Global, bytes: &[u8]) -> Result<Written, OutOfMemory>
+pub(crate) fn answer(alloc: Global, bytes: &[u8]) -> Result<Output, OutOfMemory>
     ensures text { IfOk result (λ a. string_bytes a.text ≡ text_for (script_of bytes.now)) }
     ensures status { IfOk result (λ a. a.status ≡ status_for (script_of bytes.now)) }
     ensures lawful { IfOk result (λ _. IsLawfulRun (script_of bytes.now)) }
 {
     match read_script(alloc, bytes) {
         Ok(script) => answer_script(alloc, script),
-        Err(ScriptError::BadScript(place)) => Ok(Written {
+        Err(ScriptError::BadScript(place)) => Ok(Output {
             text: bad_script(alloc, place)?,
             status: Status::BadScript(place),
         }),

@@ -75,14 +75,14 @@ impl Cluster {
     }
 
     /// As `run`, without the report: no entry is copied.
-    pub(crate) fn advance(&mut self, alloc: Global, events: &[Event]) -> Result<(), ClusterError>
+    pub(crate) fn do_events(&mut self, alloc: Global, events: &[Event]) -> Result<(), ClusterError>
         ensures done { HasDone self.old events.now result self.new }
         ensures lawful { Lawful self.new }
     {
         goes_on();
         stops();
         lawful();
-        self.progress.advance(alloc, events)
+        self.progress.do_events(alloc, events)
     }
 
     /// The entries of all events since the cluster was made.

@@ -63,7 +63,7 @@ impl Progress {
     }
 
     /// Does the events in order, up to the first bad one, and copies no entry.
-    pub fn advance(&mut self, alloc: Global, events: &[Event]) -> Result<(), ClusterError>
+    pub fn do_events(&mut self, alloc: Global, events: &[Event]) -> Result<(), ClusterError>
         ensures done { HasDone self.old events.now result self.new }
         ensures grown { OnOk result (Extends self.old.trail self.new.trail) }
     {
@@ -86,7 +86,7 @@ impl Progress {
         ensures { HasRun self.old events.now result self.new }
     {
         let before = self.trail.len();
-        self.advance(alloc, events)?;
+        self.do_events(alloc, events)?;
         match copy_entries(alloc, &self.trail[before..]) {
             Ok(entries) => Ok(Report { entries }),
             Err(_) => Err(ClusterError::OutOfMemory {

@@ -5,7 +5,7 @@ ghost use Rattle.slate_script.specs.Scripts.{script_of};
 ghost use Rattle.slate_reports.specs.Commands.{command_of};
 ghost use Rattle.slate_reports.specs.Endings.{end, Answers, EndsTooLong, ExactlyEnds, IfAnswered, IsLawfulRun, Outcome, Runs, limit};
 
-use crate::answers::{Written, answer};
+use crate::answers::{Output, answer};
 use slate_reports::{Command, Status, command_in, deliver, help, run_help, version};
 use slate_store::{ReadError, Sink, Source, read_all};
 use std::alloc::Global;
@@ -20,7 +20,7 @@ fn answer_whole<K: Sink>(alloc: Global, bytes: &[u8], sink: &mut K) -> Status
     ensures lawful { IfAnswered result (IsLawfulRun (script_of bytes.now)) }
 {
     match answer(alloc, bytes) {
-        Ok(Written { text, status }) => deliver(text.as_str(), status, sink),
+        Ok(Output { text, status }) => deliver(text.as_str(), status, sink),
         Err(_) => Status::OutOfMemory,
     }
 }

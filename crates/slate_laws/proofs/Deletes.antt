@@ -22,7 +22,7 @@ use Rattle.slate_gc.specs.declared.pass_counts.PassCounts.{PassCounts}
 use Rattle.slate_gc.specs.declared.pass_options.PassOptions.{PassOptions}
 use Rattle.slate_gc.specs.declared.pass_phase.PassPhase.TheVariants as passing
 use Rattle.slate_protocol.specs.Calls.{Next, Go, Finish, follow}
-use Rattle.slate_protocol.specs.Passes.{made_by, is_delete, deletes_in, deletes_of, calls_of, with_delete, with_deletes}
+use Rattle.slate_protocol.specs.Passes.{calls_made, is_delete, deletes_in, deletes_of, calls_of, with_delete, with_deletes}
 use Rattle.slate_protocol.specs.Phrases.{at_pass, pass_on}
 use Rattle.slate_protocol.specs.Rows.{Answered, after_answers}
 use Rattle.slate_protocol.specs.declared.party.Facts.{Facts}
@@ -75,7 +75,7 @@ one_delete db n ns counts made next answer d = record {
 module _ (facts : Facts) (call : Call) where
   -- the deletes along answers from where a call stands
   abbrev pub DeletesFrom : List ℕ → PassCounts → Next → List Answered → Type 0
-  DeletesFrom ns counts next answers = Deletes facts.db ns counts (made_by facts call next answers) (after_answers facts call next answers)
+  DeletesFrom ns counts next answers = Deletes facts.db ns counts (calls_made facts call next answers) (after_answers facts call next answers)
 
   -- a call that is refused makes no delete more
   pub refused_deletes : (ns : List ℕ) (counts : PassCounts) (e : SlateDBError) (answers : List Answered) → DeletesFrom ns counts (Finish (Refused e)) answers

@@ -35,7 +35,7 @@ use Rattle.slate_gc.specs.declared.pass_options.PassOptions.{PassOptions}
 use Rattle.slate_gc.specs.declared.pass_phase.PassPhase.{PassPhase}
 use Rattle.slate_gc.specs.declared.pass_phase.PassPhase.TheVariants as passing
 use Rattle.slate_protocol.specs.ByRows.{Doing, Answers, Standing, Standings, entry_by, party_in, standings_after, entry_store}
-use Rattle.slate_protocol.specs.Calls.{Next, Go, Finish, options_of, commit_of, commit_next, follow, begin}
+use Rattle.slate_protocol.specs.Calls.{Next, Go, Finish, pass_options, commit_of, commit_next, follow, begin}
 use Rattle.slate_protocol.specs.Passes.{picks_at, picks_of, picks_read, pass_answers, numbers_or_none, is_delete, IsExact, ExactDoing, ExactEntry, ExactPasses}
 use Rattle.slate_protocol.specs.Phrases.{at_pass, read_on, commit_on}
 use Rattle.slate_protocol.specs.Rows.{Answered}
@@ -241,7 +241,7 @@ module _ (facts : Facts) (pass : GcMessage) (min_age : ℕ) (dry_run : Bool) (fi
   the_call = calls.Pass pass min_age dry_run filter
 
   abbrev options : PassOptions
-  options = options_of min_age dry_run filter
+  options = pass_options min_age dry_run filter
 
   commit_before : (now : ℤ) (m : Manifest) (r : Result (Option (CommitPhase Manifest)) SlateDBError) → Before facts options (commit_next facts the_call now m r)
   commit_before now m (Ok (Some commit)) = tt

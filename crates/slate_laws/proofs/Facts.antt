@@ -12,7 +12,7 @@ use Rattle.slate_log.specs.declared.commit.CommitPhase.TheVariants as committing
 use Rattle.slate_log.specs.declared.read.ReadPhase.{ReadPhase}
 use Rattle.slate_log.specs.declared.read.ReadPhase.TheVariants as reading
 use Rattle.slate_log.specs.declared.right.Right.{Right}
-use Rattle.slate_protocol.specs.Chains.{Link, Log, link_at, top, IsChain, bytes_of, bound_in, Stands}
+use Rattle.slate_protocol.specs.Chains.{Link, Log, link_at, top, IsChain, bytes_of, bound_in, AgreesAt}
 use Rattle.slate_protocol.specs.Reach.{IsNeeded, IsSpare}
 
 -- what is read back of a value, and the rules on it
@@ -35,7 +35,7 @@ pub record IsSound {V A : Type 0} (log : Log V A) (db : List ℕ) (s : Store) (c
   pub bound : ℕ
   pub read : bound_in log db s ≡ Some bound
   pub below : bound < top c
-  pub above : (k : ℕ) → bound < k → k < 2 ^ 64 → Stands log db s c k
+  pub above : (k : ℕ) → bound < k → k < 2 ^ 64 → AgreesAt log db s c k
   pub needed : (k : ℕ) → IsNeeded log c k → IsCommitted log db s c k
   pub tagged : (o : StoredObject) → object_at (boundary_path log.kind db) s ≡ Some o → o.e_tag ≤ s.last_tag
 

@@ -4,10 +4,10 @@ use Rattle.slate_events.specs.declared.event.Event.{Event}
 use Rattle.slate_protocol.specs.Lawful.{IsRun}
 use Rattle.slate_protocol.specs.Logs.{world_after}
 use Rattle.slate_protocol.specs.Runs.{Course, Ran, going_on, opening, run}
-use Rattle.slate_protocol.specs.World.{World, Done, happens}
+use Rattle.slate_protocol.specs.World.{World, Transition, happens}
 use Rattle.slate_laws.proofs.Rows.{ended}
 
-abbrev Leads : List Event → ℕ → Course → Option Done → Ran
+abbrev Leads : List Event → ℕ → Course → Option Transition → Ran
 Leads es place c o = elim o as (λ _. Ran) [ None ↦ record { course = c; bad = Some place } | Some done ↦ run es (place + 1) (going_on c done) ]
 
 -- where a run without a bad event leads doesn't depend on the place
@@ -15,7 +15,7 @@ run_place : (es : List Event) (p q : ℕ) (c v : Course) → run es p c ≡ ende
 run_place [] p q c v h = h
 run_place (e ∷ es) p q c v h = went (happens c.world e) h (λ d k. run_place es (p + 1) (q + 1) (going_on c d) v k)
   where
-    went : (o : Option Done) → Leads es p c o ≡ ended v → ((d : Done) → run es (p + 1) (going_on c d) ≡ ended v → run es (q + 1) (going_on c d) ≡ ended v) → Leads es q c o ≡ ended v
+    went : (o : Option Transition) → Leads es p c o ≡ ended v → ((d : Transition) → run es (p + 1) (going_on c d) ≡ ended v → run es (q + 1) (going_on c d) ≡ ended v) → Leads es q c o ≡ ended v
     went None h f = absurd (cc (ap (λ (r : Ran). r.bad) h))
     went (Some d) h f = f d h
 
@@ -25,7 +25,7 @@ run_append [] ys p q c v u h k =
     subst (λ (x : Course). run ys p x ≡ ended u) (sym same) (run_place ys q p v u k)
 run_append (e ∷ xs) ys p q c v u h k = went (happens c.world e) h (λ d r. run_append xs ys (p + 1) q (going_on c d) v u r k)
   where
-    went : (o : Option Done) → Leads xs p c o ≡ ended v → ((d : Done) → run xs (p + 1) (going_on c d) ≡ ended v → run (xs ++ ys) (p + 1) (going_on c d) ≡ ended u) → Leads (xs ++ ys) p c o ≡ ended u
+    went : (o : Option Transition) → Leads xs p c o ≡ ended v → ((d : Transition) → run xs (p + 1) (going_on c d) ≡ ended v → run (xs ++ ys) (p + 1) (going_on c d) ≡ ended u) → Leads (xs ++ ys) p c o ≡ ended u
     went None h f = absurd (cc (ap (λ (r : Ran). r.bad) h))
     went (Some d) h f = f d h
 
@@ -38,7 +38,7 @@ run_front : (es : List Event) (p k : ℕ) (c v : Course) → run es p c ≡ reco
 run_front [] p k c v h = absurd (cc (ap (λ (r : Ran). r.bad) h))
 run_front (e ∷ es) p k c v h = went (happens c.world e) refl h (λ d r. run_front es (p + 1) k (going_on c d) v r)
   where
-    went : (o : Option Done) → happens c.world e ≡ o → Leads es p c o ≡ record { course = v; bad = Some k } → ((d : Done) → run es (p + 1) (going_on c d) ≡ record { course = v; bad = Some k } → Front (going_on c d) v) → Front c v
+    went : (o : Option Transition) → happens c.world e ≡ o → Leads es p c o ≡ record { course = v; bad = Some k } → ((d : Transition) → run es (p + 1) (going_on c d) ≡ record { course = v; bad = Some k } → Front (going_on c d) v) → Front c v
     went None is h f = record { events = []; run = ap (λ (r : Ran). ended r.course) h }
     went (Some d) is h f =
         let rest = f d h in
@@ -48,7 +48,7 @@ pub run_specs : (es : List Event) (p : ℕ) (c v : Course) → run es p c ≡ en
 run_specs [] p c v h = ap (λ (r : Ran). r.course.specs) (sym h)
 run_specs (e ∷ es) p c v h = went (happens c.world e) h (λ d k. run_specs es (p + 1) (going_on c d) v k)
   where
-    went : (o : Option Done) → Leads es p c o ≡ ended v → ((d : Done) → run es (p + 1) (going_on c d) ≡ ended v → v.specs ≡ c.specs) → v.specs ≡ c.specs
+    went : (o : Option Transition) → Leads es p c o ≡ ended v → ((d : Transition) → run es (p + 1) (going_on c d) ≡ ended v → v.specs ≡ c.specs) → v.specs ≡ c.specs
     went None h f = absurd (cc (ap (λ (r : Ran). r.bad) h))
     went (Some d) h f = f d h
 
@@ -57,7 +57,7 @@ pub run_world : (es : List Event) (p : ℕ) (c v : Course) → run es p c ≡ en
 run_world [] p c v h = ap (λ (r : Ran). r.course.world) (sym h)
 run_world (e ∷ es) p c v h = went (happens c.world e) h (λ d k. run_world es (p + 1) (going_on c d) v k)
   where
-    went : (o : Option Done) → Leads es p c o ≡ ended v → ((d : Done) → run es (p + 1) (going_on c d) ≡ ended v → v.world ≡ world_after es d.world) → v.world ≡ elim o as (λ _. World) [ None ↦ c.world | Some d ↦ world_after es d.world ]
+    went : (o : Option Transition) → Leads es p c o ≡ ended v → ((d : Transition) → run es (p + 1) (going_on c d) ≡ ended v → v.world ≡ world_after es d.world) → v.world ≡ elim o as (λ _. World) [ None ↦ c.world | Some d ↦ world_after es d.world ]
     went None h f = absurd (cc (ap (λ (r : Ran). r.bad) h))
     went (Some d) h f = f d h
 
@@ -84,7 +84,7 @@ pub run_split : (front back : List Event) (p : ℕ) (c v : Course) → run (fron
 run_split [] back p c v h = record { first = refl; second = run_place back p 0 c v h }
 run_split (e ∷ front) back p c v h = went (happens c.world e) refl h (λ d k. run_split front back (p + 1) (going_on c d) v k)
   where
-    went : (o : Option Done) → happens c.world e ≡ o → Leads (front ++ back) p c o ≡ ended v → ((d : Done) → run (front ++ back) (p + 1) (going_on c d) ≡ ended v → Split front back (p + 1) (going_on c d) v) → Split (e ∷ front) back p c v
+    went : (o : Option Transition) → happens c.world e ≡ o → Leads (front ++ back) p c o ≡ ended v → ((d : Transition) → run (front ++ back) (p + 1) (going_on c d) ≡ ended v → Split front back (p + 1) (going_on c d) v) → Split (e ∷ front) back p c v
     went None is h f = absurd (cc (ap (λ (r : Ran). r.bad) h))
     went (Some d) is h f =
         let s = f d h in

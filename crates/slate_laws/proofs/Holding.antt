@@ -12,7 +12,7 @@ use Rattle.slate_gc.specs.declared.pass_phase.PassPhase.{PassPhase}
 use Rattle.slate_gc.specs.declared.pass_phase.PassPhase.TheVariants as passing
 use Rattle.slate_log.specs.declared.commit.CommitPhase.TheVariants.{Putting}
 use Rattle.slate_log.specs.declared.read.ReadPhase.{ReadPhase}
-use Rattle.slate_protocol.specs.Chains.{bound_in, Stands}
+use Rattle.slate_protocol.specs.Chains.{bound_in, AgreesAt}
 use Rattle.slate_protocol.specs.Holding.{IsVersion, IsMadeOf, Each, candidates_in, due_in}
 use Rattle.slate_protocol.specs.Lawful.{IsAccepted, chains_at_end}
 use Rattle.slate_protocol.specs.Logs.{Chain, author_of, manifests, world_after}
@@ -36,7 +36,7 @@ use Rattle.slate_laws.proofs.Steps.{AfterPhrase, PhraseBrings, phrase_step, none
 
 pub above_bound : (specs : List DbSpec) (events : List Event) (db : List ℕ) (bound number : ℕ) → IsAccepted specs → HasDb (world_after events (opening_world specs)) db
     → bound_in manifests db (world_after events (opening_world specs)).store ≡ Some bound → bound < number → number < 2 ^ 64
-    → Stands manifests db (world_after events (opening_world specs)).store (chains_at_end specs events db) number
+    → AgreesAt manifests db (world_after events (opening_world specs)).store (chains_at_end specs events db) number
 above_bound specs events db bound number accepted has read lt small =
     let log = (after_inv specs events accepted).logs db has in
     let same : bound ≡ log.bound = cc (log.read, read) in

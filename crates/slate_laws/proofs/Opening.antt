@@ -21,7 +21,7 @@ use Rattle.slate_events.specs.declared.cluster_cause.ClusterCause.TheVariants as
 use Rattle.slate_events.specs.declared.db_spec.DbSpec.{DbSpec}
 use Rattle.slate_store.specs.Store.{Store, object_at}
 use Rattle.slate_store.specs.declared.object.StoredObject.{StoredObject}
-use Rattle.slate_protocol.specs.Chains.{top, bytes_of, link_bytes, Stands}
+use Rattle.slate_protocol.specs.Chains.{top, bytes_of, link_bytes, AgreesAt}
 use Rattle.slate_protocol.specs.Lawful.{IsAccepted}
 use Rattle.slate_protocol.specs.Logs.{Chain, manifests, opening_link, opening_chains}
 use Rattle.slate_protocol.specs.Reach.{IsNeeded}
@@ -216,10 +216,10 @@ module _ (specs : List DbSpec) (accepted : IsAccepted specs) where
         ∙ (ap (λ (o : Option First). bytes_found o None) (beside_tables (version_path ManifestLog d 1) (version_other 1 (omega arith)) ∙ firsts_found d named [] [] specs parts.tallies parts.made.firsts names parts.tallied parts.made.written (λ h. refl))
         ∙ ap (λ (o : Option DbSpec). bytes_found (first_for o None) None) it.at)
 
-    first_stands : (k : ℕ) → 0 < k → k < 2 ^ 64 → Stands manifests d w.store chain k
+    first_stands : (k : ℕ) → 0 < k → k < 2 ^ 64 → AgreesAt manifests d w.store chain k
     first_stands k pos small =
         ⊎_elim
-        (λ (e : 1 ≡ k). subst (λ j. Stands manifests d w.store chain j) e (first_there ∙ sym (ap link_bytes (link_here 1 (opening_link it.spec) [] refl))))
+        (λ (e : 1 ≡ k). subst (λ j. AgreesAt manifests d w.store chain j) e (first_there ∙ sym (ap link_bytes (link_here 1 (opening_link it.spec) [] refl))))
         (λ (ne : 1 ≢ k). ap bytes_of (no_other k small (λ (e : k ≡ 1). ne (sym e))) ∙ sym (ap link_bytes (link_there k (opening_link it.spec) [] ne)))
         (same_or_not 1 k)
 

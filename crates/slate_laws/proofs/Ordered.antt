@@ -23,7 +23,7 @@ use Rattle.slate_events.specs.declared.event.Event.TheVariants.{Open, Start, Ste
 use Rattle.slate_protocol.specs.Logs.{world_after}
 use Rattle.slate_protocol.specs.Phrases.{asks, is_due}
 use Rattle.slate_protocol.specs.Specs.{First, objects_of, listed_or_none, no_objects, store_from, opening_world}
-use Rattle.slate_protocol.specs.World.{World, Done, party_of, tally_of, noted, stepped, step_state, start_state, stop_state, carrying, may_start, open_at, start_at, step_at, stop_at, happens}
+use Rattle.slate_protocol.specs.World.{World, Transition, party_of, tally_of, noted, stepped, step_state, start_state, stop_state, carrying, may_start, open_at, start_at, step_at, stop_at, happens}
 use Rattle.slate_protocol.specs.declared.party.Facts.{Facts}
 use Rattle.slate_protocol.specs.declared.party.Party.{Party}
 use Rattle.slate_protocol.specs.declared.party.State.{State}
@@ -137,17 +137,17 @@ stop_ordered w n facts h (Busy call purpose position) = h
 stop_ordered w n facts h Halted = h
 
 -- an event leaves it
-pub event_ordered : (w : World) (e : Event) (d : Done) → happens w e ≡ Some d → Kept w → Kept d.world
+pub event_ordered : (w : World) (e : Event) (d : Transition) → happens w e ≡ Some d → Kept w → Kept d.world
 event_ordered w (Open n kind db) d h k = opened (party_of n w.parties) (tally_of db w.tallies) h
   where
     opened : (o : Option Party) (t : Option Tally) → open_at w n kind db o t ≡ Some d → Kept d.world
-    opened None (Some t) h = subst Kept (ap (λ (o : Option Done). elim o as (λ _. World) [ None ↦ w | Some d ↦ d.world ]) h) k
+    opened None (Some t) h = subst Kept (ap (λ (o : Option Transition). elim o as (λ _. World) [ None ↦ w | Some d ↦ d.world ]) h) k
     opened None None h = absurd cc
     opened (Some p) t h = absurd cc
 event_ordered w (Start n call) d h k = started (party_of n w.parties) h
   where
     test : (p : Party) (b : Bool) → (if b then Some (start_state (carrying n call w) n p.facts p.state call) else None) ≡ Some d → Kept d.world
-    test p true h = let same : start_state (carrying n call w) n p.facts p.state call ≡ d = cc in subst (λ (r : Done). Kept r.world) same (start_ordered (carrying n call w) n p.facts call k p.state)
+    test p true h = let same : start_state (carrying n call w) n p.facts p.state call ≡ d = cc in subst (λ (r : Transition). Kept r.world) same (start_ordered (carrying n call w) n p.facts call k p.state)
     test p false h = absurd cc
 
     started : (o : Option Party) → start_at w n call o ≡ Some d → Kept d.world
@@ -157,18 +157,18 @@ event_ordered w (Step n moment mark) d h k = went (party_of n w.parties) h
   where
     went : (o : Option Party) → step_at w n moment mark o ≡ Some d → Kept d.world
     went None h = absurd cc
-    went (Some p) h = let same : step_state w n p.facts p.state moment mark ≡ d = cc in subst (λ (r : Done). Kept r.world) same (step_ordered w n p.facts moment mark k p.state)
+    went (Some p) h = let same : step_state w n p.facts p.state moment mark ≡ d = cc in subst (λ (r : Transition). Kept r.world) same (step_ordered w n p.facts moment mark k p.state)
 event_ordered w (Stop n) d h k = went (party_of n w.parties) h
   where
     went : (o : Option Party) → stop_at w n o ≡ Some d → Kept d.world
     went None h = absurd cc
-    went (Some p) h = let same : stop_state w n p.facts p.state ≡ d = cc in subst (λ (r : Done). Kept r.world) same (stop_ordered w n p.facts k p.state)
+    went (Some p) h = let same : stop_state w n p.facts p.state ≡ d = cc in subst (λ (r : Transition). Kept r.world) same (stop_ordered w n p.facts k p.state)
 
 run_ordered : (es : List Event) (w : World) → Kept w → Kept (world_after es w)
 run_ordered [] w k = k
 run_ordered (e ∷ es) w k = went (happens w e) refl (λ d k'. run_ordered es d.world k')
   where
-    went : (o : Option Done) → happens w e ≡ o → ((d : Done) → Kept d.world → Kept (world_after es d.world)) → Kept (elim o as (λ _. World) [ None ↦ w | Some d ↦ world_after es d.world ])
+    went : (o : Option Transition) → happens w e ≡ o → ((d : Transition) → Kept d.world → Kept (world_after es d.world)) → Kept (elim o as (λ _. World) [ None ↦ w | Some d ↦ world_after es d.world ])
     went None h f = k
     went (Some d) h f = f d (event_ordered w e d h k)
 

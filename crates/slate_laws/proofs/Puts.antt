@@ -6,7 +6,7 @@ use Rattle.slate_store.specs.Store.{Store, object_at, stored}
 use Rattle.slate_store.specs.declared.object.StoredObject.{StoredObject}
 use Rattle.slate_log.specs.Boundary.{boundary_got}
 use Rattle.slate_log.specs.LogPaths.{version_path, boundary_path}
-use Rattle.slate_protocol.specs.Chains.{Link, Log, link_at, top, if_new, with_link, IsChain, Follows, bytes_of, link_bytes, bound_in, Stands, Changed}
+use Rattle.slate_protocol.specs.Chains.{Link, Log, link_at, top, if_new, with_link, IsChain, Follows, bytes_of, link_bytes, bound_in, AgreesAt, Changed}
 use Rattle.slate_protocol.specs.Chains.Changed.{Stays, Gets}
 use Rattle.slate_laws.proofs.Stores.{at_put, at_else}
 use Rattle.slate_laws.proofs.Links.{link_here, link_there, same_or_not, next_is_top, at_most}
@@ -111,10 +111,10 @@ module _ {V A : Type 0} (log : Log V A) (db : List ℕ) where
           let same : h.old ≡ l = cc (link_here h.old.number l d (sym e), at) in
           (subst (λ (o : Link V A). Follows log o new) same follows, chain)
 
-      put_stands : (k : ℕ) → i.bound < k → k < 2 ^ 64 → Stands log db after (new ∷ c) k
+      put_stands : (k : ℕ) → i.bound < k → k < 2 ^ 64 → AgreesAt log db after (new ∷ c) k
       put_stands k lt small =
           ⊎_elim
-          (λ (e : k ≡ n). subst (λ j. Stands log db after (new ∷ c) j) (sym e) (put_here ∙ sym (ap link_bytes (link_here n new c refl))))
+          (λ (e : k ≡ n). subst (λ j. AgreesAt log db after (new ∷ c) j) (sym e) (put_here ∙ sym (ap link_bytes (link_here n new c refl))))
           (λ (ne : k ≢ n). ap bytes_of (put_there k small ne) ∙ (i.above k lt small ∙ sym (ap link_bytes (link_there k new c (λ (e : n ≡ k). ne (sym e))))))
           (same_or_not k n)
 
@@ -186,14 +186,14 @@ module _ {V A : Type 0} (log : Log V A) (db : List ℕ) where
 
     -- its number was committed, and collected since: a late put, which commits nothing
     module _ (taken : Link V A) (late : link_at n c ≡ Some taken) where
-      late_stands : (k : ℕ) → i.bound < k → k < 2 ^ 64 → Stands log db after c k
+      late_stands : (k : ℕ) → i.bound < k → k < 2 ^ 64 → AgreesAt log db after c k
       late_stands k lt small =
           ⊎_elim
-          (λ (e : k ≡ n). absurd (nothing (subst (λ j. Stands log db s c j) e (i.above k lt small))))
+          (λ (e : k ≡ n). absurd (nothing (subst (λ j. AgreesAt log db s c j) e (i.above k lt small))))
           (λ (ne : k ≢ n). ap bytes_of (put_there k small ne) ∙ i.above k lt small)
           (same_or_not k n)
         where
-          nothing : Stands log db s c n → ⊥
+          nothing : AgreesAt log db s c n → ⊥
           nothing stands = cc (ap bytes_of absent, ap link_bytes late, stands)
 
       -- a version that stands is none whose object was absent

@@ -18,7 +18,7 @@ use Rattle.slate_protocol.specs.Calls.{Next, Go, Finish, follow, begin}
 use Rattle.slate_protocol.specs.Phrases.{asks, goes, is_due}
 use Rattle.slate_protocol.specs.Rows.{Answered, Row, Asks, after_answers, stands_after, row_of, row}
 use Rattle.slate_protocol.specs.Runs.{Course, Ran, going_on, run}
-use Rattle.slate_protocol.specs.World.{World, Done, party_of, with_party, tally_of, noted, newcomer, settled, reply_of, stepped, step_state, start_state, halted, stop_state, carrying, may_start, open_at, start_at, step_at, stop_at, happens}
+use Rattle.slate_protocol.specs.World.{World, Transition, party_of, with_party, tally_of, noted, newcomer, settled, reply_of, stepped, step_state, start_state, halted, stop_state, carrying, may_start, open_at, start_at, step_at, stop_at, happens}
 use Rattle.slate_protocol.specs.declared.party.Facts.{Facts}
 use Rattle.slate_protocol.specs.declared.party.Party.{Party}
 use Rattle.slate_protocol.specs.declared.party.Purpose.{Purpose}
@@ -70,7 +70,7 @@ settled_matches s facts call answers (Go purpose position) e h due = (e, (refl, 
 settled_matches s facts call answers (Finish reply) e h due = (ap (λ (f : Facts). facts_by f (Some reply)) e, tt)
 
 -- what an event brings: the entry of the row, and the store that the entry leaves
-pub record Brought (e : Event) (standing : Option Standing) (w : World) (d : Done) : Type 0 where
+pub record Brought (e : Event) (standing : Option Standing) (w : World) (d : Transition) : Type 0 where
   pub entry : d.entry ≡ entry_by e standing w.store
   pub store : d.world.store ≡ entry_store d.entry w.store
   pub own : Matches (standing_after e d.entry standing) (party_of (party_in e) d.world.parties)
@@ -187,17 +187,17 @@ module _ (n : ℕ) (w : World) (p : Party) (at : party_of n w.parties ≡ Some p
   step_brings : (moment : ℤ) (mark : Mark) (state : State) → p.state ≡ state → CallIs p.facts s.doing state → Brought (Step n moment mark) (Some s) w (step_state w n p.facts state moment mark)
   step_brings moment mark state st m = step_busy moment mark state st s.doing refl m (subst (CallIs p.facts s.doing) (sym st) m)
 
-open_brings : (n : ℕ) (kind : PartyKind) (db : List ℕ) (w : World) (standing : Option Standing) (o : Option Party) (t : Option Tally) (d : Done) → party_of n w.parties ≡ o → Matches standing o → open_at w n kind db o t ≡ Some d → Brought (Open n kind db) standing w d
+open_brings : (n : ℕ) (kind : PartyKind) (db : List ℕ) (w : World) (standing : Option Standing) (o : Option Party) (t : Option Tally) (d : Transition) → party_of n w.parties ≡ o → Matches standing o → open_at w n kind db o t ≡ Some d → Brought (Open n kind db) standing w d
 open_brings n kind db w standing (Some p) t d at m h = absurd cc
 open_brings n kind db w standing None None d at m h = absurd cc
-open_brings n kind db w standing None (Some t) d at m h = subst (λ (o : Option Done). elim o as (λ _. Type 0) [ None ↦ Unit {0} | Some d ↦ Brought (Open n kind db) standing w d ]) h (record {
+open_brings n kind db w standing None (Some t) d at m h = subst (λ (o : Option Transition). elim o as (λ _. Type 0) [ None ↦ Unit {0} | Some d ↦ Brought (Open n kind db) standing w d ]) h (record {
   entry = refl;
   store = refl;
   own = subst (Matches (Some (record { facts = record { kind = kind; db = db; epoch = None }; doing = Rests }))) (sym (insert_here nat_cmp number_order n (newcomer kind db) w.parties)) (refl, tt);
   others = λ k ne. insert_else nat_cmp number_order n k (newcomer kind db) w.parties ne;
 })
 
-start_event : (n : ℕ) (call : Call) (w : World) (standing : Option Standing) (o : Option Party) (d : Done) → party_of n w.parties ≡ o → Matches standing o → start_at w n call o ≡ Some d → Brought (Start n call) standing w d
+start_event : (n : ℕ) (call : Call) (w : World) (standing : Option Standing) (o : Option Party) (d : Transition) → party_of n w.parties ≡ o → Matches standing o → start_at w n call o ≡ Some d → Brought (Start n call) standing w d
 start_event n call w standing None d at m h = absurd cc
 start_event n call w None (Some p) d at m h = absurd m
 start_event n call w (Some s) (Some p) d at m h = test (may_start w call p) h
@@ -206,21 +206,21 @@ start_event n call w (Some s) (Some p) d at m h = test (may_start w call p) h
     test true h = let same : start_state (carrying n call w) n p.facts p.state call ≡ d = cc in subst (Brought (Start n call) (Some s) w) same (start_brings n w p at s m.0 call p.state refl m.1)
     test false h = absurd cc
 
-step_event : (n : ℕ) (moment : ℤ) (mark : Mark) (w : World) (standing : Option Standing) (o : Option Party) (d : Done) → party_of n w.parties ≡ o → Matches standing o → step_at w n moment mark o ≡ Some d → Brought (Step n moment mark) standing w d
+step_event : (n : ℕ) (moment : ℤ) (mark : Mark) (w : World) (standing : Option Standing) (o : Option Party) (d : Transition) → party_of n w.parties ≡ o → Matches standing o → step_at w n moment mark o ≡ Some d → Brought (Step n moment mark) standing w d
 step_event n moment mark w standing None d at m h = absurd cc
 step_event n moment mark w None (Some p) d at m h = absurd m
 step_event n moment mark w (Some s) (Some p) d at m h =
     let same : step_state w n p.facts p.state moment mark ≡ d = cc in
     subst (Brought (Step n moment mark) (Some s) w) same (step_brings n w p at s m.0 moment mark p.state refl m.1)
 
-stop_event : (n : ℕ) (w : World) (standing : Option Standing) (o : Option Party) (d : Done) → party_of n w.parties ≡ o → Matches standing o → stop_at w n o ≡ Some d → Brought (Stop n) standing w d
+stop_event : (n : ℕ) (w : World) (standing : Option Standing) (o : Option Party) (d : Transition) → party_of n w.parties ≡ o → Matches standing o → stop_at w n o ≡ Some d → Brought (Stop n) standing w d
 stop_event n w standing None d at m h = absurd cc
 stop_event n w None (Some p) d at m h = absurd m
 stop_event n w (Some s) (Some p) d at m h =
     let same : stop_state w n p.facts p.state ≡ d = cc in
     subst (Brought (Stop n) (Some s) w) same (stop_brings n w p at s m.0 p.state refl s.doing refl m.1 m.1)
 
-pub event_brings : (e : Event) (standings : Standings) (w : World) (d : Done) → AllMatch standings w → happens w e ≡ Some d → Brought e (standings (party_in e)) w d
+pub event_brings : (e : Event) (standings : Standings) (w : World) (d : Transition) → AllMatch standings w → happens w e ≡ Some d → Brought e (standings (party_in e)) w d
 event_brings (Open n kind db) standings w d m h = open_brings n kind db w (standings n) (party_of n w.parties) (tally_of db w.tallies) d refl (m n) h
 event_brings (Start n call) standings w d m h = start_event n call w (standings n) (party_of n w.parties) d refl (m n) h
 event_brings (Step n moment mark) standings w d m h = step_event n moment mark w (standings n) (party_of n w.parties) d refl (m n) h
@@ -233,7 +233,7 @@ other_number : (a b : ℕ) → (a == b) ≡ false → a ≢ b
 other_number a b h = grind (arith, nat_tests)
 
 -- each party matches after the event
-pub all_after : (e : Event) (standings : Standings) (w : World) (d : Done) → AllMatch standings w → Brought e (standings (party_in e)) w d → AllMatch (standings_after e d.entry standings) d.world
+pub all_after : (e : Event) (standings : Standings) (w : World) (d : Transition) → AllMatch standings w → Brought e (standings (party_in e)) w d → AllMatch (standings_after e d.entry standings) d.world
 all_after e standings w d m b k = test (k == party_in e) refl
   where
     test : (t : Bool) → (k == party_in e) ≡ t → Matches (if t then standing_after e d.entry (standings k) else standings k) (party_of k d.world.parties)
@@ -250,8 +250,8 @@ pub rows_run : (es : List Event) (place : ℕ) (c v : Course) (standings : Stand
 rows_run [] place c v standings m h = sym (ap (λ (r : Ran). r.course.trail) h) ∙ sym (append-nil c.trail)
 rows_run (e ∷ es) place c v standings m h = went (happens c.world e) refl h (λ d b k. rows_run es (place + 1) (going_on c d) v (standings_after e d.entry standings) (all_after e standings c.world d m b) k)
   where
-    went : (o : Option Done) → happens c.world e ≡ o → (elim o as (λ _. Ran) [ None ↦ record { course = c; bad = Some place } | Some done ↦ run es (place + 1) (going_on c done) ]) ≡ ended v
-        → ((d : Done) → Brought e (standings (party_in e)) c.world d → run es (place + 1) (going_on c d) ≡ ended v → v.trail ≡ (c.trail ++ d.entry ∷ []) ++ trail_by es (standings_after e d.entry standings) d.world.store)
+    went : (o : Option Transition) → happens c.world e ≡ o → (elim o as (λ _. Ran) [ None ↦ record { course = c; bad = Some place } | Some done ↦ run es (place + 1) (going_on c done) ]) ≡ ended v
+        → ((d : Transition) → Brought e (standings (party_in e)) c.world d → run es (place + 1) (going_on c d) ≡ ended v → v.trail ≡ (c.trail ++ d.entry ∷ []) ++ trail_by es (standings_after e d.entry standings) d.world.store)
         → v.trail ≡ c.trail ++ trail_by (e ∷ es) standings c.world.store
     went None is h f = absurd (cc (ap (λ (r : Ran). r.bad) h))
     went (Some d) is h f =

@@ -15,7 +15,7 @@ use Rattle.slate_protocol.specs.Chains.{Changed}
 use Rattle.slate_protocol.specs.Chains.Changed.{Stays}
 use Rattle.slate_protocol.specs.Logs.{Author, Chain, Chains, author_of, manifests, put_by, chains_stepped, chains_state, chains_at, chains_after, world_after, chains_of}
 use Rattle.slate_protocol.specs.Phrases.{asks, goes, is_due}
-use Rattle.slate_protocol.specs.World.{World, Done, party_of, with_party, tally_of, tallied, wrote, noted, newcomer, settled, stepped, step_state, start_state, halted, stop_state, carrying, may_start, open_at, start_at, step_at, stop_at, happens, HasDb}
+use Rattle.slate_protocol.specs.World.{World, Transition, party_of, with_party, tally_of, tallied, wrote, noted, newcomer, settled, stepped, step_state, start_state, halted, stop_state, carrying, may_start, open_at, start_at, step_at, stop_at, happens, HasDb}
 use Rattle.slate_protocol.specs.declared.party.Facts.{Facts}
 use Rattle.slate_protocol.specs.declared.party.Party.{Party}
 use Rattle.slate_protocol.specs.declared.party.Purpose.{Purpose}
@@ -270,17 +270,17 @@ open_inv w chains n kind db t i none found =
     }
 
 -- one event that isn't bad keeps them all
-pub event_inv : (w : World) (chains : Chains) (e : Event) (d : Done) → happens w e ≡ Some d → Inv w chains → Inv d.world (chains_after w e chains)
+pub event_inv : (w : World) (chains : Chains) (e : Event) (d : Transition) → happens w e ≡ Some d → Inv w chains → Inv d.world (chains_after w e chains)
 event_inv w chains (Open n kind db) d h i = opened (party_of n w.parties) (tally_of db w.tallies) refl refl h
   where
     opened : (o : Option Party) (t : Option Tally) → party_of n w.parties ≡ o → tally_of db w.tallies ≡ t → open_at w n kind db o t ≡ Some d → Inv d.world chains
-    opened None (Some t) none found h = subst (λ (r : World). Inv r chains) (ap (λ (o : Option Done). elim o as (λ _. World) [ None ↦ w | Some d ↦ d.world ]) h) (open_inv w chains n kind db t i none found)
+    opened None (Some t) none found h = subst (λ (r : World). Inv r chains) (ap (λ (o : Option Transition). elim o as (λ _. World) [ None ↦ w | Some d ↦ d.world ]) h) (open_inv w chains n kind db t i none found)
     opened None None none found h = absurd cc
     opened (Some p) t none found h = absurd cc
 event_inv w chains (Start n call) d h i = started (party_of n w.parties) refl h
   where
     test : (p : Party) (b : Bool) → party_of n w.parties ≡ Some p → (if b then Some (start_state (carrying n call w) n p.facts p.state call) else None) ≡ Some d → Inv d.world chains
-    test p true at h = let same : start_state (carrying n call w) n p.facts p.state call ≡ d = cc in subst (λ (r : Done). Inv r.world chains) same (start_inv (carrying n call w) chains n p call (carried_inv w chains n call i) at p.state)
+    test p true at h = let same : start_state (carrying n call w) n p.facts p.state call ≡ d = cc in subst (λ (r : Transition). Inv r.world chains) same (start_inv (carrying n call w) chains n p call (carried_inv w chains n call i) at p.state)
     test p false at h = absurd cc
 
     started : (o : Option Party) → party_of n w.parties ≡ o → start_at w n call o ≡ Some d → Inv d.world chains
@@ -292,21 +292,21 @@ event_inv w chains (Step n moment mark) d h i = went (party_of n w.parties) refl
     went None at h = absurd cc
     went (Some p) at h =
         let same : step_state w n p.facts p.state moment mark ≡ d = cc in
-        subst (λ (r : Done). Inv r.world (chains_state w n p.facts p.state moment mark chains)) same (step_inv w chains n p moment mark i at p.state (i.parties n p at).knows)
+        subst (λ (r : Transition). Inv r.world (chains_state w n p.facts p.state moment mark chains)) same (step_inv w chains n p moment mark i at p.state (i.parties n p at).knows)
 event_inv w chains (Stop n) d h i = went (party_of n w.parties) refl h
   where
     went : (o : Option Party) → party_of n w.parties ≡ o → stop_at w n o ≡ Some d → Inv d.world chains
     went None at h = absurd cc
     went (Some p) at h =
         let same : stop_state w n p.facts p.state ≡ d = cc in
-        subst (λ (r : Done). Inv r.world chains) same (stop_inv w chains n p i at p.state)
+        subst (λ (r : Transition). Inv r.world chains) same (stop_inv w chains n p i at p.state)
 
 -- so does a list of events, up to the first bad one
 pub run_inv : (es : List Event) (w : World) (chains : Chains) → Inv w chains → Inv (world_after es w) (chains_of es w chains)
 run_inv [] w chains i = i
 run_inv (e ∷ es) w chains i = went (happens w e) refl (λ d i'. run_inv es d.world (chains_after w e chains) i')
   where
-    went : (o : Option Done) → happens w e ≡ o → ((d : Done) → Inv d.world (chains_after w e chains) → Inv (world_after es d.world) (chains_of es d.world (chains_after w e chains)))
+    went : (o : Option Transition) → happens w e ≡ o → ((d : Transition) → Inv d.world (chains_after w e chains) → Inv (world_after es d.world) (chains_of es d.world (chains_after w e chains)))
         → Inv (elim o as (λ _. World) [ None ↦ w | Some d ↦ world_after es d.world ]) (elim o as (λ _. Chains) [ None ↦ chains | Some d ↦ chains_of es d.world (chains_after w e chains) ])
     went None h f = i
     went (Some d) h f = f d (event_inv w chains e d h i)

@@ -24,8 +24,8 @@ use Rattle.slate_protocol.specs.Phrases.{asks, phrase_asks, is_due}
 use Rattle.slate_protocol.specs.Reach.{IsNeeded, InReach, Reachable, IsSpare}
 use Rattle.slate_protocol.specs.Reach.InReach.{OfManifest}
 use Rattle.slate_protocol.specs.Runs.{Course, Ran, going_on, run}
-use Rattle.slate_protocol.specs.Safe.{took_away, path_if, removed_by_call, removed_by, gone, NoneReachable, IsCollected, AllCollected, Stands, IsSafe}
-use Rattle.slate_protocol.specs.World.{World, Done, HasDb, party_of, tally_of, noted, stepped, step_state, start_state, stop_state, carrying, may_start, open_at, start_at, step_at, stop_at, happens}
+use Rattle.slate_protocol.specs.Safe.{took_away, path_if, removed_by_call, removed_by, gone, NoneReachable, IsCollected, AllCollected, IsPresent, IsSafe}
+use Rattle.slate_protocol.specs.World.{World, Transition, HasDb, party_of, tally_of, noted, stepped, step_state, start_state, stop_state, carrying, may_start, open_at, start_at, step_at, stop_at, happens}
 use Rattle.slate_protocol.specs.declared.party.Facts.{Facts}
 use Rattle.slate_protocol.specs.declared.party.Party.{Party}
 use Rattle.slate_protocol.specs.declared.party.Purpose.{Purpose}
@@ -80,17 +80,17 @@ stop_after w chains n facts Halted = leaves_all w w chains refl refl
 stop_after w chains n facts Resting = leaves_all w _ chains refl refl
 stop_after w chains n facts (Busy call purpose position) = leaves_all w _ chains refl refl
 
-pub event_after : (w : World) (chains : Chains) (e : Event) (d : Done) → Inv w chains → happens w e ≡ Some d → EventAfter w chains d.world (chains_after w e chains)
+pub event_after : (w : World) (chains : Chains) (e : Event) (d : Transition) → Inv w chains → happens w e ≡ Some d → EventAfter w chains d.world (chains_after w e chains)
 event_after w chains (Open n kind db) d i h = opened (party_of n w.parties) (tally_of db w.tallies) h
   where
     opened : (o : Option Party) (t : Option Tally) → open_at w n kind db o t ≡ Some d → EventAfter w chains d.world chains
-    opened None (Some t) h = subst (λ (o : Option Done). elim o as (λ _. Type 0) [ None ↦ Unit {0} | Some r ↦ EventAfter w chains r.world chains ]) h (leaves_all w _ chains refl refl)
+    opened None (Some t) h = subst (λ (o : Option Transition). elim o as (λ _. Type 0) [ None ↦ Unit {0} | Some r ↦ EventAfter w chains r.world chains ]) h (leaves_all w _ chains refl refl)
     opened None None h = absurd cc
     opened (Some p) t h = absurd cc
 event_after w chains (Start n call) d i h = started (party_of n w.parties) h
   where
     test : (p : Party) (b : Bool) → (if b then Some (start_state (carrying n call w) n p.facts p.state call) else None) ≡ Some d → EventAfter w chains d.world chains
-    test p true h = let same : start_state (carrying n call w) n p.facts p.state call ≡ d = cc in subst (λ (r : Done). EventAfter w chains r.world chains) same (start_after w chains n p.facts p.state call)
+    test p true h = let same : start_state (carrying n call w) n p.facts p.state call ≡ d = cc in subst (λ (r : Transition). EventAfter w chains r.world chains) same (start_after w chains n p.facts p.state call)
     test p false h = absurd cc
 
     started : (o : Option Party) → start_at w n call o ≡ Some d → EventAfter w chains d.world chains
@@ -102,14 +102,14 @@ event_after w chains (Step n moment mark) d i h = went (party_of n w.parties) re
     went None at h = absurd cc
     went (Some p) at h =
         let same : step_state w n p.facts p.state moment mark ≡ d = cc in
-        subst (λ (r : Done). EventAfter w chains r.world (chains_state w n p.facts p.state moment mark chains)) same (step_after w chains i n p at moment mark p.state (i.parties n p at).knows)
+        subst (λ (r : Transition). EventAfter w chains r.world (chains_state w n p.facts p.state moment mark chains)) same (step_after w chains i n p at moment mark p.state (i.parties n p at).knows)
 event_after w chains (Stop n) d i h = went (party_of n w.parties) h
   where
     went : (o : Option Party) → stop_at w n o ≡ Some d → EventAfter w chains d.world chains
     went None h = absurd cc
     went (Some p) h =
         let same : stop_state w n p.facts p.state ≡ d = cc in
-        subst (λ (r : Done). EventAfter w chains r.world chains) same (stop_after w chains n p.facts p.state)
+        subst (λ (r : Transition). EventAfter w chains r.world chains) same (stop_after w chains n p.facts p.state)
 
 -- ---- what was removed
 
@@ -192,17 +192,17 @@ module _ (w : World) (chains : Chains) (v : World) (chains' : Chains) (a : Event
   stop_gone n facts Resting = tt
   stop_gone n facts (Busy call purpose position) = tt
 
-  pub event_gone : (e : Event) (d : Done) → Inv w chains → happens w e ≡ Some d → AllCollected v chains' (removed_by d.entry w.store)
+  pub event_gone : (e : Event) (d : Transition) → Inv w chains → happens w e ≡ Some d → AllCollected v chains' (removed_by d.entry w.store)
   event_gone (Open n kind db) d i h = opened (party_of n w.parties) (tally_of db w.tallies) h
     where
       opened : (o : Option Party) (t : Option Tally) → open_at w n kind db o t ≡ Some d → AllCollected v chains' (removed_by d.entry w.store)
-      opened None (Some t) h = subst (λ (o : Option Done). elim o as (λ _. Type 0) [ None ↦ Unit {0} | Some r ↦ AllCollected v chains' (removed_by r.entry w.store) ]) h tt
+      opened None (Some t) h = subst (λ (o : Option Transition). elim o as (λ _. Type 0) [ None ↦ Unit {0} | Some r ↦ AllCollected v chains' (removed_by r.entry w.store) ]) h tt
       opened None None h = absurd cc
       opened (Some p) t h = absurd cc
   event_gone (Start n call) d i h = started (party_of n w.parties) h
     where
       test : (p : Party) (b : Bool) → (if b then Some (start_state (carrying n call w) n p.facts p.state call) else None) ≡ Some d → AllCollected v chains' (removed_by d.entry w.store)
-      test p true h = let same : start_state (carrying n call w) n p.facts p.state call ≡ d = cc in subst (λ (r : Done). AllCollected v chains' (removed_by r.entry w.store)) same (start_gone n p.facts p.state call (carrying n call w))
+      test p true h = let same : start_state (carrying n call w) n p.facts p.state call ≡ d = cc in subst (λ (r : Transition). AllCollected v chains' (removed_by r.entry w.store)) same (start_gone n p.facts p.state call (carrying n call w))
       test p false h = absurd cc
 
       started : (o : Option Party) → start_at w n call o ≡ Some d → AllCollected v chains' (removed_by d.entry w.store)
@@ -215,14 +215,14 @@ module _ (w : World) (chains : Chains) (v : World) (chains' : Chains) (a : Event
       went (Some p) at h =
           let same : step_state w n p.facts p.state moment mark ≡ d = cc in
           let known = i.parties n p at in
-          subst (λ (r : Done). AllCollected v chains' (removed_by r.entry w.store)) same (step_gone n p.facts p.state moment mark known.has known.knows)
+          subst (λ (r : Transition). AllCollected v chains' (removed_by r.entry w.store)) same (step_gone n p.facts p.state moment mark known.has known.knows)
   event_gone (Stop n) d i h = went (party_of n w.parties) h
     where
       went : (o : Option Party) → stop_at w n o ≡ Some d → AllCollected v chains' (removed_by d.entry w.store)
       went None h = absurd cc
       went (Some p) h =
           let same : stop_state w n p.facts p.state ≡ d = cc in
-          subst (λ (r : Done). AllCollected v chains' (removed_by r.entry w.store)) same (stop_gone n p.facts p.state)
+          subst (λ (r : Transition). AllCollected v chains' (removed_by r.entry w.store)) same (stop_gone n p.facts p.state)
 
 -- ---- along a run
 
@@ -233,7 +233,7 @@ pub record RunGone (c v : Course) (chains' : Chains) (paths : List ObjectPath) :
   pub all : AllCollected v.world chains' (paths ++ gone entries c.world.store)
 
 -- one entry more in front
-more_gone : (c v : Course) (d : Done) (chains' : Chains) (paths : List ObjectPath) → d.world.store ≡ entry_store d.entry c.world.store → RunGone (going_on c d) v chains' (paths ++ removed_by d.entry c.world.store) → RunGone c v chains' paths
+more_gone : (c v : Course) (d : Transition) (chains' : Chains) (paths : List ObjectPath) → d.world.store ≡ entry_store d.entry c.world.store → RunGone (going_on c d) v chains' (paths ++ removed_by d.entry c.world.store) → RunGone c v chains' paths
 more_gone c v d chains' paths e r = record {
   entries = d.entry ∷ r.entries;
   trail = r.trail ∙ append_assoc c.trail (d.entry ∷ []) r.entries;
@@ -259,8 +259,8 @@ run_gone (e ∷ es) place c v standings chains paths m i h is =
     (all_gone d.world (chains_after c.world e chains) paths (removed_by d.entry c.world.store) (all_stay c.world chains d.world (chains_after c.world e chains) after paths h)
     (event_gone c.world chains d.world (chains_after c.world e chains) after e d i at)) k)
   where
-    went : (o : Option Done) → happens c.world e ≡ o → (elim o as (λ _. Ran) [ None ↦ record { course = c; bad = Some place } | Some done ↦ run es (place + 1) (going_on c done) ]) ≡ ended v
-        → ((d : Done) → run es (place + 1) (going_on c d) ≡ ended v → happens c.world e ≡ Some d → RunGone (going_on c d) v (chains_of es d.world (chains_after c.world e chains)) (paths ++ removed_by d.entry c.world.store))
+    went : (o : Option Transition) → happens c.world e ≡ o → (elim o as (λ _. Ran) [ None ↦ record { course = c; bad = Some place } | Some done ↦ run es (place + 1) (going_on c done) ]) ≡ ended v
+        → ((d : Transition) → run es (place + 1) (going_on c d) ≡ ended v → happens c.world e ≡ Some d → RunGone (going_on c d) v (chains_of es d.world (chains_after c.world e chains)) (paths ++ removed_by d.entry c.world.store))
         → RunGone c v (elim o as (λ _. Chains) [ None ↦ chains | Some d ↦ chains_of es d.world (chains_after c.world e chains) ]) paths
     went None at is f = absurd (cc (ap (λ (r : Ran). r.bad) is))
     went (Some d) at is f = more_gone c v d (chains_of es d.world (chains_after c.world e chains)) paths (event_brings e standings c.world d m at).store (f d is at)
@@ -282,7 +282,7 @@ module _ (w : World) (chains : Chains) (i : Inv w chains) where
   none_reachable [] h = tt
   none_reachable (path ∷ paths) h = (unreachable_one path h.0, none_reachable paths h.1)
 
-  stands_there : (db : List ℕ) (n : ℕ) → HasDb w db → IsNeeded manifests (chains db) n → Stands w chains db n
+  stands_there : (db : List ℕ) (n : ℕ) → HasDb w db → IsNeeded manifests (chains db) n → IsPresent w chains db n
   stands_there db n has needed = let k = (i.logs db has).needed n needed in record { link = k.link; committed = k.at; stands = k.stands }
 
   pub is_safe : (paths : List ObjectPath) → AllCollected w chains paths → IsSafe w chains paths
@@ -296,8 +296,8 @@ run_same (e ∷ es) place c v chains db i is =
     went (happens c.world e) refl is
     (λ d k at. run_same es (place + 1) (going_on c d) v (chains_after c.world e chains) db (event_inv c.world chains e d at i) k ∙ (event_after c.world chains e d i at).same db)
   where
-    went : (o : Option Done) → happens c.world e ≡ o → (elim o as (λ _. Ran) [ None ↦ record { course = c; bad = Some place } | Some done ↦ run es (place + 1) (going_on c done) ]) ≡ ended v
-        → ((d : Done) → run es (place + 1) (going_on c d) ≡ ended v → happens c.world e ≡ Some d → is_some (tally_of db v.world.tallies) ≡ is_some (tally_of db c.world.tallies))
+    went : (o : Option Transition) → happens c.world e ≡ o → (elim o as (λ _. Ran) [ None ↦ record { course = c; bad = Some place } | Some done ↦ run es (place + 1) (going_on c done) ]) ≡ ended v
+        → ((d : Transition) → run es (place + 1) (going_on c d) ≡ ended v → happens c.world e ≡ Some d → is_some (tally_of db v.world.tallies) ≡ is_some (tally_of db c.world.tallies))
         → is_some (tally_of db v.world.tallies) ≡ is_some (tally_of db c.world.tallies)
     went None at is f = absurd (cc (ap (λ (r : Ran). r.bad) is))
     went (Some d) at is f = f d is at
@@ -322,7 +322,7 @@ run_rises (e ∷ es) place c v chains db i has is before now was read =
     let rest = run_rises es (place + 1) (going_on c d) v (chains_after c.world e chains) db mid_inv mid_has k log.bound now log.read read in
     omega arith)
   where
-    went : (o : Option Done) → happens c.world e ≡ o → (elim o as (λ _. Ran) [ None ↦ record { course = c; bad = Some place } | Some done ↦ run es (place + 1) (going_on c done) ]) ≡ ended v
-        → ((d : Done) → run es (place + 1) (going_on c d) ≡ ended v → happens c.world e ≡ Some d → before ≤ now) → before ≤ now
+    went : (o : Option Transition) → happens c.world e ≡ o → (elim o as (λ _. Ran) [ None ↦ record { course = c; bad = Some place } | Some done ↦ run es (place + 1) (going_on c done) ]) ≡ ended v
+        → ((d : Transition) → run es (place + 1) (going_on c d) ≡ ended v → happens c.world e ≡ Some d → before ≤ now) → before ≤ now
     went None at is f = absurd (cc (ap (λ (r : Ran). r.bad) is))
     went (Some d) at is f = f d is at

@@ -23,8 +23,8 @@ use Rattle.slate_protocol.specs.Chains.{Link, link_at, if_new, with_link}
 use Rattle.slate_protocol.specs.Logs.{Author, Chain, Chains, author_of, put_by, with_put, chains_put, chains_stepped, chains_state, chains_at, chains_after, chains_of}
 use Rattle.slate_protocol.specs.Phrases.{asks, phrase_asks, is_due}
 use Rattle.slate_protocol.specs.Runs.{Course, Ran, going_on, run}
-use Rattle.slate_protocol.specs.Trails.{Firsts, has_number, first_put, told_by, entry_told, store_of, told, numbered}
-use Rattle.slate_protocol.specs.World.{World, Done, party_of, tally_of, wrote, noted, stepped, step_state, start_state, stop_state, carrying, may_start, open_at, start_at, step_at, stop_at, happens}
+use Rattle.slate_protocol.specs.Trails.{Firsts, has_number, first_put, call_told, entry_told, store_of, told, numbered}
+use Rattle.slate_protocol.specs.World.{World, Transition, party_of, tally_of, wrote, noted, stepped, step_state, start_state, stop_state, carrying, may_start, open_at, start_at, step_at, stop_at, happens}
 use Rattle.slate_protocol.specs.declared.party.Facts.{Facts}
 use Rattle.slate_protocol.specs.declared.party.Party.{Party}
 use Rattle.slate_protocol.specs.declared.party.State.{State}
@@ -63,13 +63,13 @@ put_told firsts chains db l h d false = h d
 silent : (firsts : Firsts) (chains : Chains) (db : List ℕ) → Tells firsts chains → (b : Bool) (d : List ℕ) → firsts d ≡ map numbered (chains_put b db None chains d)
 silent firsts chains db h b d = h d ∙ ap (map numbered) (sym (none_put b db chains d))
 
-advance_told : (firsts : Firsts) (chains : Chains) (db : List ℕ) → Tells firsts chains → (phase : AdvancePhase) → Tells (told_by true (advance_asks db ManifestLog phase) firsts) (chains_put true db None chains)
+advance_told : (firsts : Firsts) (chains : Chains) (db : List ℕ) → Tells firsts chains → (phase : AdvancePhase) → Tells (call_told true (advance_asks db ManifestLog phase) firsts) (chains_put true db None chains)
 advance_told firsts chains db h (advancing.Bounding n) = silent firsts chains db h true
 advance_told firsts chains db h (advancing.Creating n) = silent firsts chains db h true
 advance_told firsts chains db h (advancing.Replacing n tag) = silent firsts chains db h true
 advance_told firsts chains db h advancing.Over = silent firsts chains db h true
 
-pass_told : (firsts : Firsts) (chains : Chains) (db : List ℕ) → Tells firsts chains → (phase : PassPhase) → Tells (told_by true (pass_asks db phase) firsts) (chains_put true db None chains)
+pass_told : (firsts : Firsts) (chains : Chains) (db : List ℕ) → Tells firsts chains → (phase : PassPhase) → Tells (call_told true (pass_asks db phase) firsts) (chains_put true db None chains)
 pass_told firsts chains db h passing.Listing = silent firsts chains db h true
 pass_told firsts chains db h (passing.Getting now n dates) = silent firsts chains db h true
 pass_told firsts chains db h (passing.Bounding n ns) = silent firsts chains db h true
@@ -78,7 +78,7 @@ pass_told firsts chains db h (passing.Deleting [] counts) = silent firsts chains
 pass_told firsts chains db h (passing.Deleting (n ∷ ns) counts) = silent firsts chains db h true
 pass_told firsts chains db h passing.Over = silent firsts chains db h true
 
-phrase_told : (firsts : Firsts) (chains : Chains) (db : List ℕ) (author : Author) → Tells firsts chains → (phrase : Phrase) (b : Bool) → Tells (told_by b (phrase_asks db phrase) firsts) (chains_put b db (put_by author phrase) chains)
+phrase_told : (firsts : Firsts) (chains : Chains) (db : List ℕ) (author : Author) → Tells firsts chains → (phrase : Phrase) (b : Bool) → Tells (call_told b (phrase_asks db phrase) firsts) (chains_put b db (put_by author phrase) chains)
 phrase_told firsts chains db author h (Read reading.Listing) true = silent firsts chains db h true
 phrase_told firsts chains db author h (Read (reading.Getting n)) true = silent firsts chains db h true
 phrase_told firsts chains db author h (Read (reading.Bounding n m)) true = silent firsts chains db h true
@@ -111,17 +111,17 @@ stop_told w n facts Resting firsts chains h = h
 stop_told w n facts (Busy call purpose position) firsts chains h = h
 stop_told w n facts Halted firsts chains h = h
 
-event_told : (w : World) (e : Event) (d : Done) (firsts : Firsts) (chains : Chains) → Tells firsts chains → happens w e ≡ Some d → Tells (entry_told d.entry w.store firsts) (chains_after w e chains)
+event_told : (w : World) (e : Event) (d : Transition) (firsts : Firsts) (chains : Chains) → Tells firsts chains → happens w e ≡ Some d → Tells (entry_told d.entry w.store firsts) (chains_after w e chains)
 event_told w (Open n kind db) d firsts chains h is = opened (party_of n w.parties) (tally_of db w.tallies) is
   where
     opened : (o : Option Party) (t : Option Tally) → open_at w n kind db o t ≡ Some d → Tells (entry_told d.entry w.store firsts) chains
-    opened None (Some t) is = subst (λ (o : Option Done). elim o as (λ _. Type 0) [ None ↦ Unit {0} | Some d ↦ Tells (entry_told d.entry w.store firsts) chains ]) is h
+    opened None (Some t) is = subst (λ (o : Option Transition). elim o as (λ _. Type 0) [ None ↦ Unit {0} | Some d ↦ Tells (entry_told d.entry w.store firsts) chains ]) is h
     opened None None is = absurd cc
     opened (Some p) t is = absurd cc
 event_told w (Start n call) d firsts chains h is = started (party_of n w.parties) is
   where
     test : (p : Party) (b : Bool) → (if b then Some (start_state (carrying n call w) n p.facts p.state call) else None) ≡ Some d → Tells (entry_told d.entry w.store firsts) chains
-    test p true is = let same : start_state (carrying n call w) n p.facts p.state call ≡ d = cc in subst (λ (r : Done). Tells (entry_told r.entry w.store firsts) chains) same (start_told (carrying n call w) n p.facts p.state call firsts chains h)
+    test p true is = let same : start_state (carrying n call w) n p.facts p.state call ≡ d = cc in subst (λ (r : Transition). Tells (entry_told r.entry w.store firsts) chains) same (start_told (carrying n call w) n p.facts p.state call firsts chains h)
     test p false is = absurd cc
 
     started : (o : Option Party) → start_at w n call o ≡ Some d → Tells (entry_told d.entry w.store firsts) chains
@@ -133,14 +133,14 @@ event_told w (Step n moment mark) d firsts chains h is = went (party_of n w.part
     went None is = absurd cc
     went (Some p) is =
         let same : step_state w n p.facts p.state moment mark ≡ d = cc in
-        subst (λ (r : Done). Tells (entry_told r.entry w.store firsts) (chains_state w n p.facts p.state moment mark chains)) same (step_told w n p.facts p.state moment mark firsts chains h)
+        subst (λ (r : Transition). Tells (entry_told r.entry w.store firsts) (chains_state w n p.facts p.state moment mark chains)) same (step_told w n p.facts p.state moment mark firsts chains h)
 event_told w (Stop n) d firsts chains h is = went (party_of n w.parties) is
   where
     went : (o : Option Party) → stop_at w n o ≡ Some d → Tells (entry_told d.entry w.store firsts) chains
     went None is = absurd cc
     went (Some p) is =
         let same : stop_state w n p.facts p.state ≡ d = cc in
-        subst (λ (r : Done). Tells (entry_told r.entry w.store firsts) chains) same (stop_told w n p.facts p.state firsts chains h)
+        subst (λ (r : Transition). Tells (entry_told r.entry w.store firsts) chains) same (stop_told w n p.facts p.state firsts chains h)
 
 -- what the entries of a run tell, where the run led from c to v
 pub record RunTells (xs : List Entry) (c v : Course) (firsts : Firsts) (chains : Chains) : Type 0 where
@@ -167,8 +167,8 @@ run_tells (e ∷ es) place c v standings firsts chains m t h =
     (λ d k is. run_tells es (place + 1) (going_on c d) v (standings_after e d.entry standings) (entry_told d.entry c.world.store firsts) (chains_after c.world e chains)
     (all_after e standings c.world d m (event_brings e standings c.world d m is)) (event_told c.world e d firsts chains t is) k)
   where
-    went : (o : Option Done) → happens c.world e ≡ o → (elim o as (λ _. Ran) [ None ↦ record { course = c; bad = Some place } | Some done ↦ run es (place + 1) (going_on c done) ]) ≡ ended v
-        → ((d : Done) → run es (place + 1) (going_on c d) ≡ ended v → happens c.world e ≡ Some d
+    went : (o : Option Transition) → happens c.world e ≡ o → (elim o as (λ _. Ran) [ None ↦ record { course = c; bad = Some place } | Some done ↦ run es (place + 1) (going_on c done) ]) ≡ ended v
+        → ((d : Transition) → run es (place + 1) (going_on c d) ≡ ended v → happens c.world e ≡ Some d
         → RunTells (trail_by es (standings_after e d.entry standings) d.world.store) (going_on c d) v (entry_told d.entry c.world.store firsts) (chains_of es d.world (chains_after c.world e chains)))
         → RunTells (trail_by (e ∷ es) standings c.world.store) c v firsts (elim o as (λ _. Chains) [ None ↦ chains | Some d ↦ chains_of es d.world (chains_after c.world e chains) ])
     went None is h f = absurd (cc (ap (λ (r : Ran). r.bad) h))

@@ -22,7 +22,7 @@ use Rattle.slate_protocol.specs.Lawful.{IsAccepted, chains_at_end}
 use Rattle.slate_protocol.specs.Logs.{Chain, Chains, manifests, chains_after, world_after}
 use Rattle.slate_protocol.specs.Phrases.{at_pass, pass_on}
 use Rattle.slate_protocol.specs.Specs.{opening_world}
-use Rattle.slate_protocol.specs.World.{World, Done, party_of, reply_of, settled, stepped, noted, step_state, step_at, happens}
+use Rattle.slate_protocol.specs.World.{World, Transition, party_of, reply_of, settled, stepped, noted, step_state, step_at, happens}
 use Rattle.slate_protocol.specs.declared.party.Facts.{Facts}
 use Rattle.slate_protocol.specs.declared.party.Party.{Party}
 use Rattle.slate_protocol.specs.declared.party.Purpose.TheVariants.{Passing}
@@ -53,7 +53,7 @@ module _ (db : List ℕ) (named : is_db_path db ≡ true) (options : PassOptions
     Rests : state ≡ Resting → AloneStands s state
 
   -- after a step of it; where it ended a pass the list is what is to be left
-  pub record AfterAlone (d : Done) : Type 0 where
+  pub record AfterAlone (d : Transition) : Type 0 where
     pub party : Party
     pub at : party_of n d.world.parties ≡ Some party
     pub stands : AloneStands d.world.store party.state
@@ -115,19 +115,19 @@ module _ (db : List ℕ) (named : is_db_path db ≡ true) (options : PassOptions
   -- ---- the steps
 
   -- a step goes on to the next ones
-  goes_on : (w : World) (d : Done) (moment : ℤ) (moments : List ℤ) → happens w (Step n moment Good) ≡ Some d
+  goes_on : (w : World) (d : Transition) (moment : ℤ) (moments : List ℤ) → happens w (Step n moment Good) ≡ Some d
       → world_after (steps_alone n (moment ∷ moments)) w ≡ world_after (steps_alone n moments) d.world
-  goes_on w d moment moments h = ap (λ (o : Option Done). elim o as (λ _. World) [ None ↦ w | Some d ↦ world_after (steps_alone n moments) d.world ]) h
+  goes_on w d moment moments h = ap (λ (o : Option Transition). elim o as (λ _. World) [ None ↦ w | Some d ↦ world_after (steps_alone n moments) d.world ]) h
 
   -- whatever steps come before, the one that ends the pass leaves what is to be left
   pub walk : (moments : List ℤ) (w : World) (chains : Chains) → Inv w chains → IsOrdered w.store.objects → (p : Party) → party_of n w.parties ≡ Some p → AloneStands w.store p.state
-      → (last : ℤ) (done : Done) → happens (world_after (steps_alone n moments) w) (Step n last Good) ≡ Some done
+      → (last : ℤ) (done : Transition) → happens (world_after (steps_alone n moments) w) (Step n last Good) ≡ Some done
       → (picked deleted failed : ℕ) → reply_at done.entry ≡ Some (reply.Pass picked deleted failed) → AloneLeaves db options now s0 done.world.store
   walk [] w chains i ordered p at stands last done h picked deleted failed ended =
       let d = step_state w n p.facts p.state last Good in
       let is : happens w (Step n last Good) ≡ Some d = ap (step_at w n last Good) at in
       let same : d ≡ done = cc in
-      (subst (λ (x : Done). AfterAlone x) same (step_alone w chains i ordered p at last stands)).leaves picked deleted failed ended
+      (subst (λ (x : Transition). AfterAlone x) same (step_alone w chains i ordered p at last stands)).leaves picked deleted failed ended
   walk (moment ∷ moments) w chains i ordered p at stands last done h picked deleted failed ended =
       let d = step_state w n p.facts p.state moment Good in
       let is : happens w (Step n moment Good) ≡ Some d = ap (step_at w n moment Good) at in
@@ -138,7 +138,7 @@ module _ (db : List ℕ) (named : is_db_path db ≡ true) (options : PassOptions
 
   -- from the list on
   pub from_list : (w : World) (chains : Chains) → Inv w chains → IsOrdered w.store.objects → (p : Party) → party_of n w.parties ≡ Some p → w.store ≡ s0
-      → (call : Call) → p.state ≡ Busy call Passing (at_pass db options Listing) → (moments : List ℤ) (last : ℤ) (done : Done)
+      → (call : Call) → p.state ≡ Busy call Passing (at_pass db options Listing) → (moments : List ℤ) (last : ℤ) (done : Transition)
       → happens (world_after (steps_alone n (now ∷ moments)) w) (Step n last Good) ≡ Some done
       → (picked deleted failed : ℕ) → reply_at done.entry ≡ Some (reply.Pass picked deleted failed) → AloneLeaves db options now s0 done.world.store
   from_list w chains i ordered p at begins call is moments last done h picked deleted failed ended =
@@ -154,7 +154,7 @@ module _ (db : List ℕ) (named : is_db_path db ≡ true) (options : PassOptions
 -- the law: from events on accepted databases, where the pass has come to its list
 pub undisturbed : (specs : List DbSpec) (events : List Event) (n : ℕ) (p : Party) (call : Call) (options : PassOptions)
     → IsAccepted specs → party_of n (world_after events (opening_world specs)).parties ≡ Some p
-    → p.state ≡ Busy call Passing (at_pass p.facts.db options Listing) → (now : ℤ) (moments : List ℤ) (last : ℤ) (done : Done)
+    → p.state ≡ Busy call Passing (at_pass p.facts.db options Listing) → (now : ℤ) (moments : List ℤ) (last : ℤ) (done : Transition)
     → happens (world_after (steps_alone n (now ∷ moments)) (world_after events (opening_world specs))) (Step n last Good) ≡ Some done
     → (picked deleted failed : ℕ) → reply_at done.entry ≡ Some (reply.Pass picked deleted failed)
     → AloneLeaves p.facts.db options now (world_after events (opening_world specs)).store done.world.store

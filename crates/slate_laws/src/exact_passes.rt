@@ -3,7 +3,7 @@ ghost use Rattle.std.specs.Prelude.{ℕ, Bool, List};
 ghost use Rattle.slate_ids.specs.declared.gc_message.GcMessage.{GcMessage};
 ghost use Rattle.slate_events.specs.declared.call.Call.TheVariants.{Pass};
 ghost use Rattle.slate_events.specs.declared.filter_word.FilterWord.{FilterWord};
-ghost use Rattle.slate_protocol.specs.Calls.{options_of};
+ghost use Rattle.slate_protocol.specs.Calls.{pass_options};
 ghost use Rattle.slate_protocol.specs.Passes.{IsExact};
 ghost use Rattle.slate_protocol.specs.Rows.{Answered};
 ghost use Rattle.slate_protocol.specs.declared.party.Facts.{Facts};
@@ -13,5 +13,5 @@ ghost use Rattle.slate_protocol.specs.declared.party.Facts.{Facts};
 /// counts of its picks and of its deletes.
 pub fn exact_pass()
     ensures { (facts : Facts) (pass : GcMessage) (min_age : ℕ) (dry_run : Bool) (filter : FilterWord) (answers : List Answered)
-        → IsExact facts (Pass pass min_age dry_run filter) (options_of min_age dry_run filter) answers }
+        → IsExact facts (Pass pass min_age dry_run filter) (pass_options min_age dry_run filter) answers }
 {}

@@ -11,7 +11,7 @@ ghost use Rattle.slate_gc.specs.declared.pass_options.PassOptions.{PassOptions};
 ghost use Rattle.slate_gc.specs.declared.pass_phase.PassPhase.{PassPhase};
 ghost use Rattle.slate_log.specs.declared.commit.CommitPhase.TheVariants.{Putting};
 ghost use Rattle.slate_log.specs.declared.read.ReadPhase.{ReadPhase};
-ghost use Rattle.slate_protocol.specs.Chains.{bound_in, Stands};
+ghost use Rattle.slate_protocol.specs.Chains.{bound_in, AgreesAt};
 ghost use Rattle.slate_protocol.specs.Holding.{IsVersion, IsMadeOf, Each, candidates_in, due_in};
 ghost use Rattle.slate_protocol.specs.Lawful.{IsAccepted, chains_at_end};
 ghost use Rattle.slate_protocol.specs.Logs.{manifests, world_after};
@@ -30,7 +30,7 @@ pub fn above_boundary()
     ensures { (specs : List DbSpec) (events : List Event) (db : List ℕ) (bound number : ℕ)
         → IsAccepted specs → HasDb (world_after events (opening_world specs)) db
         → bound_in manifests db (world_after events (opening_world specs)).store ≡ Some bound → bound < number → number < 2 ^ 64
-        → Stands manifests db (world_after events (opening_world specs)).store (chains_at_end specs events db) number }
+        → AgreesAt manifests db (world_after events (opening_world specs)).store (chains_at_end specs events db) number }
 {}
 
 /// A party that is about to commit a version holds what its call makes of the committed version before.

@@ -12,7 +12,7 @@ use Rattle.slate_events.specs.declared.entry.Entry.TheVariants.{Called}
 use Rattle.slate_protocol.specs.Phrases.{asks, goes}
 use Rattle.slate_protocol.specs.Calls.{Next, follow}
 use Rattle.slate_protocol.specs.Ids.{Carried}
-use Rattle.slate_protocol.specs.World.{World, Done, tallied, counted, with_party, stepped, step_state, step_at, settled, reply_of}
+use Rattle.slate_protocol.specs.World.{World, Transition, tallied, counted, with_party, stepped, step_state, step_at, settled, reply_of}
 use Rattle.slate_protocol.specs.declared.party.Facts.{Facts}
 use Rattle.slate_protocol.specs.declared.party.Party.{Party}
 use Rattle.slate_protocol.specs.declared.party.Purpose.{Purpose}
@@ -31,7 +31,7 @@ pub record Left (w : World) (n : ℕ) (made : Made) (to : Party) (after : World)
   pub carried : after.carried ≡ w.carried
 
 -- what a step leaves, by its call, answer, store, reply and party
-abbrev built : World → ℕ → ℤ → Mark → StoreCall → StoreAnswer → Store → Option Reply → Party → Done
+abbrev built : World → ℕ → ℤ → Mark → StoreCall → StoreAnswer → Store → Option Reply → Party → Transition
 built w n moment mark call answer store reply party = record {
   entry = Called n call moment mark answer reply;
   world = record {
@@ -44,7 +44,7 @@ built w n moment mark call answer store reply party = record {
 }
 
 -- with the numbers, the count and the parties that are there
-abbrev left_over : Entry → Store → List (List ℕ × Tally) → ℕ → List (ℕ × Party) → Carried → Done
+abbrev left_over : Entry → Store → List (List ℕ × Tally) → ℕ → List (ℕ × Party) → Carried → Transition
 left_over entry store tallies deleted parties carried = record { entry = entry; world = record { tallies = tallies; deleted = deleted; store = store; parties = parties; carried = carried } }
 
 built_left : (w after : World) (n : ℕ) (moment : ℤ) (mark : Mark) (made : Made) (reply : Option Reply) (to : Party) → Left w n made to after
@@ -95,7 +95,7 @@ at_option : (w after : World) (n : ℕ) (moment : ℤ) (mark : Mark) (made : Mad
     → step_at w n moment mark o ≡ Some (record { entry = Called n made.call moment mark made.answer reply; world = after })
 at_option w after n moment mark made reply None h step t d k = absurd step
 at_option w after n moment mark made reply (Some p) h step t d k =
-    ap (λ (x : Done). Some x) (by_state w after n p.facts p.state moment mark made reply step.0 h step.1 (record { tallies = t; deleted = d; parties = step.2; carried = k }))
+    ap (λ (x : Transition). Some x) (by_state w after n p.facts p.state moment mark made reply step.0 h step.1 (record { tallies = t; deleted = d; parties = step.2; carried = k }))
 
 -- what the code's step says is what happens
 pub step_happens : (w after : World) (n : ℕ) (moment : ℤ) (mark : Mark) (made : Made) (reply : Option Reply) (o : Option Party) (p : Party) → Some p ≡ o → is_busy p.state ≡ true

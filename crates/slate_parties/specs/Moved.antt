@@ -14,7 +14,7 @@ use Rattle.slate_protocol.specs.declared.party.Purpose.{Purpose}
 use Rattle.slate_protocol.specs.declared.party.State.{State}
 use Rattle.slate_protocol.specs.declared.party.State.TheVariants.{Resting, Busy, Halted}
 use Rattle.slate_protocol.specs.declared.position.Position.{Position}
-use Rattle.slate_steps.specs.Stepped.{IsStepped}
+use Rattle.slate_steps.specs.PartySteps.{IsPartyStep}
 
 -- whether a store call is due in a party's call
 abbrev pub is_busy : State → Bool
@@ -30,7 +30,7 @@ after_reply party (Some reply) = record { facts = facts_after party.facts reply;
 -- a party's call went one step, and the party stands there
 pub record Moves (facts : Facts) (under : Call) (purpose : Purpose) (position : Position) (moment : ℤ) (mark : Mark) (old new : Store) (made : Made) (reply : Option Reply) (party : Party) : Type 0 where
   pub to : Next
-  pub stepped : IsStepped facts under purpose position moment mark old new made to
+  pub stepped : IsPartyStep facts under purpose position moment mark old new made to
   pub replied : reply ≡ reply_of to
   pub stands : party ≡ settled facts under to
 

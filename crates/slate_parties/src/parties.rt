@@ -10,7 +10,7 @@ use crate::party_calls::{begin_call, step_busy};
 use slate_events::{Call, Entry, FilterWord, PartyKind};
 use slate_ids::{DbPath, GcMessage, Millis, OutOfMemory};
 use slate_protocol::{Facts, Party, State};
-use slate_steps::Stepped;
+use slate_steps::PartyStep;
 use slate_store::{Mark, MemoryStore};
 use std::alloc::Global;
 use std::collections::BTreeMap;
@@ -152,7 +152,7 @@ pub(crate) fn step(
     store: &mut MemoryStore,
     moment: Millis,
     mark: Mark,
-) -> Result<Stepped, OutOfMemory>
+) -> Result<PartyStep, OutOfMemory>
     requires { IsBusyAt (party_of number parties.old.entries) }
     ensures ok { IfOk result (λ s. NumberStepped number moment mark parties.old.entries (party_of number parties.old.entries) store.old.store store.new.store s.made s.reply parties.new.entries) }
     ensures kept_parties { OnErr result (parties.new.entries ≡ parties.old.entries) }

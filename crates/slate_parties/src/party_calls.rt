@@ -8,7 +8,7 @@ use slate_events::{Call, Reply};
 use slate_ids::{Millis, OutOfMemory, SlateDBError, StateCause};
 use slate_log::ReadPhase;
 use slate_protocol::{Facts, Party, Phrase, Position, Purpose, State};
-use slate_steps::{Stepped, is_due, step_party};
+use slate_steps::{PartyStep, is_due, step_party};
 use slate_store::{Mark, MemoryStore};
 use std::alloc::Global;
 
@@ -110,7 +110,7 @@ pub(crate) fn step_busy(
     store: &mut MemoryStore,
     moment: Millis,
     mark: Mark,
-) -> Result<Stepped, OutOfMemory>
+) -> Result<PartyStep, OutOfMemory>
     requires { is_busy party.old.state ≡ true }
     ensures ok { IfOk result (λ s. PartyStepped party.old.facts party.old.state moment mark store.old.store store.new.store s.made s.reply party.new) }
     ensures kept_party { OnErr result (party.new ≡ party.old) }

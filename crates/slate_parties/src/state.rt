@@ -10,7 +10,7 @@ use crate::party_calls::has_due_call;
 use slate_events::{Call, Entry, Event, PartyKind};
 use slate_ids::{DbPath, Millis, OutOfMemory};
 use slate_opening::{Carried, Opening, Tallies, carry, count, is_stale, tally};
-use slate_steps::Stepped;
+use slate_steps::PartyStep;
 use slate_store::{Mark, MemoryStore};
 use std::alloc::Global;
 use std::marker::Model;
@@ -149,7 +149,7 @@ impl ClusterState {
         }
         let last_tag = self.store.last_tag();
         let objects = self.store.len();
-        let Stepped { made, reply } = step(
+        let PartyStep { made, reply } = step(
             alloc,
             &mut self.parties,
             number,

@@ -114,8 +114,8 @@ allows Nothing = false
 allows (Paths paths) = false
 
 -- the options of a pass
-abbrev pub options_of : ℕ → Bool → FilterWord → PassOptions
-options_of min_age dry_run filter = record { min_age = min_age; dry_run = dry_run; allows = allows filter }
+abbrev pub pass_options : ℕ → Bool → FilterWord → PassOptions
+pass_options min_age dry_run filter = record { min_age = min_age; dry_run = dry_run; allows = allows filter }
 
 -- a call goes on once a manifest was committed, or needed no commit: a pass to its list, and every other call to its reply
 abbrev pub done_next : Facts → Call → Manifest → Next
@@ -125,7 +125,7 @@ done_next facts (WriteCheckpoint id lifetime source name) m = Finish (checkpoint
 done_next facts (ReplaceCheckpoint old id lifetime source name) m = Finish (checkpoint_reply id (checkpoint_at id m.core.checkpoints))
 done_next facts (RefreshCheckpoint id lifetime) m = Finish (checkpoint_reply id (checkpoint_at id m.core.checkpoints))
 done_next facts (DeleteCheckpoint id) m = Finish Done
-done_next facts (Pass pass min_age dry_run filter) m = Go Passing (at_pass facts.db (options_of min_age dry_run filter) passing.Listing)
+done_next facts (Pass pass min_age dry_run filter) m = Go Passing (at_pass facts.db (pass_options min_age dry_run filter) passing.Listing)
 
 -- after a read: the commit of what the call makes of it, or what follows where nothing is to be committed
 abbrev pub commit_next : Facts → Call → ℤ → Manifest → Result (Option (CommitPhase Manifest)) SlateDBError → Next

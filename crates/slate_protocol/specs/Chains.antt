@@ -81,9 +81,9 @@ abbrev pub link_bytes : {V A : Type 0} → Option (Link V A) → Option (List �
 link_bytes None = None
 link_bytes (Some l) = Some l.bytes
 
--- the store has at a number what was committed there
-abbrev pub Stands : {V A : Type 0} → Log V A → List ℕ → Store → List (Link V A) → ℕ → Type 0
-Stands log db s c n = bytes_of (object_at (version_path log.kind db n) s) ≡ link_bytes (link_at n c)
+-- store and chain agree at a number: the store has what was committed there
+abbrev pub AgreesAt : {V A : Type 0} → Log V A → List ℕ → Store → List (Link V A) → ℕ → Type 0
+AgreesAt log db s c n = bytes_of (object_at (version_path log.kind db n) s) ≡ link_bytes (link_at n c)
 
 -- the boundary of a log, where it can be read
 abbrev pub bound_in : {V A : Type 0} → Log V A → List ℕ → Store → Option ℕ

@@ -5,7 +5,7 @@ use Rattle.slate_ids.specs.declared.object_path.ObjectPath.{ObjectPath}
 use Rattle.slate_events.specs.declared.db_spec.DbSpec.{DbSpec}
 use Rattle.slate_events.specs.declared.event.Event.{Event}
 use Rattle.slate_protocol.specs.ByRows.{nobody, trail_by}
-use Rattle.slate_protocol.specs.Chains.{top, IsChain, bound_in, Stands}
+use Rattle.slate_protocol.specs.Chains.{top, IsChain, bound_in, AgreesAt}
 use Rattle.slate_protocol.specs.Fenced.{IsFenced}
 use Rattle.slate_protocol.specs.Logs.{Chain, Chains, manifests, chains_of, opening_chains}
 use Rattle.slate_protocol.specs.Passes.{ExactPasses}
@@ -49,7 +49,7 @@ pub record IsLawful (course : Course) (db : List ℕ) (c : Chain) : Type 0 where
   pub read : bound_in manifests db course.world.store ≡ Some bound
   pub below : bound < top c
   -- at each committed number above it the store has the committed bytes
-  pub stands : (n : ℕ) → bound < n → n ≤ top c → Stands manifests db course.world.store c n
+  pub stands : (n : ℕ) → bound < n → n ≤ top c → AgreesAt manifests db course.world.store c n
   -- no writer committed below the writer epoch of an earlier version
   pub fenced : IsFenced c
 

@@ -24,7 +24,7 @@ use Rattle.slate_gc.specs.Picks.{dated, candidates, picks}
 use Rattle.slate_gc.specs.declared.pass_counts.PassCounts.{PassCounts}
 use Rattle.slate_gc.specs.declared.pass_options.PassOptions.{PassOptions}
 use Rattle.slate_protocol.specs.ByRows.{Doing, Answers, Standing, Standings, entry_by, party_in, standings_after, entry_store}
-use Rattle.slate_protocol.specs.Calls.{Next, Go, Finish, options_of, follow, begin}
+use Rattle.slate_protocol.specs.Calls.{Next, Go, Finish, pass_options, follow, begin}
 use Rattle.slate_protocol.specs.Phrases.{asks, goes}
 use Rattle.slate_protocol.specs.Rows.{Answered, stands_after}
 use Rattle.slate_protocol.specs.declared.party.Facts.{Facts}
@@ -67,10 +67,10 @@ picked facts call options answers = numbers_or_none (picks_read options (pass_an
 -- ---- what is deleted
 
 -- the store calls of a call along its answers, each with its answer
-abbrev pub made_by : Facts → Call → Next → List Answered → List Made
-made_by facts call next [] = []
-made_by facts call (Finish reply) (a ∷ answers) = []
-made_by facts call (Go purpose position) (a ∷ answers) = record { call = asks position; answer = a.0 } ∷ made_by facts call (follow facts call purpose a.1 (goes position a.1 a.0)) answers
+abbrev pub calls_made : Facts → Call → Next → List Answered → List Made
+calls_made facts call next [] = []
+calls_made facts call (Finish reply) (a ∷ answers) = []
+calls_made facts call (Go purpose position) (a ∷ answers) = record { call = asks position; answer = a.0 } ∷ calls_made facts call (follow facts call purpose a.1 (goes position a.1 a.0)) answers
 
 abbrev pub is_delete : StoreCall → Bool
 is_delete (Delete path) = true
@@ -82,7 +82,7 @@ deletes_in ms = filter (λ m. is_delete m.call) ms
 
 -- the deletes of a call along its answers
 abbrev pub deletes_made : Facts → Call → List Answered → List Made
-deletes_made facts call answers = deletes_in (made_by facts call (begin facts call) answers)
+deletes_made facts call answers = deletes_in (calls_made facts call (begin facts call) answers)
 
 -- one delete for each of the numbers, in order
 abbrev pub deletes_of : List ℕ → List ℕ → List StoreCall
@@ -114,7 +114,7 @@ pub record IsExact (facts : Facts) (call : Call) (options : PassOptions) (answer
 
 -- of a party that is in a pass with these answers
 abbrev pub ExactDoing : Facts → Doing → Answered → Type 0
-ExactDoing facts (Answers (Pass pass min_age dry_run filter) answers) a = IsExact facts (Pass pass min_age dry_run filter) (options_of min_age dry_run filter) (answers ++ a ∷ [])
+ExactDoing facts (Answers (Pass pass min_age dry_run filter) answers) a = IsExact facts (Pass pass min_age dry_run filter) (pass_options min_age dry_run filter) (answers ++ a ∷ [])
 ExactDoing facts _ a = Unit {0}
 
 -- of an entry, for the standing of its party before it

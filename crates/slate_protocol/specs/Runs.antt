@@ -4,7 +4,7 @@ use Rattle.slate_events.specs.declared.db_spec.DbSpec.{DbSpec}
 use Rattle.slate_events.specs.declared.event.Event.{Event}
 use Rattle.slate_events.specs.declared.entry.Entry.{Entry}
 use Rattle.slate_protocol.specs.Specs.{opening_world}
-use Rattle.slate_protocol.specs.World.{World, Done, happens}
+use Rattle.slate_protocol.specs.World.{World, Transition, happens}
 
 -- the databases as they were given, the entries so far, and the state after them
 pub record Course : Type 0 where
@@ -22,7 +22,7 @@ pub record Ran : Type 0 where
   pub bad : Option ℕ
 
 -- the course after one more event
-abbrev pub going_on : Course → Done → Course
+abbrev pub going_on : Course → Transition → Course
 going_on course done = record { specs = course.specs; trail = course.trail ++ done.entry ∷ []; world = done.world }
 
 -- the run of events, of which the first is at a place, up to the first bad one

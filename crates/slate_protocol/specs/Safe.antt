@@ -60,8 +60,8 @@ abbrev pub AllCollected : World → Chains → List ObjectPath → Type 0
 AllCollected w chains [] = Unit {0}
 AllCollected w chains (path ∷ paths) = IsCollected w chains path × AllCollected w chains paths
 
--- a manifest that is needed was committed, and stands with the bytes that were committed
-pub record Stands (w : World) (chains : Chains) (db : List ℕ) (n : ℕ) : Type 0 where
+-- a manifest that is needed was committed, and is there with the bytes that were committed
+pub record IsPresent (w : World) (chains : Chains) (db : List ℕ) (n : ℕ) : Type 0 where
   pub link : Link _ Author
   pub committed : link_at n (chains db) ≡ Some link
   pub stands : bytes_of (object_at (ManifestPath db n) w.store) ≡ Some link.bytes
@@ -71,6 +71,6 @@ pub record IsSafe (w : World) (chains : Chains) (removed : List ObjectPath) : Ty
   -- nothing that was removed is reachable
   pub unreachable : NoneReachable w chains removed
   -- each manifest that is reachable stands with its committed bytes
-  pub stands : (db : List ℕ) (n : ℕ) → HasDb w db → IsNeeded manifests (chains db) n → Stands w chains db n
+  pub stands : (db : List ℕ) (n : ℕ) → HasDb w db → IsNeeded manifests (chains db) n → IsPresent w chains db n
   -- each collected number is spare, and at or below the boundary of its log
   pub collected : AllCollected w chains removed

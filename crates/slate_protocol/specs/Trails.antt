@@ -31,13 +31,13 @@ abbrev pub first_put : ℕ → List ℕ → List (ℕ × List ℕ) → List (ℕ
 first_put n bytes vs = if has_number n vs then vs else (n, bytes) ∷ vs
 
 -- a call that wrote: a put of a manifest commits its number
-abbrev pub told_by : Bool → StoreCall → Firsts → Firsts
-told_by true (PutNew (ManifestPath db n) bytes) firsts = λ d. if bytes_eq d db then first_put n bytes (firsts d) else firsts d
-told_by _ _ firsts = firsts
+abbrev pub call_told : Bool → StoreCall → Firsts → Firsts
+call_told true (PutNew (ManifestPath db n) bytes) firsts = λ d. if bytes_eq d db then first_put n bytes (firsts d) else firsts d
+call_told _ _ firsts = firsts
 
 -- what an entry commits
 abbrev pub entry_told : Entry → Store → Firsts → Firsts
-entry_told (Called n call moment mark answer reply) s firsts = told_by (wrote s (effect mark call moment s).store) call firsts
+entry_told (Called n call moment mark answer reply) s firsts = call_told (wrote s (effect mark call moment s).store) call firsts
 entry_told _ s firsts = firsts
 
 -- what the entries commit

@@ -102,12 +102,12 @@ counted _ _ deleted = deleted
 -- ---- what an event does
 
 -- what an event left: its entry, and the state after it
-pub record Done : Type 0 where
+pub record Transition : Type 0 where
   pub entry : Entry
   pub world : World
 
 -- an event that did nothing is noted
-abbrev pub noted : ℕ → World → Done
+abbrev pub noted : ℕ → World → Transition
 noted n w = record { entry = Idle n; world = w }
 
 -- the epoch after a reply: an open that was done gives one
@@ -134,7 +134,7 @@ abbrev pub newcomer : PartyKind → List ℕ → Party
 newcomer kind db = record { facts = record { kind = kind; db = db; epoch = None }; state = Resting }
 
 -- the one store call of a step, which the position asks
-abbrev pub stepped : World → ℕ → Facts → Call → Purpose → Position → ℤ → Mark → Done
+abbrev pub stepped : World → ℕ → Facts → Call → Purpose → Position → ℤ → Mark → Transition
 stepped w n facts call purpose position moment mark =
     let asked = asks position in
     let outcome = effect mark asked moment w.store in
@@ -151,13 +151,13 @@ stepped w n facts call purpose position moment mark =
     }
 
 -- a step of a party with no call, or in whose call none is due, is noted idle, and so is one of a party that was stopped
-abbrev pub step_state : World → ℕ → Facts → State → ℤ → Mark → Done
+abbrev pub step_state : World → ℕ → Facts → State → ℤ → Mark → Transition
 step_state w n facts Resting moment mark = noted n w
 step_state w n facts (Busy call purpose position) moment mark = if is_due position then stepped w n facts call purpose position moment mark else noted n w
 step_state w n facts Halted moment mark = noted n w
 
 -- a start of a party that has a call, or was stopped, is noted idle
-abbrev pub start_state : World → ℕ → Facts → State → Call → Done
+abbrev pub start_state : World → ℕ → Facts → State → Call → Transition
 start_state w n facts Resting call =
     let next = begin facts call in
     record { entry = Started n (reply_of next); world = record w { parties = with_party n (settled facts call next) w.parties } }
@@ -169,7 +169,7 @@ abbrev pub halted : Facts → Party
 halted facts = record { facts = facts; state = Halted }
 
 -- a stop of a party that was stopped is noted idle
-abbrev pub stop_state : World → ℕ → Facts → State → Done
+abbrev pub stop_state : World → ℕ → Facts → State → Transition
 stop_state w n facts Halted = noted n w
 stop_state w n facts _ = record { entry = Stopped n; world = record w { parties = with_party n (halted facts) w.parties } }
 
@@ -178,7 +178,7 @@ abbrev pub carrying : ℕ → Call → World → World
 carrying n call w = record w { carried = with_ids (ids_of n call) w.carried }
 
 -- an open, by whether the number came before and the database is there
-abbrev pub open_at : World → ℕ → PartyKind → List ℕ → Option Party → Option Tally → Option Done
+abbrev pub open_at : World → ℕ → PartyKind → List ℕ → Option Party → Option Tally → Option Transition
 open_at w n kind db None (Some tally) = Some (record { entry = Opened n; world = record w { parties = insert_entry nat_cmp w.parties n (newcomer kind db) } })
 open_at w n kind db _ _ = None
 
@@ -187,22 +187,22 @@ abbrev pub may_start : World → Call → Party → Bool
 may_start w call party = has_call party.facts.kind call && not (is_stale w.carried call)
 
 -- a start, by the party that is there
-abbrev pub start_at : World → ℕ → Call → Option Party → Option Done
+abbrev pub start_at : World → ℕ → Call → Option Party → Option Transition
 start_at w n call None = None
 start_at w n call (Some party) = if may_start w call party then Some (start_state (carrying n call w) n party.facts party.state call) else None
 
 -- a step, by the party that is there
-abbrev pub step_at : World → ℕ → ℤ → Mark → Option Party → Option Done
+abbrev pub step_at : World → ℕ → ℤ → Mark → Option Party → Option Transition
 step_at w n moment mark None = None
 step_at w n moment mark (Some party) = Some (step_state w n party.facts party.state moment mark)
 
 -- a stop, by the party that is there
-abbrev pub stop_at : World → ℕ → Option Party → Option Done
+abbrev pub stop_at : World → ℕ → Option Party → Option Transition
 stop_at w n None = None
 stop_at w n (Some party) = Some (stop_state w n party.facts party.state)
 
 -- what an event does; none where it is bad
-abbrev pub happens : World → Event → Option Done
+abbrev pub happens : World → Event → Option Transition
 happens w (Open n kind db) = open_at w n kind db (party_of n w.parties) (tally_of db w.tallies)
 happens w (Start n call) = start_at w n call (party_of n w.parties)
 happens w (Step n moment mark) = step_at w n moment mark (party_of n w.parties)

@@ -1,3 +1,3 @@
-pub mod Advanced
+pub mod PhraseSteps
 pub mod Followed
-pub mod Stepped
+pub mod PartySteps

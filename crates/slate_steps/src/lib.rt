@@ -7,5 +7,5 @@ mod phrases;
 mod steps;
 mod values;
 
-pub use party_steps::{Stepped, step_party};
+pub use party_steps::{PartyStep, step_party};
 pub use phrases::is_due;

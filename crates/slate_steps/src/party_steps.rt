@@ -3,7 +3,7 @@ ghost use Rattle.std.specs.Prelude.{◌≡◌, ◌∷◌, [], true, IfOk, OnErr}
 ghost use Rattle.slate_store.specs.Calls.{next_mark};
 ghost use Rattle.slate_protocol.specs.Phrases.{is_due as due_at};
 ghost use Rattle.slate_steps.specs.Followed.{next_by};
-ghost use Rattle.slate_steps.specs.Stepped.{IsStepped};
+ghost use Rattle.slate_steps.specs.PartySteps.{IsPartyStep};
 
 use crate::steps::step_call;
 use slate_events::{Call, Reply};
@@ -16,7 +16,7 @@ use std::mem;
 
 /// The store call that a step made, and the reply that ends the call.
 #[derive(Drop)]
-pub struct Stepped {
+pub struct PartyStep {
     /// The call, and what the store answered.
     pub made: Made,
     /// None where the call goes on.
@@ -32,17 +32,17 @@ fn step_over(
     position: &mut Position,
     recorder: &mut Recorder,
     moment: Millis,
-) -> Result<Stepped, OutOfMemory>
+) -> Result<PartyStep, OutOfMemory>
     requires due { due_at position.old ≡ true }
     requires fresh { recorder.old.made.items ≡ [] }
-    ensures ok { IfOk result (λ s. IsStepped facts.now call.now purpose.old position.old moment (next_mark recorder.old.store.marks) recorder.old.store.store recorder.new.store.store s.made (next_by purpose.new position.new s.reply)) }
+    ensures ok { IfOk result (λ s. IsPartyStep facts.now call.now purpose.old position.old moment (next_mark recorder.old.store.marks) recorder.old.store.store recorder.new.store.store s.made (next_by purpose.new position.new s.reply)) }
     ensures kept_purpose { OnErr result (purpose.new ≡ purpose.old) }
     ensures kept_position { OnErr result (position.new ≡ position.old) }
     ensures kept_store { OnErr result (recorder.new.store.store ≡ recorder.old.store.store) }
 {
     let reply = step_call(alloc, facts, call, purpose, position, recorder, moment)?;
     match recorder.made.pop() {
-        Some(made) => Ok(Stepped { made, reply }),
+        Some(made) => Ok(PartyStep { made, reply }),
         None => unreachable!(),
     }
 }
@@ -58,9 +58,9 @@ pub fn step_party(
     store: &mut MemoryStore,
     moment: Millis,
     mark: Mark,
-) -> Result<Stepped, OutOfMemory>
+) -> Result<PartyStep, OutOfMemory>
     requires { due_at position.old ≡ true }
-    ensures ok { IfOk result (λ s. IsStepped facts.now call.now purpose.old position.old moment mark store.old.store store.new.store s.made (next_by purpose.new position.new s.reply)) }
+    ensures ok { IfOk result (λ s. IsPartyStep facts.now call.now purpose.old position.old moment mark store.old.store store.new.store s.made (next_by purpose.new position.new s.reply)) }
     ensures kept_purpose { OnErr result (purpose.new ≡ purpose.old) }
     ensures kept_position { OnErr result (position.new ≡ position.old) }
     ensures kept_store { OnErr result (store.new.store ≡ store.old.store) }

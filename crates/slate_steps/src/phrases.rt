@@ -5,7 +5,7 @@ ghost use Rattle.slate_log.specs.Read.{read_due};
 ghost use Rattle.slate_log.specs.Commit.{commit_due};
 ghost use Rattle.slate_gc.specs.Pass.{pass_due};
 ghost use Rattle.slate_protocol.specs.Phrases.{asks, goes, is_due as due_at};
-ghost use Rattle.slate_steps.specs.Advanced.{ReadSteps, ReadAtEnd, CommitSteps, PassSteps, AtEnd};
+ghost use Rattle.slate_steps.specs.PhraseSteps.{ReadSteps, ReadAtEnd, CommitSteps, PassSteps, AtEnd};
 
 use slate_gc::{PassOptions, PassPhase};
 use slate_ids::{DbPath, Millis};
@@ -90,7 +90,7 @@ pub fn is_due(position: &Position) -> bool
 }
 
 /// Makes the one store call that the position asks. Want of memory leaves the position as it was.
-pub(crate) fn advance<S: ObjectStore>(
+pub(crate) fn step_phrase<S: ObjectStore>(
     alloc: Global,
     position: &mut Position,
     store: &mut S,

@@ -1,13 +1,13 @@
 //! One step of a call.
 ghost use Rattle.std.specs.Prelude.{◌≡◌, true, IfOk, OnErr};
 ghost use Rattle.slate_updates.specs.Checkpoints.{checkpoint_at};
-ghost use Rattle.slate_protocol.specs.Calls.{Finish, done_next, after_pass, checkpoint_reply as replied, options_of as pass_options};
+ghost use Rattle.slate_protocol.specs.Calls.{Finish, done_next, after_pass, checkpoint_reply as replied, pass_options as asked_options};
 ghost use Rattle.slate_protocol.specs.Phrases.{is_due};
 ghost use Rattle.slate_recorder.specs.Recorded.{told_by};
 ghost use Rattle.slate_steps.specs.Followed.{next_by, Commits, Ends, Followed, Kept};
 
 use crate::commits::commit_call;
-use crate::phrases::advance;
+use crate::phrases::step_phrase;
 use slate_events::{Call, FilterWord, Reply};
 use slate_gc::{PassCounts, PassOptions, PassPhase};
 use slate_ids::{CheckpointId, DbPath, Millis, OutOfMemory, SlateDBError};
@@ -30,8 +30,8 @@ fn checkpoint_reply(id: CheckpointId, manifest: &Manifest) -> Reply
 }
 
 // The options of a pass.
-fn options_of(min_age: u64, dry_run: bool, filter: &FilterWord) -> PassOptions
-    ensures { result ≡ pass_options min_age dry_run filter.now }
+fn pass_options(min_age: u64, dry_run: bool, filter: &FilterWord) -> PassOptions
+    ensures { result ≡ asked_options min_age dry_run filter.now }
 {
     let allows = match filter {
         FilterWord::All => true,
@@ -66,7 +66,7 @@ fn go_on(
             filter,
             ..
         } => {
-            let options = options_of(*min_age, *dry_run, filter);
+            let options = pass_options(*min_age, *dry_run, filter);
             *purpose = Purpose::Passing;
             *position = Position {
                 db: facts.db,
@@ -176,7 +176,7 @@ pub(crate) fn step_call(
     ensures err { OnErr result (Kept purpose.old position.old (told_by store.old) (told_by store.new) purpose.new position.new) }
 {
     let db = position.db;
-    match advance(alloc, position, store, moment) {
+    match step_phrase(alloc, position, store, moment) {
         Step::Again => Ok(None),
         Step::Done(Ok(ended)) => {
             end_phrase(alloc, facts, call, db, moment, purpose, position, ended)

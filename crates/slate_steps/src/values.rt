@@ -1,7 +1,7 @@
 //! What each call makes of the manifest read.
 ghost use Rattle.std.specs.Prelude.{◌≡◌, IfOk};
 ghost use Rattle.slate_ids.specs.Answers.{Gives};
-ghost use Rattle.slate_protocol.specs.Calls.{new_value as made_by};
+ghost use Rattle.slate_protocol.specs.Calls.{new_value as call_makes};
 
 use slate_events::Call;
 use slate_ids::{CheckpointId, Millis, OutOfMemory, SlateDBError, Text};
@@ -13,7 +13,7 @@ use slate_updates::{
 use std::alloc::Global;
 
 // The options of a new checkpoint, as a call names them.
-fn options_of(
+fn checkpoint_options(
     alloc: Global,
     lifetime: Option<u64>,
     source: Option<CheckpointId>,
@@ -36,7 +36,7 @@ pub(crate) fn new_value(
     n: u64,
     manifest: &Manifest,
 ) -> Result<Option<Manifest>, SlateDBError>
-    ensures { Gives result (made_by call.now now n manifest.now) }
+    ensures { Gives result (call_makes call.now now n manifest.now) }
 {
     match call {
         Call::OpenWriter => raise_writer(alloc, n, manifest),
@@ -47,7 +47,7 @@ pub(crate) fn new_value(
             source,
             name,
         } => {
-            let options = options_of(alloc, *lifetime, *source, name)?;
+            let options = checkpoint_options(alloc, *lifetime, *source, name)?;
             write_checkpoint(alloc, *id, options, now, n, manifest)
         }
         Call::ReplaceCheckpoint {
@@ -57,7 +57,7 @@ pub(crate) fn new_value(
             source,
             name,
         } => {
-            let options = options_of(alloc, *lifetime, *source, name)?;
+            let options = checkpoint_options(alloc, *lifetime, *source, name)?;
             replace_checkpoint(alloc, old, *id, options, now, n, manifest)
         }
         Call::RefreshCheckpoint { id, lifetime } => {

@@ -1,5 +1,5 @@
 use Rattle.slate_cluster.proofs.Events.{Goes}
-use Rattle.slate_cluster.proofs.progress.Progress.advance.Given as goal
+use Rattle.slate_cluster.proofs.progress.Progress.do_events.Given as goal
 
 -- the events so far were done, and their entries are in the trail
 abbrev pub invariant-loop-i : goal.invariant-loop-i

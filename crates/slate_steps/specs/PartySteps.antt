@@ -11,7 +11,7 @@ use Rattle.slate_protocol.specs.declared.party.Purpose.{Purpose}
 use Rattle.slate_protocol.specs.declared.position.Position.{Position}
 
 -- the one store call was made under a mark, its answer is the store's, and the call goes on as its row says
-pub record IsStepped (facts : Facts) (under : Call) (purpose : Purpose) (position : Position) (moment : ℤ) (mark : Mark) (old new : Store) (made : Made) (to : Next) : Type 0 where
+pub record IsPartyStep (facts : Facts) (under : Call) (purpose : Purpose) (position : Position) (moment : ℤ) (mark : Mark) (old new : Store) (made : Made) (to : Next) : Type 0 where
   pub call : made.call ≡ asks position
   pub answer : made.answer ≡ (effect mark (asks position) moment old).answer
   pub store : new ≡ (effect mark (asks position) moment old).store

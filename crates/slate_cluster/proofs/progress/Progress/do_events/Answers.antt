@@ -1,7 +1,7 @@
 use Rattle.std.proofs.Common.{List, ◌++◌, ◌∷◌, [], ap, ◌∙◌}
 use Rattle.slate_events.specs.declared.entry.Entry.{Entry}
 use Rattle.slate_cluster.proofs.Events.{goes_further}
-use Rattle.slate_cluster.proofs.progress.Progress.advance.Goals as goal
+use Rattle.slate_cluster.proofs.progress.Progress.do_events.Goals as goal
 
 pub loop-i-preserved : goal.loop-i-preserved
 loop-i-preserved c =
