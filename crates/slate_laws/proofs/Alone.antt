@@ -24,7 +24,8 @@ use Rattle.slate_gc.specs.declared.pass_options.PassOptions.{PassOptions}
 use Rattle.slate_gc.specs.declared.pass_phase.PassPhase.{PassPhase}
 use Rattle.slate_gc.specs.declared.pass_phase.PassPhase.TheVariants.{Listing, Getting, Bounding, Advancing, Deleting, Over}
 use Rattle.slate_protocol.specs.Alone.{greatest_object, picks_in, without}
-use Rattle.slate_protocol.specs.Passes.{picks_at, picks_of, numbers_or_none}
+use Rattle.slate_protocol.specs.Passes.{picks_at, picks_of}
+use Rattle.slate_protocol.specs.Specs.{listed_or_none}
 use Rattle.slate_laws.proofs.Left.{without_none, without_one, advance_listed, delete_listed}
 use Rattle.slate_laws.proofs.Ordered.{IsOrdered}
 use Rattle.slate_laws.proofs.Stores.{IsTidy}
@@ -134,12 +135,12 @@ module _ (db : List ℕ) (options : PassOptions) (now : ℤ) (s0 : Store) where
   picked_is : (n b : ℕ) (ns : List ℕ) → IsBounding n ns → boundary_got (object_at (boundary_path ManifestLog db) s0) ≡ Some b → nat_le n b ≡ false → picked ≡ picks options ns
   picked_is n b ns h read above =
       let g = h.is in
-      ap (λ (o : Option ℕ). numbers_or_none (picks_of options (Found found, now) (Got (greatest_object db s0 o), now) (Got (object_at (boundary_path ManifestLog db) s0), now))) g.greatest
-      ∙ (ap (λ (o : Option StoredObject). numbers_or_none (picks_of options (Found found, now) (Got o, now) (Got (object_at (boundary_path ManifestLog db) s0), now))) g.at
-      ∙ (ap (λ (o : Option ℕ). numbers_or_none (picks_at options now found o (decoded_manifest g.object.bytes) (boundary_got (object_at (boundary_path ManifestLog db) s0)))) g.greatest
-      ∙ (ap (λ (r : Result Manifest SlateDBError). numbers_or_none (picks_at options now found (Some n) r (boundary_got (object_at (boundary_path ManifestLog db) s0)))) g.value
-      ∙ (ap (λ (o : Option ℕ). numbers_or_none (picks_at options now found (Some n) (Ok h.value) o)) read
-      ∙ (ap (λ (t : Bool). numbers_or_none (if t then None else Some (picks options (candidates options.min_age now n h.value.core.checkpoints (dated ManifestLog found))))) above
+      ap (λ (o : Option ℕ). listed_or_none (picks_of options (Found found, now) (Got (greatest_object db s0 o), now) (Got (object_at (boundary_path ManifestLog db) s0), now))) g.greatest
+      ∙ (ap (λ (o : Option StoredObject). listed_or_none (picks_of options (Found found, now) (Got o, now) (Got (object_at (boundary_path ManifestLog db) s0), now))) g.at
+      ∙ (ap (λ (o : Option ℕ). listed_or_none (picks_at options now found o (decoded_manifest g.object.bytes) (boundary_got (object_at (boundary_path ManifestLog db) s0)))) g.greatest
+      ∙ (ap (λ (r : Result Manifest SlateDBError). listed_or_none (picks_at options now found (Some n) r (boundary_got (object_at (boundary_path ManifestLog db) s0)))) g.value
+      ∙ (ap (λ (o : Option ℕ). listed_or_none (picks_at options now found (Some n) (Ok h.value) o)) read
+      ∙ (ap (λ (t : Bool). listed_or_none (if t then None else Some (picks options (candidates options.min_age now n h.value.core.checkpoints (dated ManifestLog found))))) above
       ∙ ap (picks options) (sym h.candidates))))))
 
   -- where nothing is picked the list stays

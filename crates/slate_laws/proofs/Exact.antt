@@ -36,9 +36,10 @@ use Rattle.slate_gc.specs.declared.pass_phase.PassPhase.{PassPhase}
 use Rattle.slate_gc.specs.declared.pass_phase.PassPhase.TheVariants as passing
 use Rattle.slate_protocol.specs.ByRows.{Doing, Answers, Standing, Standings, entry_by, party_in, standings_after, entry_store}
 use Rattle.slate_protocol.specs.Calls.{Next, Go, Finish, pass_options, commit_of, commit_next, follow, begin}
-use Rattle.slate_protocol.specs.Passes.{picks_at, picks_of, picks_read, pass_answers, numbers_or_none, is_delete, IsExact, ExactDoing, ExactEntry, ExactPasses}
+use Rattle.slate_protocol.specs.Passes.{picks_at, picks_of, picks_read, pass_answers, is_delete, IsExact, ExactDoing, ExactEntry, ExactPasses}
 use Rattle.slate_protocol.specs.Phrases.{at_pass, read_on, commit_on}
 use Rattle.slate_protocol.specs.Rows.{Answered}
+use Rattle.slate_protocol.specs.Specs.{listed_or_none}
 use Rattle.slate_protocol.specs.declared.party.Facts.{Facts}
 use Rattle.slate_protocol.specs.declared.party.Purpose.TheVariants.{Reading, Committing, Passing}
 use Rattle.slate_protocol.specs.declared.position.Phrase.{Phrase}
@@ -74,23 +75,23 @@ module _ (options : PassOptions) where
   list_picks ((Found found, now) ∷ answers) = listed_picks now found (greatest ManifestLog found) answers
   list_picks _ = []
 
-  above_picks : (ns : List ℕ) (b : Bool) → numbers_or_none (if b then None else Some (picks options ns)) ≡ (if b then [] else picks options ns)
+  above_picks : (ns : List ℕ) (b : Bool) → listed_or_none (if b then None else Some (picks options ns)) ≡ (if b then [] else picks options ns)
   above_picks ns true = refl
   above_picks ns false = refl
 
   bounded_same : (now : ℤ) (found : List ObjectMetadata) (n : ℕ) (m : Manifest) (bound : Option ℕ)
-      → numbers_or_none (picks_at options now found (Some n) (Ok m) bound) ≡ bounded_picks n (candidates options.min_age now n m.core.checkpoints (dated ManifestLog found)) bound
+      → listed_or_none (picks_at options now found (Some n) (Ok m) bound) ≡ bounded_picks n (candidates options.min_age now n m.core.checkpoints (dated ManifestLog found)) bound
   bounded_same now found n m None = refl
   bounded_same now found n m (Some bound) = above_picks (candidates options.min_age now n m.core.checkpoints (dated ManifestLog found)) (nat_le n bound)
 
   decoded_same : (now : ℤ) (found : List ObjectMetadata) (n : ℕ) (r : Result Manifest SlateDBError) (boundary : Option StoredObject) (by : ℤ) (answers : List Answered)
-      → numbers_or_none (picks_at options now found (Some n) r (boundary_got boundary)) ≡ decoded_picks now n (dated ManifestLog found) r ((Got boundary, by) ∷ answers)
+      → listed_or_none (picks_at options now found (Some n) r (boundary_got boundary)) ≡ decoded_picks now n (dated ManifestLog found) r ((Got boundary, by) ∷ answers)
   decoded_same now found n (Ok m) boundary by answers = bounded_same now found n m (boundary_got boundary)
   decoded_same now found n (Err e) boundary by answers = refl
 
   -- of three answers that have what they are to have
   listed_same : (now : ℤ) (found : List ObjectMetadata) (n : Option ℕ) (object : StoredObject) (at : ℤ) (boundary : Option StoredObject) (by : ℤ) (answers : List Answered)
-      → numbers_or_none (picks_at options now found n (decoded_manifest object.bytes) (boundary_got boundary)) ≡ listed_picks now found n ((Got (Some object), at) ∷ (Got boundary, by) ∷ answers)
+      → listed_or_none (picks_at options now found n (decoded_manifest object.bytes) (boundary_got boundary)) ≡ listed_picks now found n ((Got (Some object), at) ∷ (Got boundary, by) ∷ answers)
   listed_same now found None object at boundary by answers = refl
   listed_same now found (Some n) object at boundary by answers = decoded_same now found n (decoded_manifest object.bytes) boundary by answers
 
@@ -111,17 +112,17 @@ module _ (options : PassOptions) where
       none_listed now found (greatest ManifestLog found) ((Got (Some object), at) ∷ answers) (λ n dates. none_decoded now n dates (decoded_manifest object.bytes) answers (h n))
 
   third_same : (now : ℤ) (found : List ObjectMetadata) (object : StoredObject) (at : ℤ) (boundary : Answered) (answers : List Answered)
-      → numbers_or_none (picks_of options (Found found, now) (Got (Some object), at) boundary) ≡ listed_picks now found (greatest ManifestLog found) ((Got (Some object), at) ∷ boundary ∷ answers)
+      → listed_or_none (picks_of options (Found found, now) (Got (Some object), at) boundary) ≡ listed_picks now found (greatest ManifestLog found) ((Got (Some object), at) ∷ boundary ∷ answers)
   third_same now found object at (Got boundary, by) answers = listed_same now found (greatest ManifestLog found) object at boundary by answers
   third_same now found object at (_, by) answers = two_same now found object at _ (λ n ns. refl)
 
   second_same : (now : ℤ) (found : List ObjectMetadata) (version : Answered) (boundary : Answered) (answers : List Answered)
-      → numbers_or_none (picks_of options (Found found, now) version boundary) ≡ listed_picks now found (greatest ManifestLog found) (version ∷ boundary ∷ answers)
+      → listed_or_none (picks_of options (Found found, now) version boundary) ≡ listed_picks now found (greatest ManifestLog found) (version ∷ boundary ∷ answers)
   second_same now found (Got (Some object), at) boundary answers = third_same now found object at boundary answers
   second_same now found (_, at) boundary answers = none_listed now found (greatest ManifestLog found) _ (λ n dates. refl)
 
   -- what the answers of a pass have picked
-  picks_same : (answers : List Answered) → numbers_or_none (picks_read options answers) ≡ list_picks answers
+  picks_same : (answers : List Answered) → listed_or_none (picks_read options answers) ≡ list_picks answers
   picks_same [] = refl
   picks_same ((Found found, now) ∷ []) = none_listed now found (greatest ManifestLog found) [] (λ n dates. refl)
   picks_same ((Found found, now) ∷ (Got (Some object), at) ∷ []) = two_same now found object at [] (λ n ns. refl)
@@ -202,7 +203,7 @@ module _ (facts : Facts) (call : Call) (options : PassOptions) where
   list_exact ((_, now) ∷ answers) = quiet _ passing.Listing _ now answers refl (refused [] _ answers)
 
   -- from the list on
-  pass_exact : (answers : List Answered) → ExactFrom (numbers_or_none (picks_read options answers)) (in_phase passing.Listing) answers
+  pass_exact : (answers : List Answered) → ExactFrom (listed_or_none (picks_read options answers)) (in_phase passing.Listing) answers
   pass_exact answers = subst (λ (ps : List ℕ). ExactFrom ps (in_phase passing.Listing) answers) (sym (picks_same options answers)) (list_exact answers)
 
 -- ---- before the pass
@@ -261,7 +262,7 @@ module _ (facts : Facts) (pass : GcMessage) (min_age : ℕ) (dry_run : Bool) (fi
 
   -- the picks, by the answers from where the call stands
   abbrev picks_from : Next → List Answered → List ℕ
-  picks_from next answers = numbers_or_none (picks_read options (pass_answers facts the_call next answers))
+  picks_from next answers = listed_or_none (picks_read options (pass_answers facts the_call next answers))
 
   abbrev IsExactFrom : Next → List Answered → Type 0
   IsExactFrom next answers = ExactFrom facts the_call options (picks_from next answers) next answers

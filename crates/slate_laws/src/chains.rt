@@ -11,24 +11,24 @@ ghost use Rattle.slate_events.specs.declared.db_spec.DbSpec.{DbSpec};
 ghost use Rattle.slate_events.specs.declared.event.Event.{Event};
 ghost use Rattle.slate_protocol.specs.ByRows.{party_in};
 ghost use Rattle.slate_protocol.specs.Chains.{Changed, top};
-ghost use Rattle.slate_protocol.specs.Lawful.{IsAccepted, chains_at_end};
-ghost use Rattle.slate_protocol.specs.Logs.{chains_after, world_after};
-ghost use Rattle.slate_protocol.specs.Specs.{opening_world};
+ghost use Rattle.slate_protocol.specs.Lawful.{IsAccepted, chains_at_end, world_at_end};
+ghost use Rattle.slate_protocol.specs.Logs.{chains_after};
 ghost use Rattle.slate_protocol.specs.World.{HasDb};
 
 /// An event leaves the chain of a database, or puts one version on top, by the party of the event.
 pub fn changed()
     ensures { (specs : List DbSpec) (events : List Event) (event : Event) (db : List ℕ)
-        → IsAccepted specs → HasDb (world_after events (opening_world specs)) db
+        → IsAccepted specs → HasDb (world_at_end specs events) db
         → Changed (λ author. author.party ≡ party_in event) (chains_at_end specs events db)
-        (chains_after (world_after events (opening_world specs)) event (chains_at_end specs events) db) }
+        (chains_after (world_at_end specs events) event (chains_at_end specs events) db) }
 {}
 
 /// The greatest number that a list of a database's manifests gives is the greatest committed one.
 pub fn list_top()
     ensures { (specs : List DbSpec) (events : List Event) (db : List ℕ)
-        → IsAccepted specs → HasDb (world_after events (opening_world specs)) db
-        → greatest ManifestLog (listed (Manifests db) (world_after events (opening_world specs)).store) ≡ Some (top (chains_at_end specs events db)) }
+        → IsAccepted specs → HasDb (world_at_end specs events) db
+        → greatest ManifestLog (listed (Manifests db) (world_at_end specs events).store)
+        ≡ Some (top (chains_at_end specs events db)) }
 {}
 
 /// A put at a path that is taken changes nothing.

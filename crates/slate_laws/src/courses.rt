@@ -18,10 +18,12 @@ pub fn begins()
 
 /// Events of which none is bad go on with it.
 pub fn goes_on()
-    ensures { (old new : Course) (events : List Event) → IsRun old → run events 0 old ≡ record { course = new; bad = None } → IsRun new }
+    ensures { (old new : Course) (events : List Event)
+        → IsRun old → run events 0 old ≡ record { course = new; bad = None } → IsRun new }
 {}
 
 /// So do events before a bad one.
 pub fn stops()
-    ensures { (old new : Course) (events : List Event) (place : ℕ) → IsRun old → run events 0 old ≡ record { course = new; bad = Some place } → IsRun new }
+    ensures { (old new : Course) (events : List Event) (place : ℕ)
+        → IsRun old → run events 0 old ≡ record { course = new; bad = Some place } → IsRun new }
 {}

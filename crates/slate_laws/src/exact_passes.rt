@@ -12,6 +12,7 @@ ghost use Rattle.slate_protocol.specs.declared.party.Facts.{Facts};
 /// them while it is under way or where it was refused, and all of them where it ended without a refusal. Its reply then has the
 /// counts of its picks and of its deletes.
 pub fn exact_pass()
-    ensures { (facts : Facts) (pass : GcMessage) (min_age : ℕ) (dry_run : Bool) (filter : FilterWord) (answers : List Answered)
+    ensures { (facts : Facts) (pass : GcMessage) (min_age : ℕ) (dry_run : Bool) (filter : FilterWord)
+        (answers : List Answered)
         → IsExact facts (Pass pass min_age dry_run filter) (pass_options min_age dry_run filter) answers }
 {}

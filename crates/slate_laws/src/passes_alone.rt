@@ -13,10 +13,9 @@ ghost use Rattle.slate_events.specs.declared.reply.Reply.TheVariants as reply;
 ghost use Rattle.slate_gc.specs.declared.pass_phase.PassPhase.TheVariants.{Listing};
 ghost use Rattle.slate_protocol.specs.Alone.{steps_alone, reply_at, picks_in, without};
 ghost use Rattle.slate_protocol.specs.Calls.{pass_options};
-ghost use Rattle.slate_protocol.specs.Lawful.{IsAccepted};
+ghost use Rattle.slate_protocol.specs.Lawful.{IsAccepted, world_at_end};
 ghost use Rattle.slate_protocol.specs.Logs.{world_after};
 ghost use Rattle.slate_protocol.specs.Phrases.{at_pass};
-ghost use Rattle.slate_protocol.specs.Specs.{opening_world};
 ghost use Rattle.slate_protocol.specs.World.{Transition, party_of, happens};
 ghost use Rattle.slate_protocol.specs.declared.party.Party.{Party};
 ghost use Rattle.slate_protocol.specs.declared.party.Purpose.TheVariants.{Passing};
@@ -25,14 +24,18 @@ ghost use Rattle.slate_protocol.specs.declared.party.State.TheVariants.{Busy};
 /// Where no other party steps between the list of a pass and its end, and none of its calls faults, the manifests left are
 /// those that its list found, less what it picks.
 pub fn undisturbed_pass()
-    ensures { (specs : List DbSpec) (events : List Event) (n : ℕ) (p : Party) (pass : GcMessage) (min_age : ℕ) (dry_run : Bool) (filter : FilterWord)
+    ensures { (specs : List DbSpec) (events : List Event) (n : ℕ) (p : Party)
+        (pass : GcMessage) (min_age : ℕ) (dry_run : Bool) (filter : FilterWord)
         (now : ℤ) (moments : List ℤ) (last : ℤ) (done : Transition) (picked deleted failed : ℕ)
         → IsAccepted specs
-        → party_of n (world_after events (opening_world specs)).parties ≡ Some p
-        → p.state ≡ Busy (Pass pass min_age dry_run filter) Passing (at_pass p.facts.db (pass_options min_age dry_run filter) Listing)
-        → happens (world_after (steps_alone n (now ∷ moments)) (world_after events (opening_world specs))) (Step n last Good) ≡ Some done
+        → party_of n (world_at_end specs events).parties ≡ Some p
+        → p.state ≡ Busy (Pass pass min_age dry_run filter) Passing
+        (at_pass p.facts.db (pass_options min_age dry_run filter) Listing)
+        → happens (world_after (steps_alone n (now ∷ moments)) (world_at_end specs events)) (Step n last Good)
+        ≡ Some done
         → reply_at done.entry ≡ Some (reply.Pass picked deleted failed)
         → listed (Manifests p.facts.db) done.world.store
-        ≡ without (picks_in (pass_options min_age dry_run filter) now p.facts.db (world_after events (opening_world specs)).store)
-        (listed (Manifests p.facts.db) (world_after events (opening_world specs)).store) }
+        ≡ without
+        (picks_in (pass_options min_age dry_run filter) now p.facts.db (world_at_end specs events).store)
+        (listed (Manifests p.facts.db) (world_at_end specs events).store) }
 {}

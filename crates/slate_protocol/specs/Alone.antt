@@ -16,7 +16,8 @@ use Rattle.slate_log.specs.Boundary.{greatest}
 use Rattle.slate_log.specs.LogPaths.{version_path, boundary_path, number_of}
 use Rattle.slate_log.specs.declared.log_kind.LogKind.TheVariants.{Manifest as ManifestLog}
 use Rattle.slate_gc.specs.declared.pass_options.PassOptions.{PassOptions}
-use Rattle.slate_protocol.specs.Passes.{picks_of, numbers_or_none}
+use Rattle.slate_protocol.specs.Passes.{picks_of}
+use Rattle.slate_protocol.specs.Specs.{listed_or_none}
 
 -- the steps of a party alone, at these moments and without a fault
 abbrev pub steps_alone : ℕ → List ℤ → List Event
@@ -36,7 +37,7 @@ greatest_object db s (Some n) = object_at (version_path ManifestLog db n) s
 -- what a pass picks that lists a store at a moment, and reads the version and the boundary of the same store
 abbrev pub picks_in : PassOptions → ℤ → List ℕ → Store → List ℕ
 picks_in options now db s =
-    numbers_or_none (picks_of options (Found (listed (Manifests db) s), now) (Got (greatest_object db s (greatest ManifestLog (listed (Manifests db) s))), now) (Got (object_at (boundary_path ManifestLog db) s), now))
+    listed_or_none (picks_of options (Found (listed (Manifests db) s), now) (Got (greatest_object db s (greatest ManifestLog (listed (Manifests db) s))), now) (Got (object_at (boundary_path ManifestLog db) s), now))
 
 -- whether a number is one of these
 abbrev pub is_one_of : List ℕ → Option ℕ → Bool

@@ -7,20 +7,24 @@ use Rattle.slate_events.specs.declared.event.Event.{Event}
 use Rattle.slate_protocol.specs.ByRows.{nobody, trail_by}
 use Rattle.slate_protocol.specs.Chains.{top, IsChain, bound_in, AgreesAt}
 use Rattle.slate_protocol.specs.Fenced.{IsFenced}
-use Rattle.slate_protocol.specs.Logs.{Chain, Chains, manifests, chains_of, opening_chains}
+use Rattle.slate_protocol.specs.Logs.{Chain, Chains, manifests, chains_of, opening_chains, world_after}
 use Rattle.slate_protocol.specs.Passes.{ExactPasses}
 use Rattle.slate_protocol.specs.Runs.{Course, opening, run}
 use Rattle.slate_protocol.specs.Safe.{gone, IsSafe}
 use Rattle.slate_protocol.specs.Specs.{is_named_spec, cause_of_specs, opening_world}
 use Rattle.slate_protocol.specs.Trails.{numbered, store_of, told}
-use Rattle.slate_protocol.specs.World.{tally_of, HasDb}
+use Rattle.slate_protocol.specs.World.{World, tally_of, HasDb}
 
 -- accepted databases: no cause refuses them, each has a name, and the ids of their tables are ids
 pub record IsAccepted (specs : List DbSpec) : Type 0 where
   pub accepted : cause_of_specs specs ≡ None
   pub named : list_all is_named_spec specs ≡ true
 
--- the chains after events on these databases
+-- the state after events on these databases, up to the first bad one
+abbrev pub world_at_end : List DbSpec → List Event → World
+world_at_end specs events = world_after events (opening_world specs)
+
+-- the chains after them
 abbrev pub chains_at_end : List DbSpec → List Event → Chains
 chains_at_end specs events = chains_of events (opening_world specs) (opening_chains specs)
 

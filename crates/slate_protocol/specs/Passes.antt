@@ -1,6 +1,5 @@
 -- What a pass picks of what it read, and the deletes that it makes: one for each pick, in their order.
 use Rattle.std.specs.Prelude.{◌≡◌, ℕ, ℤ, nat_le, Bool, true, false, List, [], ◌∷◌, ◌++◌, map, filter, length, Option, Some, None, Result, Ok, if◌then◌else◌}
-use Rattle.slate_ids.specs.Limits.{next_count}
 use Rattle.slate_ids.specs.declared.error.SlateDBError.{SlateDBError}
 use Rattle.slate_manifest_parts.specs.Decoding.{decoded_manifest}
 use Rattle.slate_model.specs.declared.manifest.Manifest.{Manifest}
@@ -19,7 +18,7 @@ use Rattle.slate_events.specs.declared.reply.Reply.TheVariants as reply
 use Rattle.slate_log.specs.Boundary.{boundary_got, greatest}
 use Rattle.slate_log.specs.LogPaths.{version_path}
 use Rattle.slate_log.specs.declared.log_kind.LogKind.TheVariants.{Manifest as ManifestLog}
-use Rattle.slate_gc.specs.Pass.{counts_of}
+use Rattle.slate_gc.specs.Pass.{counts_of, one_deleted, one_failed}
 use Rattle.slate_gc.specs.Picks.{dated, candidates, picks}
 use Rattle.slate_gc.specs.declared.pass_counts.PassCounts.{PassCounts}
 use Rattle.slate_gc.specs.declared.pass_options.PassOptions.{PassOptions}
@@ -27,6 +26,7 @@ use Rattle.slate_protocol.specs.ByRows.{Doing, Answers, Standing, Standings, ent
 use Rattle.slate_protocol.specs.Calls.{Next, Go, Finish, pass_options, follow, begin}
 use Rattle.slate_protocol.specs.Phrases.{asks, goes}
 use Rattle.slate_protocol.specs.Rows.{Answered, stands_after}
+use Rattle.slate_protocol.specs.Specs.{listed_or_none}
 use Rattle.slate_protocol.specs.declared.party.Facts.{Facts}
 use Rattle.slate_protocol.specs.declared.party.Purpose.TheVariants.{Passing}
 use Rattle.slate_store.specs.Store.{Store}
@@ -55,14 +55,9 @@ pass_answers facts call (Finish reply) (a ∷ answers) = []
 pass_answers facts call (Go Passing position) (a ∷ answers) = a ∷ answers
 pass_answers facts call (Go purpose position) (a ∷ answers) = pass_answers facts call (follow facts call purpose a.1 (goes position a.1 a.0)) answers
 
--- the numbers, where there are some
-abbrev pub numbers_or_none : Option (List ℕ) → List ℕ
-numbers_or_none None = []
-numbers_or_none (Some ns) = ns
-
 -- what a pass picks, by its answers so far
 abbrev pub picked : Facts → Call → PassOptions → List Answered → List ℕ
-picked facts call options answers = numbers_or_none (picks_read options (pass_answers facts call (begin facts call) answers))
+picked facts call options answers = listed_or_none (picks_read options (pass_answers facts call (begin facts call) answers))
 
 -- ---- what is deleted
 
@@ -94,8 +89,8 @@ calls_of ms = map (λ m. m.call) ms
 
 -- one delete more: it failed where it faulted
 abbrev pub with_delete : StoreAnswer → PassCounts → PassCounts
-with_delete Fault counts = record counts { failed = next_count counts.failed }
-with_delete answer counts = record counts { deleted = next_count counts.deleted }
+with_delete Fault counts = one_failed counts
+with_delete answer counts = one_deleted counts
 
 -- the counts after deletes
 abbrev pub with_deletes : PassCounts → List Made → PassCounts
