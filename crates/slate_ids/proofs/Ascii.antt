@@ -1,11 +1,12 @@
 -- Letters below 128 are text.
-use Rattle.std.proofs.Common.{◌≡◌, ℕ, ◌<◌, ◌&&◌, nat_lt, nat_le, Bool, true, List, [], ◌∷◌, length, refl, arith}
+use Rattle.std.proofs.Common.{◌≡◌, ℕ, ◌<◌, ◌&&◌, nat_lt, nat_le, Bool, true, List, [], ◌∷◌, length, codes, refl, arith}
 use Rattle.std.proofs.lemmas.Bool.Decides.{nat_tests}
 use Rattle.std.proofs.lemmas.Str.{IsUtf8-from_ascii, IsAscii-append}
 use Rattle.std.proofs.lemmas.Str.Ascii.{IsAscii-cons}
 use Rattle.std.specs.List.{list_all}
 use Rattle.std.specs.Str.{IsAscii, IsUtf8}
 use Rattle.slate_ids.specs.Ids.{is_db_path, is_path_char}
+use Rattle.slate_ids.specs.Numerals.{numeral}
 use Rattle.slate_ids.specs.UlidText.{id_letters, ulid_text}
 use Rattle.slate_ids.proofs.Numerals.{numeral-IsAscii}
 
@@ -37,3 +38,7 @@ name_utf8 s h = IsUtf8-from_ascii s (IsAscii-from_name s (name_rest (nat_lt 0 (l
 pub id_utf8 : (u : ℕ × ℕ) → IsUtf8 (ulid_text u)
 unfolding ulid_text
 id_utf8 u = IsUtf8-from_ascii _ (IsAscii-append _ _ (numeral-IsAscii id_letters 10 u.0 (IsAscii-from_all id_letters refl)) (numeral-IsAscii id_letters 16 u.1 (IsAscii-from_all id_letters refl)))
+
+-- the digits of a number are text
+pub digits_utf8 : (k n : ℕ) → IsUtf8 (numeral (codes "0123456789") k n)
+digits_utf8 k n = IsUtf8-from_ascii _ (numeral-IsAscii (codes "0123456789") k n (IsAscii-from_all (codes "0123456789") refl))

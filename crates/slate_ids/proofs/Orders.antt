@@ -1,5 +1,5 @@
 -- How texts order that begin with parts of one length, and numbers of one width.
-use Rattle.std.proofs.Common.{◌≡◌, ℕ, zero, suc, ◌+◌, ◌<◌, ◌^◌, ◌/◌, ◌%◌, List, [], ◌∷◌, ◌++◌, length, get_or, codes, append_assoc, refl, sym, ap, ◌∙◌, arith}
+use Rattle.std.proofs.Common.{◌≡◌, ℕ, zero, suc, ◌+◌, ◌<◌, ◌^◌, ◌/◌, ◌%◌, List, [], ◌∷◌, ◌++◌, length, get_or, codes, refl, sym, ap, ◌∙◌, arith}
 use Rattle.std.proofs.lemmas.Bool.Decides.{nat_tests}
 use Rattle.std.proofs.lemmas.Cmp.{ranked}
 use Rattle.std.specs.Ordering.{MatchOrdering, nat_cmp, ordering_then}
@@ -7,9 +7,10 @@ use Rattle.std.specs.Cmp.Lexicographic.{slice_cmp}
 use Rattle.std.specs.declared.cmp.Ordering.{Ordering}
 use Rattle.std.specs.declared.cmp.Ordering.TheVariants.{Less, Equal, Greater}
 use Rattle.slate_ids.specs.Numerals.{numeral}
-use Rattle.slate_ids.specs.PathText.{db_of, path_text, path_cmp}
+use Rattle.slate_ids.specs.PathText.{front_of, suffix_of, kind_text, db_of, path_text, path_cmp}
 use Rattle.slate_ids.specs.Twenty.{twenty}
-use Rattle.slate_ids.specs.UlidText.{ulid_text}
+use Rattle.slate_ids.specs.declared.folder.Folder.TheVariants.{Manifests, Records, Wals}
+use Rattle.slate_ids.specs.declared.path_kind.PathKind.TheVariants as kind
 use Rattle.slate_ids.specs.declared.object_path.ObjectPath.{ObjectPath}
 use Rattle.slate_ids.specs.declared.object_path.ObjectPath.TheVariants.{Manifest, Record, ManifestBoundary, RecordBoundary, Table, Wal, Marker, Other}
 use Rattle.slate_ids.proofs.Digits.{twenty-numeral, digit}
@@ -86,24 +87,24 @@ itself (x ∷ a) = ap (λ o. ordering_then o (slice_cmp nat_cmp a a)) (equal x x
 
 -- what follows the database in the text of a path
 abbrev tail : ObjectPath → List ℕ
-tail (Manifest db n) = codes "/manifest/" ++ (twenty n ++ codes ".manifest")
-tail (Record db n) = codes "/compactions/" ++ (twenty n ++ codes ".compactions")
-tail (ManifestBoundary db) = codes "/gc/manifest.boundary"
-tail (RecordBoundary db) = codes "/gc/compactions.boundary"
-tail (Table db id) = codes "/compacted/" ++ (ulid_text id ++ codes ".sst")
-tail (Wal db n) = codes "/wal/" ++ (twenty n ++ codes ".sst")
-tail (Marker db) = codes "/.deleting"
-tail (Other db rest) = codes "/" ++ rest
+tail (Manifest db n) = 47 ∷ kind_text (kind.Manifest n)
+tail (Record db n) = 47 ∷ kind_text (kind.Record n)
+tail (ManifestBoundary db) = 47 ∷ kind_text kind.ManifestBoundary
+tail (RecordBoundary db) = 47 ∷ kind_text kind.RecordBoundary
+tail (Table db id) = 47 ∷ kind_text (kind.Table id)
+tail (Wal db n) = 47 ∷ kind_text (kind.Wal n)
+tail (Marker db) = 47 ∷ kind_text kind.Marker
+tail (Other db rest) = 47 ∷ rest
 
 behind_db : (p : ObjectPath) → path_text p ≡ db_of p ++ tail p
-behind_db (Manifest db n) = simp append_assoc
-behind_db (Record db n) = simp append_assoc
+behind_db (Manifest db n) = refl
+behind_db (Record db n) = refl
 behind_db (ManifestBoundary db) = refl
 behind_db (RecordBoundary db) = refl
-behind_db (Table db id) = simp append_assoc
-behind_db (Wal db n) = simp append_assoc
+behind_db (Table db id) = refl
+behind_db (Wal db n) = refl
 behind_db (Marker db) = refl
-behind_db (Other db rest) = simp append_assoc
+behind_db (Other db rest) = refl
 
 -- databases whose names are as long decide, and else what follows them
 pub paths_by_db : (p q : ObjectPath) → length (db_of p) ≡ length (db_of q) → path_cmp p q ≡ ordering_then (slice_cmp nat_cmp (db_of p) (db_of q)) (slice_cmp nat_cmp (tail p) (tail q))
@@ -122,10 +123,17 @@ numbers_between front end n m h l =
 
 -- versions of one log order by their numbers
 pub manifests_order : (a b : List ℕ) (n m : ℕ) → length a ≡ length b → slice_cmp nat_cmp a b ≡ Equal → n < 2 ^ 64 → m < 2 ^ 64 → path_cmp (Manifest a n) (Manifest b m) ≡ nat_cmp n m
-manifests_order a b n m s e h l = paths_by_db (Manifest a n) (Manifest b m) s ∙ ap (λ o. ordering_then o (slice_cmp nat_cmp (tail (Manifest a n)) (tail (Manifest b m)))) e ∙ numbers_between (codes "/manifest/") (codes ".manifest") n m h l
+manifests_order a b n m s e h l = paths_by_db (Manifest a n) (Manifest b m) s ∙ ap (λ o. ordering_then o (slice_cmp nat_cmp (tail (Manifest a n)) (tail (Manifest b m)))) e ∙ numbers_between (47 ∷ front_of Manifests) (suffix_of Manifests) n m h l
 
 pub records_order : (a b : List ℕ) (n m : ℕ) → length a ≡ length b → slice_cmp nat_cmp a b ≡ Equal → n < 2 ^ 64 → m < 2 ^ 64 → path_cmp (Record a n) (Record b m) ≡ nat_cmp n m
-records_order a b n m s e h l = paths_by_db (Record a n) (Record b m) s ∙ ap (λ o. ordering_then o (slice_cmp nat_cmp (tail (Record a n)) (tail (Record b m)))) e ∙ numbers_between (codes "/compactions/") (codes ".compactions") n m h l
+records_order a b n m s e h l = paths_by_db (Record a n) (Record b m) s ∙ ap (λ o. ordering_then o (slice_cmp nat_cmp (tail (Record a n)) (tail (Record b m)))) e ∙ numbers_between (47 ∷ front_of Records) (suffix_of Records) n m h l
+
+-- the same of paths that are records
+pub are_records_order : (p q : ObjectPath) (a b : List ℕ) (n m : ℕ) → p ≡ Record a n → q ≡ Record b m → length (db_of p) ≡ length (db_of q) → slice_cmp nat_cmp (db_of p) (db_of q) ≡ Equal → n < 2 ^ 64 → m < 2 ^ 64 → path_cmp p q ≡ nat_cmp n m
+are_records_order p q a b n m is is_too s e h l =
+    let long : length a ≡ length b = sym (ap (λ (r : ObjectPath). length (db_of r)) is) ∙ s ∙ ap (λ (r : ObjectPath). length (db_of r)) is_too in
+    let same : slice_cmp nat_cmp a b ≡ Equal = sym (ap (λ (r : ObjectPath). slice_cmp nat_cmp (db_of r) (db_of q)) is ∙ ap (λ (r : ObjectPath). slice_cmp nat_cmp a (db_of r)) is_too) ∙ e in
+    rw (is, is_too) (records_order a b n m long same h l)
 
 pub wals_order : (a b : List ℕ) (n m : ℕ) → length a ≡ length b → slice_cmp nat_cmp a b ≡ Equal → n < 2 ^ 64 → m < 2 ^ 64 → path_cmp (Wal a n) (Wal b m) ≡ nat_cmp n m
-wals_order a b n m s e h l = paths_by_db (Wal a n) (Wal b m) s ∙ ap (λ o. ordering_then o (slice_cmp nat_cmp (tail (Wal a n)) (tail (Wal b m)))) e ∙ numbers_between (codes "/wal/") (codes ".sst") n m h l
+wals_order a b n m s e h l = paths_by_db (Wal a n) (Wal b m) s ∙ ap (λ o. ordering_then o (slice_cmp nat_cmp (tail (Wal a n)) (tail (Wal b m)))) e ∙ numbers_between (47 ∷ front_of Wals) (suffix_of Wals) n m h l

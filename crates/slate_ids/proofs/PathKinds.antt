@@ -7,7 +7,10 @@ use Rattle.std.specs.Str.{bytes_eq}
 use Rattle.slate_ids.specs.Numerals.{number_of}
 use Rattle.slate_ids.specs.UlidText.{ulid_text, ulid_of}
 use Rattle.slate_ids.specs.Twenty.{twenty}
-use Rattle.slate_ids.specs.PathKind.{strip_front, middle, twenty_of, numbered, table_of, single_of, or_else, kind_of, kind_text}
+use Rattle.slate_ids.specs.PathKind.{strip_front, middle, twenty_of, numbered, table_of, single_of, or_else, kind_of}
+use Rattle.slate_ids.specs.PathText.{front_of, suffix_of, in_folder, kind_text}
+use Rattle.slate_ids.specs.declared.folder.Folder.{Folder}
+use Rattle.slate_ids.specs.declared.folder.Folder.TheVariants.{Manifests, Records, Tables, Wals}
 use Rattle.slate_ids.specs.declared.path_kind.PathKind.{PathKind}
 use Rattle.slate_ids.specs.declared.path_kind.PathKind.TheVariants.{Manifest, Record, ManifestBoundary, RecordBoundary, Table, Wal, Marker}
 use Rattle.slate_ids.proofs.Digits.{twenty-numeral}
@@ -42,33 +45,33 @@ twenty_shown text n h =
     let less : k < 2 ^ 64 = let t = s.0 in grind (arith, nat_tests) in
     rw (← same) (twenty-numeral k less ∙ number_letters tens text 20 k size e))
 
-numbered_read : (front end : List ℕ) (n : ℕ) → n < 2 ^ 64 → numbered front end (front ++ (twenty n ++ end)) ≡ Some n
+numbered_read : (folder : Folder) (n : ℕ) → n < 2 ^ 64 → numbered folder (in_folder folder (twenty n)) ≡ Some n
 unfolding numbered
-numbered_read front end n l = ap (option_and_then twenty_of) (middle_off front end (twenty n)) ∙ twenty_read n l
+numbered_read folder n l = ap (option_and_then twenty_of) (middle_off (front_of folder) (suffix_of folder) (twenty n)) ∙ twenty_read n l
 
-numbered_shown : (front end text : List ℕ) (n : ℕ) → numbered front end text ≡ Some n → front ++ (twenty n ++ end) ≡ text
+numbered_shown : (folder : Folder) (text : List ℕ) (n : ℕ) → numbered folder text ≡ Some n → in_folder folder (twenty n) ≡ text
 unfolding numbered
-numbered_shown front end text n h = option_and_then_some twenty_of (middle front end text) n h (λ name e f.
-    ap (λ (r : List ℕ). front ++ (r ++ end)) (twenty_shown name n f) ∙ middle_on front end text name e)
+numbered_shown folder text n h = option_and_then_some twenty_of (middle (front_of folder) (suffix_of folder) text) n h (λ name e f.
+    ap (in_folder folder) (twenty_shown name n f) ∙ middle_on (front_of folder) (suffix_of folder) text name e)
 
-numbered_none : (front end text : List ℕ) → strip_front front text ≡ None → numbered front end text ≡ None
+numbered_none : (folder : Folder) (text : List ℕ) → strip_front (front_of folder) text ≡ None → numbered folder text ≡ None
 unfolding numbered
-numbered_none front end text h = ap (option_and_then twenty_of) (middle_none front end text h)
+numbered_none folder text h = ap (option_and_then twenty_of) (middle_none (front_of folder) (suffix_of folder) text h)
 
-table_read : (id : ℕ × ℕ) → ulid_of (ulid_text id) ≡ Some id → table_of (codes "compacted/" ++ (ulid_text id ++ codes ".sst")) ≡ Some id
+table_read : (id : ℕ × ℕ) → ulid_of (ulid_text id) ≡ Some id → table_of (in_folder Tables (ulid_text id)) ≡ Some id
 unfolding table_of
-table_read id h = ap (option_and_then ulid_of) (middle_off (codes "compacted/") (codes ".sst") (ulid_text id)) ∙ h
+table_read id h = ap (option_and_then ulid_of) (middle_off (front_of Tables) (suffix_of Tables) (ulid_text id)) ∙ h
 
-table_shown : (text : List ℕ) (id : ℕ × ℕ) → table_of text ≡ Some id → codes "compacted/" ++ (ulid_text id ++ codes ".sst") ≡ text
+table_shown : (text : List ℕ) (id : ℕ × ℕ) → table_of text ≡ Some id → in_folder Tables (ulid_text id) ≡ text
 unfolding table_of
-table_shown text id h = option_and_then_some ulid_of (middle (codes "compacted/") (codes ".sst") text) id h (λ name e f.
-    ap (λ (r : List ℕ). codes "compacted/" ++ (r ++ codes ".sst")) (ulid_shown name id f) ∙ middle_on (codes "compacted/") (codes ".sst") text name e)
+table_shown text id h = option_and_then_some ulid_of (middle (front_of Tables) (suffix_of Tables) text) id h (λ name e f.
+    ap (in_folder Tables) (ulid_shown name id f) ∙ middle_on (front_of Tables) (suffix_of Tables) text name e)
 
-table_none : (text : List ℕ) → strip_front (codes "compacted/") text ≡ None → table_of text ≡ None
+table_none : (text : List ℕ) → strip_front (front_of Tables) text ≡ None → table_of text ≡ None
 unfolding table_of
-table_none text h = ap (option_and_then ulid_of) (middle_none (codes "compacted/") (codes ".sst") text h)
+table_none text h = ap (option_and_then ulid_of) (middle_none (front_of Tables) (suffix_of Tables) text h)
 
-single_case : (a b c : Bool) (text : List ℕ) (k : PathKind) → (a ≡ true → text ≡ codes "gc/manifest.boundary") → (b ≡ true → text ≡ codes "gc/compactions.boundary") → (c ≡ true → text ≡ codes ".deleting") → (if a then Some ManifestBoundary else (if b then Some RecordBoundary else (if c then Some Marker else None))) ≡ Some k → kind_text k ≡ text
+single_case : (a b c : Bool) (text : List ℕ) (k : PathKind) → (a ≡ true → text ≡ kind_text ManifestBoundary) → (b ≡ true → text ≡ kind_text RecordBoundary) → (c ≡ true → text ≡ kind_text Marker) → (if a then Some ManifestBoundary else (if b then Some RecordBoundary else (if c then Some Marker else None))) ≡ Some k → kind_text k ≡ text
 single_case true b c text k f g h e = let same : ManifestBoundary ≡ k = cc in rw (← same) (sym (f refl))
 single_case false true c text k f g h e = let same : RecordBoundary ≡ k = cc in rw (← same) (sym (g refl))
 single_case false false true text k f g h e = let same : Marker ≡ k = cc in rw (← same) (sym (h refl))
@@ -76,7 +79,7 @@ single_case false false false text k f g h e = absurd cc
 
 single_shown : (text : List ℕ) (k : PathKind) → single_of text ≡ Some k → kind_text k ≡ text
 unfolding single_of
-single_shown text k h = single_case (bytes_eq text (codes "gc/manifest.boundary")) (bytes_eq text (codes "gc/compactions.boundary")) (bytes_eq text (codes ".deleting")) text k (same_bytes _ _) (same_bytes _ _) (same_bytes _ _) h
+single_shown text k h = single_case (bytes_eq text (kind_text ManifestBoundary)) (bytes_eq text (kind_text RecordBoundary)) (bytes_eq text (kind_text Marker)) text k (same_bytes _ _) (same_bytes _ _) (same_bytes _ _) h
 
 -- the parts of a kind are those of a path
 abbrev pub KindFits : PathKind → Type 0
@@ -88,36 +91,36 @@ KindFits (Table id) = ulid_of (ulid_text id) ≡ Some id
 KindFits (Wal n) = n < 2 ^ 64
 KindFits Marker = Unit {0}
 
-no_manifest : (text : List ℕ) → strip_front (codes "manifest/") text ≡ None → kind_of text ≡ or_else (option_map Record (numbered (codes "compactions/") (codes ".compactions") text)) (or_else (option_map Wal (numbered (codes "wal/") (codes ".sst") text)) (or_else (option_map Table (table_of text)) (single_of text)))
+no_manifest : (text : List ℕ) → strip_front (front_of Manifests) text ≡ None → kind_of text ≡ or_else (option_map Record (numbered Records text)) (or_else (option_map Wal (numbered Wals text)) (or_else (option_map Table (table_of text)) (single_of text)))
 unfolding kind_of
-no_manifest text h = rw (numbered_none (codes "manifest/") (codes ".manifest") text h)
+no_manifest text h = rw (numbered_none Manifests text h)
 
-no_record : (text : List ℕ) → strip_front (codes "manifest/") text ≡ None → strip_front (codes "compactions/") text ≡ None → kind_of text ≡ or_else (option_map Wal (numbered (codes "wal/") (codes ".sst") text)) (or_else (option_map Table (table_of text)) (single_of text))
-no_record text h i = no_manifest text h ∙ rw (numbered_none (codes "compactions/") (codes ".compactions") text i)
+no_record : (text : List ℕ) → strip_front (front_of Manifests) text ≡ None → strip_front (front_of Records) text ≡ None → kind_of text ≡ or_else (option_map Wal (numbered Wals text)) (or_else (option_map Table (table_of text)) (single_of text))
+no_record text h i = no_manifest text h ∙ rw (numbered_none Records text i)
 
-no_wal : (text : List ℕ) → strip_front (codes "manifest/") text ≡ None → strip_front (codes "compactions/") text ≡ None → strip_front (codes "wal/") text ≡ None → kind_of text ≡ or_else (option_map Table (table_of text)) (single_of text)
-no_wal text h i j = no_record text h i ∙ rw (numbered_none (codes "wal/") (codes ".sst") text j)
+no_wal : (text : List ℕ) → strip_front (front_of Manifests) text ≡ None → strip_front (front_of Records) text ≡ None → strip_front (front_of Wals) text ≡ None → kind_of text ≡ or_else (option_map Table (table_of text)) (single_of text)
+no_wal text h i j = no_record text h i ∙ rw (numbered_none Wals text j)
 
-no_table : (text : List ℕ) → strip_front (codes "manifest/") text ≡ None → strip_front (codes "compactions/") text ≡ None → strip_front (codes "wal/") text ≡ None → strip_front (codes "compacted/") text ≡ None → kind_of text ≡ single_of text
+no_table : (text : List ℕ) → strip_front (front_of Manifests) text ≡ None → strip_front (front_of Records) text ≡ None → strip_front (front_of Wals) text ≡ None → strip_front (front_of Tables) text ≡ None → kind_of text ≡ single_of text
 no_table text h i j k = no_wal text h i j ∙ rw (table_none text k)
 
 -- a kind is read back from its text
 pub kind_read : (k : PathKind) → KindFits k → kind_of (kind_text k) ≡ Some k
 unfolding kind_of single_of strip_front
-kind_read (Manifest n) h = rw (numbered_read (codes "manifest/") (codes ".manifest") n h)
-kind_read (Record n) h = no_manifest (kind_text (Record n)) refl ∙ rw (numbered_read (codes "compactions/") (codes ".compactions") n h)
+kind_read (Manifest n) h = rw (numbered_read Manifests n h)
+kind_read (Record n) h = no_manifest (kind_text (Record n)) refl ∙ rw (numbered_read Records n h)
 kind_read ManifestBoundary h = no_table (kind_text ManifestBoundary) refl refl refl refl
 kind_read RecordBoundary h = no_table (kind_text RecordBoundary) refl refl refl refl
 kind_read (Table id) h = no_wal (kind_text (Table id)) refl refl refl ∙ rw (table_read id h)
-kind_read (Wal n) h = no_record (kind_text (Wal n)) refl refl ∙ rw (numbered_read (codes "wal/") (codes ".sst") n h)
+kind_read (Wal n) h = no_record (kind_text (Wal n)) refl refl ∙ rw (numbered_read Wals n h)
 kind_read Marker h = no_table (kind_text Marker) refl refl refl refl
 
 -- a kind that was read has the text
 pub kind_shown : (text : List ℕ) (k : PathKind) → kind_of text ≡ Some k → kind_text k ≡ text
 unfolding kind_of
 kind_shown text k h =
-    or_else_some _ _ k h (λ a. option_map_some Manifest _ k a (λ n e f. rw (← f) (numbered_shown (codes "manifest/") (codes ".manifest") text n e))) (λ b.
-    or_else_some _ _ k b (λ a. option_map_some Record _ k a (λ n e f. rw (← f) (numbered_shown (codes "compactions/") (codes ".compactions") text n e))) (λ b.
-    or_else_some _ _ k b (λ a. option_map_some Wal _ k a (λ n e f. rw (← f) (numbered_shown (codes "wal/") (codes ".sst") text n e))) (λ b.
+    or_else_some _ _ k h (λ a. option_map_some Manifest _ k a (λ n e f. rw (← f) (numbered_shown Manifests text n e))) (λ b.
+    or_else_some _ _ k b (λ a. option_map_some Record _ k a (λ n e f. rw (← f) (numbered_shown Records text n e))) (λ b.
+    or_else_some _ _ k b (λ a. option_map_some Wal _ k a (λ n e f. rw (← f) (numbered_shown Wals text n e))) (λ b.
     or_else_some _ _ k b (λ a. option_map_some Table _ k a (λ id e f. rw (← f) (table_shown text id e))) (λ b.
     single_shown text k b))))

@@ -1,5 +1,5 @@
 -- Paths are read back from their texts.
-use Rattle.std.proofs.Common.{◌≡◌, ℕ, suc, ◌+◌, ◌<◌, ◌==◌, ◌&&◌, nat_lt, nat_le, not, Result, Ok, Err, IfOk, IfSome, Bool, true, false, List, [], ◌∷◌, ◌++◌, length, get_or, Option, Some, None, is_some, refl, sym, ap, subst, ◌∙◌, arith, if◌then◌else◌, append_assoc}
+use Rattle.std.proofs.Common.{◌≡◌, ℕ, suc, ◌+◌, ◌<◌, ◌==◌, ◌&&◌, nat_lt, nat_le, not, Result, Ok, Err, IfOk, IfSome, Bool, true, false, List, [], ◌∷◌, ◌++◌, length, get_or, Option, Some, None, is_some, refl, sym, ap, subst, ◌∙◌, arith, if◌then◌else◌}
 use Rattle.std.proofs.lemmas.List.{drop_all}
 use Rattle.std.proofs.lemmas.List.Sums.{split_at_first, passes_at_first}
 use Rattle.std.proofs.Math.Seq.{take-append_seam, drop-append-add}
@@ -8,8 +8,8 @@ use Rattle.std.proofs.lemmas.Bool.{eqb-true}
 use Rattle.std.proofs.lemmas.Bool.Decides.{nat_tests}
 use Rattle.std.specs.List.{before_first, after_first, position_or_len, list_all}
 use Rattle.slate_ids.specs.Ids.{is_db_path, is_path_char}
-use Rattle.slate_ids.specs.PathKind.{kind_of, kind_text, is_rest}
-use Rattle.slate_ids.specs.PathText.{path_text}
+use Rattle.slate_ids.specs.PathKind.{kind_of, is_rest}
+use Rattle.slate_ids.specs.PathText.{kind_text, path_text}
 use Rattle.slate_ids.specs.PathOf.{path_with, path_or, parts_path, path_of}
 use Rattle.slate_ids.specs.declared.path_kind.PathKind.{PathKind}
 use Rattle.slate_ids.specs.declared.path_kind.PathKind.TheVariants.{Manifest, Record, ManifestBoundary, RecordBoundary, Table, Wal, Marker}
@@ -20,16 +20,13 @@ use Rattle.slate_ids.proofs.UlidTexts.{if_some}
 
 -- the text of a path with a kind
 kind_behind : (db : List ℕ) (k : PathKind) → path_text (path_with db k) ≡ db ++ 47 ∷ kind_text k
-kind_behind db (Manifest n) = simp append_assoc
-kind_behind db (Record n) = simp append_assoc
+kind_behind db (Manifest n) = refl
+kind_behind db (Record n) = refl
 kind_behind db ManifestBoundary = refl
 kind_behind db RecordBoundary = refl
-kind_behind db (Table id) = simp append_assoc
-kind_behind db (Wal n) = simp append_assoc
+kind_behind db (Table id) = refl
+kind_behind db (Wal n) = refl
 kind_behind db Marker = refl
-
-rest_behind : (db rest : List ℕ) → path_text (Other db rest) ≡ db ++ 47 ∷ rest
-rest_behind db rest = simp append_assoc
 
 other_char : (c : ℕ) (b : Bool) → is_path_char c && b ≡ true → (c == 47) ≡ false
 other_char c b h = grind (arith, nat_tests)
@@ -90,11 +87,11 @@ is_there b rest h = grind (arith, nat_tests)
 -- any other path is read back from its text
 pub other_read : (db rest : List ℕ) → is_db_path db ≡ true → is_rest rest ≡ true → path_of (path_text (Other db rest)) ≡ Some (Other db rest)
 unfolding is_rest
-other_read db rest h r = ap path_of (rest_behind db rest) ∙ path_read db rest None h (is_there (not (is_some (kind_of rest))) rest r) (no_kind (nat_lt 0 (length rest)) (kind_of rest) r)
+other_read db rest h r = path_read db rest None h (is_there (not (is_some (kind_of rest))) rest r) (no_kind (nat_lt 0 (length rest)) (kind_of rest) r)
 
 or_shown : (db rest : List ℕ) (o : Option PathKind) → kind_of rest ≡ o → path_text (path_or db rest o) ≡ db ++ 47 ∷ rest
 or_shown db rest (Some k) e = kind_behind db k ∙ ap (λ (r : List ℕ). db ++ 47 ∷ r) (kind_shown rest k e)
-or_shown db rest None e = rest_behind db rest
+or_shown db rest None e = refl
 
 parts_shown : (db rest : List ℕ) (p : ObjectPath) → parts_path db rest ≡ Some p → (0 < length rest) × (path_text p ≡ db ++ 47 ∷ rest)
 unfolding parts_path

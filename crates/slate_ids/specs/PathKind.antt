@@ -1,9 +1,11 @@
--- What stands after a database and `/` in the paths of the kinds with a name.
-use Rattle.std.specs.Prelude.{ℕ, ◌-◌, ◌^◌, ◌&&◌, ◌==◌, nat_lt, Bool, not, List, ◌++◌, length, take, drop, Option, Some, None, option_and_then, option_map, is_some, if◌then◌else◌, codes}
+-- The kind that a text is of, by what stands after a database and `/`.
+use Rattle.std.specs.Prelude.{ℕ, ◌-◌, ◌^◌, ◌&&◌, ◌==◌, nat_lt, Bool, not, List, length, take, drop, Option, Some, None, option_and_then, option_map, is_some, if◌then◌else◌, codes}
 use Rattle.std.specs.Str.{bytes_eq}
 use Rattle.slate_ids.specs.Numerals.{number_of}
-use Rattle.slate_ids.specs.UlidText.{ulid_text, ulid_of}
-use Rattle.slate_ids.specs.Twenty.{twenty}
+use Rattle.slate_ids.specs.PathText.{front_of, suffix_of, kind_text}
+use Rattle.slate_ids.specs.UlidText.{ulid_of}
+use Rattle.slate_ids.specs.declared.folder.Folder.{Folder}
+use Rattle.slate_ids.specs.declared.folder.Folder.TheVariants.{Manifests, Records, Tables, Wals}
 use Rattle.slate_ids.specs.declared.path_kind.PathKind.{PathKind}
 use Rattle.slate_ids.specs.declared.path_kind.PathKind.TheVariants.{Manifest, Record, ManifestBoundary, RecordBoundary, Table, Wal, Marker}
 
@@ -23,17 +25,17 @@ middle front end text = option_and_then (strip_end end) (strip_front front text)
 unfoldable pub twenty_of : List ℕ → Option ℕ
 twenty_of text = if length text == 20 then option_and_then (λ n. if nat_lt n (2 ^ 64) then Some n else None) (number_of (codes "0123456789") text) else None
 
--- the number between a front and an end
-unfoldable pub numbered : List ℕ → List ℕ → List ℕ → Option ℕ
-numbered front end text = option_and_then twenty_of (middle front end text)
+-- the number that names an object of a folder
+unfoldable pub numbered : Folder → List ℕ → Option ℕ
+numbered folder text = option_and_then twenty_of (middle (front_of folder) (suffix_of folder) text)
 
--- the id of a table's name
+-- the id that names a table
 unfoldable pub table_of : List ℕ → Option (ℕ × ℕ)
-table_of text = option_and_then ulid_of (middle (codes "compacted/") (codes ".sst") text)
+table_of text = option_and_then ulid_of (middle (front_of Tables) (suffix_of Tables) text)
 
 -- the kinds of one object each
 unfoldable pub single_of : List ℕ → Option PathKind
-single_of text = if bytes_eq text (codes "gc/manifest.boundary") then Some ManifestBoundary else (if bytes_eq text (codes "gc/compactions.boundary") then Some RecordBoundary else (if bytes_eq text (codes ".deleting") then Some Marker else None))
+single_of text = if bytes_eq text (kind_text ManifestBoundary) then Some ManifestBoundary else (if bytes_eq text (kind_text RecordBoundary) then Some RecordBoundary else (if bytes_eq text (kind_text Marker) then Some Marker else None))
 
 -- the first of two that is there
 abbrev pub or_else : {A : Type 0} → Option A → Option A → Option A
@@ -42,17 +44,11 @@ or_else None o = o
 
 -- the kind whose form a text has
 unfoldable pub kind_of : List ℕ → Option PathKind
-kind_of text = or_else (option_map Manifest (numbered (codes "manifest/") (codes ".manifest") text)) (or_else (option_map Record (numbered (codes "compactions/") (codes ".compactions") text)) (or_else (option_map Wal (numbered (codes "wal/") (codes ".sst") text)) (or_else (option_map Table (table_of text)) (single_of text))))
-
--- the text of a kind
-abbrev pub kind_text : PathKind → List ℕ
-kind_text (Manifest n) = codes "manifest/" ++ twenty n ++ codes ".manifest"
-kind_text (Record n) = codes "compactions/" ++ twenty n ++ codes ".compactions"
-kind_text ManifestBoundary = codes "gc/manifest.boundary"
-kind_text RecordBoundary = codes "gc/compactions.boundary"
-kind_text (Table id) = codes "compacted/" ++ ulid_text id ++ codes ".sst"
-kind_text (Wal n) = codes "wal/" ++ twenty n ++ codes ".sst"
-kind_text Marker = codes ".deleting"
+kind_of text =
+    or_else (option_map Manifest (numbered Manifests text))
+    (or_else (option_map Record (numbered Records text))
+    (or_else (option_map Wal (numbered Wals text))
+    (or_else (option_map Table (table_of text)) (single_of text))))
 
 -- a text that is there and has the form of no kind
 unfoldable pub is_rest : List ℕ → Bool

@@ -1,7 +1,7 @@
--- A path's text in four pieces.
+-- A path's text in pieces.
 use Rattle.std.specs.Prelude.{ℕ, List, [], ◌++◌}
+use Rattle.slate_ids.specs.PathText.{behind, twenty}
 use Rattle.slate_ids.specs.UlidText.{ulid_text}
-use Rattle.slate_ids.specs.Twenty.{twenty}
 use Rattle.slate_ids.specs.declared.object_path.ObjectPath.{ObjectPath}
 use Rattle.slate_ids.specs.declared.object_path.ObjectPath.TheVariants.{Manifest, Record, ManifestBoundary, RecordBoundary, Table, Wal, Marker, Other}
 use Rattle.slate_ids.specs.declared.path_pieces.Name.{Name}
@@ -27,4 +27,4 @@ name_letters Nothing = []
 
 -- the whole text
 abbrev pub joined : Pieces → List ℕ
-joined p = p.db.now ++ p.folder.now ++ p.name.now ++ p.suffix.now
+joined p = behind p.db.now (p.front.now ++ (p.name.now ++ p.suffix.now))

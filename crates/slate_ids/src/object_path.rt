@@ -9,6 +9,7 @@ ghost use Rattle.slate_ids.specs.PathText.{db_of, path_cmp, path_text};
 use crate::db_path::DbPath;
 use crate::out_of_memory::OutOfMemory;
 use crate::path_order::compare;
+use crate::path_pieces::{Name, Pieces};
 use crate::path_rest::PathRest;
 use crate::ulid::Ulid;
 use std::alloc::Global;
@@ -115,44 +116,8 @@ impl fmt::Display for ObjectPath {
     ghost output = { λ p. Some (path_text p) };
 
     fn fmt<W: fmt::Write>(&self, f: &mut fmt::Formatter<W>) -> fmt::Result {
-        match self {
-            ObjectPath::Manifest(db, n) => {
-                let n = Twenty(*n);
-                write!(f, "{db}/manifest/{n}.manifest")
-            }
-            ObjectPath::Record(db, n) => {
-                let n = Twenty(*n);
-                write!(f, "{db}/compactions/{n}.compactions")
-            }
-            ObjectPath::ManifestBoundary(db) => write!(f, "{db}/gc/manifest.boundary"),
-            ObjectPath::RecordBoundary(db) => write!(f, "{db}/gc/compactions.boundary"),
-            ObjectPath::Table(db, id) => write!(f, "{db}/compacted/{id}.sst"),
-            ObjectPath::Wal(db, n) => {
-                let n = Twenty(*n);
-                write!(f, "{db}/wal/{n}.sst")
-            }
-            ObjectPath::Marker(db) => write!(f, "{db}/.deleting"),
-            ObjectPath::Other(db, rest) => {
-                let rest = rest.as_str();
-                write!(f, "{db}/{rest}")
-            }
-        }
-    }
-}
-
-/// A number as twenty digits.
-#[derive(Drop)]
-struct Twenty(u64);
-
-impl fmt::Display for Twenty {
-    ghost use Rattle.std.specs.Prelude.{Some};
-    ghost use Rattle.slate_ids.specs.Twenty.{twenty};
-
-    ghost output = { λ t. Some (twenty t.0) };
-
-    #[tactic(auto, using(crate::proofs::Padding::twenty_digits))]
-    fn fmt<W: fmt::Write>(&self, f: &mut fmt::Formatter<W>) -> fmt::Result {
-        let n = self.0;
-        write!(f, "{n:020}")
+        let name = Name::of(self);
+        let pieces = Pieces::of(self, &name);
+        write!(f, "{pieces}")
     }
 }

@@ -1,7 +1,9 @@
 //! What stands after a database and `/` in the paths of the kinds with a name.
 ghost use Rattle.std.specs.Prelude.{◌≡◌, option_map};
+ghost use Rattle.slate_ids.specs.PathText.{front_of, suffix_of};
 ghost use Rattle.slate_ids.specs.PathKind.{kind_of, middle, numbered, single_of, table_of, twenty_of};
 
+use crate::folder::{Folder, MANIFEST_BOUNDARY, MARKER, RECORD_BOUNDARY};
 use crate::numeral::read_numeral;
 use crate::ulid::Ulid;
 
@@ -17,12 +19,13 @@ pub(crate) enum PathKind {
     Marker,
 }
 
-// What stands between a front and an end.
+// The name in a text that begins and ends as those of a folder do.
 #[tactic(auto, unfolding(crate::specs::PathKind::middle, crate::specs::PathKind::strip_front, crate::specs::PathKind::strip_end))]
-fn middle<'a>(front: &[u8], end: &[u8], text: &'a [u8]) -> Option<&'a [u8]>
-    ensures { option_map (λ name. name.now) result ≡ middle front.now end.now text.now }
+fn name_in(folder: Folder, text: &[u8]) -> Option<&[u8]>
+    ensures { option_map (λ name. name.now) result ≡ middle (front_of folder) (suffix_of folder) text.now }
 {
-    text.strip_prefix(front)?.strip_suffix(end)
+    let named = text.strip_prefix(folder.front().as_bytes())?;
+    named.strip_suffix(folder.suffix().as_bytes())
 }
 
 // The number of twenty digits, below 2^64.
@@ -37,18 +40,20 @@ fn twenty_of(text: &[u8]) -> Option<u64>
     u64::try_from(number).ok()
 }
 
+// The number that names an object of a folder.
 #[tactic(auto, unfolding(crate::specs::PathKind::numbered))]
-fn numbered(front: &[u8], end: &[u8], text: &[u8]) -> Option<u64>
-    ensures { result ≡ numbered front.now end.now text.now }
+fn numbered(folder: Folder, text: &[u8]) -> Option<u64>
+    ensures { result ≡ numbered folder text.now }
 {
-    twenty_of(middle(front, end, text)?)
+    twenty_of(name_in(folder, text)?)
 }
 
+// The id that names a table.
 #[tactic(auto, unfolding(crate::specs::PathKind::table_of))]
 fn table_of(text: &[u8]) -> Option<Ulid>
     ensures { result ≡ table_of text.now }
 {
-    Ulid::from_letters(middle(b"compacted/", b".sst", text)?)
+    Ulid::from_letters(name_in(Folder::Tables, text)?)
 }
 
 // The kinds of one object each.
@@ -56,11 +61,11 @@ fn table_of(text: &[u8]) -> Option<Ulid>
 fn single_of(text: &[u8]) -> Option<PathKind>
     ensures { result ≡ single_of text.now }
 {
-    if text == b"gc/manifest.boundary".as_slice() {
+    if text == MANIFEST_BOUNDARY.as_bytes() {
         Some(PathKind::ManifestBoundary)
-    } else if text == b"gc/compactions.boundary".as_slice() {
+    } else if text == RECORD_BOUNDARY.as_bytes() {
         Some(PathKind::RecordBoundary)
-    } else if text == b".deleting".as_slice() {
+    } else if text == MARKER.as_bytes() {
         Some(PathKind::Marker)
     } else {
         None
@@ -72,13 +77,13 @@ fn single_of(text: &[u8]) -> Option<PathKind>
 pub(crate) fn kind_of(text: &[u8]) -> Option<PathKind>
     ensures { result ≡ kind_of text.now }
 {
-    if let Some(n) = numbered(b"manifest/", b".manifest", text) {
+    if let Some(n) = numbered(Folder::Manifests, text) {
         return Some(PathKind::Manifest(n));
     }
-    if let Some(n) = numbered(b"compactions/", b".compactions", text) {
+    if let Some(n) = numbered(Folder::Records, text) {
         return Some(PathKind::Record(n));
     }
-    if let Some(n) = numbered(b"wal/", b".sst", text) {
+    if let Some(n) = numbered(Folder::Wals, text) {
         return Some(PathKind::Wal(n));
     }
     if let Some(id) = table_of(text) {

@@ -1,15 +1,18 @@
-//! A path's text in four pieces, with no memory taken.
+//! A path's text in pieces, with no memory taken.
 ghost use Rattle.std.specs.Prelude.{◌≡◌};
 ghost use Rattle.std.specs.Ordering.{nat_cmp};
 ghost use Rattle.std.specs.Cmp.Lexicographic.{slice_cmp};
+ghost use Rattle.std.specs.Str.{IsUtf8};
 ghost use Rattle.slate_ids.specs.PathText.{path_text};
 ghost use Rattle.slate_ids.specs.Twenty.{twenty};
 ghost use Rattle.slate_ids.specs.Pieces.{joined, name_letters, name_of};
 
-use crate::db_path::DbPath;
+use crate::folder::{Folder, MANIFEST_BOUNDARY, MARKER, RECORD_BOUNDARY};
+use crate::letters::text_of;
 use crate::numeral::write_numeral;
 use crate::object_path::ObjectPath;
 use std::cmp::Ordering;
+use std::fmt;
 
 /// The digits of a path's number or id.
 #[derive(Drop)]
@@ -19,18 +22,19 @@ pub(crate) enum Name {
     Nothing,
 }
 
-/// A path's text: its database, what stands before its name, its name and what ends it.
+/// A path's text: its database, and after a `/` what stands before its name, its name and what ends it.
 #[derive(Drop)]
 pub(crate) struct Pieces<'a> {
-    db: &'a [u8],
-    folder: &'a [u8],
-    name: &'a [u8],
-    suffix: &'a [u8],
+    db: &'a str,
+    front: &'a str,
+    name: &'a str,
+    suffix: &'a str,
 }
 
-/// Twenty digits of a number.
-pub(crate) fn twenty_digits(n: u64) -> [u8; 20]
-    ensures { result ≡ twenty n }
+// Twenty digits of a number.
+fn twenty_digits(n: u64) -> [u8; 20]
+    ensures digits { result ≡ twenty n }
+    ensures text { IsUtf8 (twenty n) }
 {
     let mut block = [0; 20];
     write_numeral(&mut block, b"0123456789", n as u128);
@@ -40,24 +44,26 @@ pub(crate) fn twenty_digits(n: u64) -> [u8; 20]
 impl Name {
     /// The digits of a path's number or id.
     pub(crate) fn of(path: &ObjectPath) -> Name
-        ensures { name_letters result ≡ name_of path.now }
+        ensures name { name_letters result ≡ name_of path.now }
+        ensures text { IsUtf8 (name_of path.now) }
     {
         match path {
-            ObjectPath::Manifest(_, n) | ObjectPath::Record(_, n) | ObjectPath::Wal(_, n) => {
-                Name::Number(twenty_digits(*n))
-            }
+            ObjectPath::Manifest(_, n) => Name::Number(twenty_digits(*n)),
+            ObjectPath::Record(_, n) => Name::Number(twenty_digits(*n)),
+            ObjectPath::Wal(_, n) => Name::Number(twenty_digits(*n)),
             ObjectPath::Table(_, id) => Name::Id(id.letters()),
             _ => Name::Nothing,
         }
     }
 
-    fn letters(&self) -> &[u8]
+    fn as_str(&self) -> &str
+        requires { IsUtf8 (name_letters self.now) }
         ensures { result.now ≡ name_letters self.now }
     {
         match self {
-            Name::Number(block) => block,
-            Name::Id(block) => block,
-            Name::Nothing => &[],
+            Name::Number(block) => text_of(block),
+            Name::Id(block) => text_of(block),
+            Name::Nothing => "",
         }
     }
 }
@@ -65,23 +71,25 @@ impl Name {
 impl<'a> Pieces<'a> {
     /// The pieces of a path with this name.
     pub(crate) fn of(path: &'a ObjectPath, name: &'a Name) -> Pieces<'a>
-        requires { name_letters name.now ≡ name_of path.now }
+        requires name { name_letters name.now ≡ name_of path.now }
+        requires text { IsUtf8 (name_of path.now) }
         ensures { joined result ≡ path_text path.now }
     {
-        let name = name.letters();
-        let (db, folder, suffix): (&DbPath, &[u8], &[u8]) = match path {
-            ObjectPath::Manifest(db, _) => (db, b"/manifest/", b".manifest"),
-            ObjectPath::Record(db, _) => (db, b"/compactions/", b".compactions"),
-            ObjectPath::ManifestBoundary(db) => (db, b"/gc/manifest.boundary", b""),
-            ObjectPath::RecordBoundary(db) => (db, b"/gc/compactions.boundary", b""),
-            ObjectPath::Table(db, _) => (db, b"/compacted/", b".sst"),
-            ObjectPath::Wal(db, _) => (db, b"/wal/", b".sst"),
-            ObjectPath::Marker(db) => (db, b"/.deleting", b""),
-            ObjectPath::Other(db, rest) => (db, b"/", rest.as_str().as_bytes()),
+        let db = path.db().as_str();
+        let name = name.as_str();
+        let (front, suffix): (&str, &str) = match path {
+            ObjectPath::Manifest(_, _) => (Folder::Manifests.front(), Folder::Manifests.suffix()),
+            ObjectPath::Record(_, _) => (Folder::Records.front(), Folder::Records.suffix()),
+            ObjectPath::ManifestBoundary(_) => (MANIFEST_BOUNDARY, ""),
+            ObjectPath::RecordBoundary(_) => (RECORD_BOUNDARY, ""),
+            ObjectPath::Table(_, _) => (Folder::Tables.front(), Folder::Tables.suffix()),
+            ObjectPath::Wal(_, _) => (Folder::Wals.front(), Folder::Wals.suffix()),
+            ObjectPath::Marker(_) => (MARKER, ""),
+            ObjectPath::Other(_, rest) => (rest.as_str(), ""),
         };
         Pieces {
-            db: db.letters(),
-            folder,
+            db,
+            front,
             name,
             suffix,
         }
@@ -93,16 +101,34 @@ impl<'a> Pieces<'a> {
     {
         let own = self
             .db
+            .as_bytes()
             .iter()
-            .chain(self.folder)
-            .chain(self.name)
-            .chain(self.suffix);
+            .chain(b"/".as_slice())
+            .chain(self.front.as_bytes())
+            .chain(self.name.as_bytes())
+            .chain(self.suffix.as_bytes());
         let others = other
             .db
+            .as_bytes()
             .iter()
-            .chain(other.folder)
-            .chain(other.name)
-            .chain(other.suffix);
+            .chain(b"/".as_slice())
+            .chain(other.front.as_bytes())
+            .chain(other.name.as_bytes())
+            .chain(other.suffix.as_bytes());
         own.cmp(others)
+    }
+}
+
+impl fmt::Display for Pieces<'_> {
+    ghost use Rattle.std.specs.Prelude.{Some};
+
+    ghost output = { λ p. Some (joined p) };
+
+    fn fmt<W: fmt::Write>(&self, f: &mut fmt::Formatter<W>) -> fmt::Result {
+        let db = self.db;
+        let front = self.front;
+        let name = self.name;
+        let suffix = self.suffix;
+        write!(f, "{db}/{front}{name}{suffix}")
     }
 }

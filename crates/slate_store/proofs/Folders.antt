@@ -1,17 +1,20 @@
 -- The paths of a folder stand between its bounds.
-use Rattle.std.specs.Prelude.{codes, List, filter}
+use Rattle.std.specs.Prelude.{List, bytes_eq, filter}
 use Rattle.std.specs.declared.cmp.Ordering.{Ordering}
 use Rattle.std.specs.declared.cmp.Ordering.TheVariants.{Equal}
 use Rattle.std.specs.BTreeMap.Range.{IsLeBy, IsLtBy, range_contains, entries_between}
-use Rattle.std.specs.Ordering.{nat_cmp, ordering_then, is_le, is_gt}
+use Rattle.std.specs.Ordering.{nat_cmp, ordering_then, is_eq, is_le, is_gt}
 use Rattle.std.specs.Range.Bound.{IsForward}
 use Rattle.std.specs.Cmp.Lexicographic.{slice_cmp}
-use Rattle.std.proofs.Common.{◌≡◌, ℕ, Bool, true, false, ◌++◌, [], ◌∷◌, refl, ap, ◌∙◌, append_assoc, arith}
+use Rattle.std.proofs.Common.{◌≡◌, ℕ, Bool, true, false, ◌++◌, [], ◌∷◌, refl, sym, ap, ◌∙◌, arith}
 use Rattle.std.proofs.lemmas.Bool.Decides.{nat_tests}
+use Rattle.std.proofs.lemmas.Map.Text.{is_eq-slice_cmp}
 use Rattle.std.proofs.lemmas.Slice.Eq.{bytes_eq-Decides}
 use Rattle.slate_ids.specs.PathKind.{is_rest, kind_of, numbered, middle, strip_front, strip_end, table_of, single_of}
-use Rattle.slate_ids.specs.PathText.{path_text, path_cmp, twenty}
+use Rattle.slate_ids.specs.PathText.{front_of, past_of, suffix_of, in_folder, behind, path_text, path_cmp, twenty}
 use Rattle.slate_ids.specs.UlidText.{ulid_text}
+use Rattle.slate_ids.specs.declared.folder.Folder.{Folder}
+use Rattle.slate_ids.specs.declared.folder.Folder.TheVariants as folders
 use Rattle.slate_ids.specs.declared.object_path.ObjectPath.{ObjectPath}
 use Rattle.slate_ids.specs.declared.object_path.ObjectPath.TheVariants.{Manifest, Record, Table, Wal, Other}
 use Rattle.slate_store.specs.Folders.{is_in, from_to, bounds_of}
@@ -19,37 +22,25 @@ use Rattle.slate_store.specs.declared.list_dir.ListDir.{ListDir}
 use Rattle.slate_store.specs.declared.list_dir.ListDir.TheVariants.{Manifests, Records, Tables, Wals, All}
 use Rattle.slate_store.specs.declared.object.StoredObject.{StoredObject}
 
-pub manifests_from : is_rest (codes "manifest/") ≡ true
-unfolding is_rest kind_of numbered middle strip_front strip_end table_of single_of
-manifests_from = refl
+-- names are equal where their order says so
+pub same_name : (a b : List ℕ) → is_eq (slice_cmp nat_cmp a b) ≡ bytes_eq a b
+same_name = is_eq-slice_cmp
 
-pub manifests_to : is_rest (codes "manifest0") ≡ true
-unfolding is_rest kind_of numbered middle strip_front strip_end table_of single_of
-manifests_to = refl
+-- the bounds of a folder have the form of no kind
 
-pub records_from : is_rest (codes "compactions/") ≡ true
+pub front_is_rest : (folder : Folder) → is_rest (front_of folder) ≡ true
 unfolding is_rest kind_of numbered middle strip_front strip_end table_of single_of
-records_from = refl
+front_is_rest folders.Manifests = refl
+front_is_rest folders.Records = refl
+front_is_rest folders.Tables = refl
+front_is_rest folders.Wals = refl
 
-pub records_to : is_rest (codes "compactions0") ≡ true
+pub past_is_rest : (folder : Folder) → is_rest (past_of folder) ≡ true
 unfolding is_rest kind_of numbered middle strip_front strip_end table_of single_of
-records_to = refl
-
-pub tables_from : is_rest (codes "compacted/") ≡ true
-unfolding is_rest kind_of numbered middle strip_front strip_end table_of single_of
-tables_from = refl
-
-pub tables_to : is_rest (codes "compacted0") ≡ true
-unfolding is_rest kind_of numbered middle strip_front strip_end table_of single_of
-tables_to = refl
-
-pub wals_from : is_rest (codes "wal/") ≡ true
-unfolding is_rest kind_of numbered middle strip_front strip_end table_of single_of
-wals_from = refl
-
-pub wals_to : is_rest (codes "wal0") ≡ true
-unfolding is_rest kind_of numbered middle strip_front strip_end table_of single_of
-wals_to = refl
+past_is_rest folders.Manifests = refl
+past_is_rest folders.Records = refl
+past_is_rest folders.Tables = refl
+past_is_rest folders.Wals = refl
 
 same_digit : (x : ℕ) (o : Ordering) → ordering_then (nat_cmp x x) o ≡ o
 same_digit x o = ap (λ c. ordering_then c o) (itself x)
@@ -62,48 +53,51 @@ pub same_front : (front xs ys : List ℕ) → slice_cmp nat_cmp (front ++ xs) (f
 same_front [] xs ys = refl
 same_front (x ∷ front) xs ys = same_digit x (slice_cmp nat_cmp (front ++ xs) (front ++ ys)) ∙ same_front front xs ys
 
-behind : (db rest : List ℕ) → path_text (Other db rest) ≡ db ++ 47 ∷ rest
-behind db rest = simp append_assoc
-
 -- paths of a database order by what follows it
-after_db : (db from text : List ℕ) (path : ObjectPath) → path_text path ≡ db ++ text → path_cmp (Other db from) path ≡ slice_cmp nat_cmp (47 ∷ from) text
-after_db db from text path e = ap (λ (a : List ℕ). slice_cmp nat_cmp a (path_text path)) (behind db from) ∙ ap (λ (b : List ℕ). slice_cmp nat_cmp (db ++ 47 ∷ from) b) e ∙ same_front db (47 ∷ from) text
+after_db : (db from text : List ℕ) (path : ObjectPath) → path_text path ≡ behind db text → path_cmp (Other db from) path ≡ slice_cmp nat_cmp from text
+after_db db from text path e = ap (slice_cmp nat_cmp (behind db from)) e ∙ same_front db (47 ∷ from) (47 ∷ text)
 
--- the bounds of a folder run forward
+front_first : (folder : Folder) → is_gt (slice_cmp nat_cmp (front_of folder) (past_of folder)) ≡ false
+front_first folders.Manifests = refl
+front_first folders.Records = refl
+front_first folders.Tables = refl
+front_first folders.Wals = refl
+
+from_front : (db : List ℕ) (folder : Folder) → IsForward (IsLeBy path_cmp) (IsLtBy path_cmp) (from_to db folder).0 (from_to db folder).1
+from_front db folder = ap is_gt (after_db db (front_of folder) (past_of folder) (Other db (past_of folder)) refl) ∙ front_first folder
+
+-- the bounds of a list run forward
 pub forward : (dir : ListDir) → IsForward (IsLeBy path_cmp) (IsLtBy path_cmp) (bounds_of dir).0 (bounds_of dir).1
-forward (Manifests db) = ap is_gt (after_db db (codes "manifest/") (codes "/manifest0") (Other db (codes "manifest0")) (behind db (codes "manifest0")))
-forward (Records db) = ap is_gt (after_db db (codes "compactions/") (codes "/compactions0") (Other db (codes "compactions0")) (behind db (codes "compactions0")))
-forward (Tables db) = ap is_gt (after_db db (codes "compacted/") (codes "/compacted0") (Other db (codes "compacted0")) (behind db (codes "compacted0")))
-forward (Wals db) = ap is_gt (after_db db (codes "wal/") (codes "/wal0") (Other db (codes "wal0")) (behind db (codes "wal0")))
+forward (Manifests db) = from_front db folders.Manifests
+forward (Records db) = from_front db folders.Records
+forward (Tables db) = from_front db folders.Tables
+forward (Wals db) = from_front db folders.Wals
 forward (All db) = tt
-
--- a path is between those of two rests where what follows its database is
-between : (db from to text : List ℕ) (path : ObjectPath) → path_text path ≡ db ++ text → is_le (slice_cmp nat_cmp (47 ∷ from) text) ≡ true → is_le (slice_cmp nat_cmp (47 ∷ to) text) ≡ false
-    → range_contains path_cmp (from_to db from to).0 (from_to db from to).1 path ≡ true
-between db from to text path e h k = rw (after_db db from text path e, after_db db to text path e, h, k)
 
 from_nothing : (text : List ℕ) → is_le (slice_cmp nat_cmp [] text) ≡ true
 from_nothing [] = refl
 from_nothing (c ∷ text) = refl
 
--- what a folder lists is between its bounds
+-- a name in a folder stands between its bounds
+name_between : (folder : Folder) (name : List ℕ) → (is_le (slice_cmp nat_cmp (front_of folder) (in_folder folder name)) ≡ true) × (is_le (slice_cmp nat_cmp (past_of folder) (in_folder folder name)) ≡ false)
+name_between folders.Manifests name = (from_nothing (name ++ suffix_of folders.Manifests), refl)
+name_between folders.Records name = (from_nothing (name ++ suffix_of folders.Records), refl)
+name_between folders.Tables name = (from_nothing (name ++ suffix_of folders.Tables), refl)
+name_between folders.Wals name = (from_nothing (name ++ suffix_of folders.Wals), refl)
+
+between : (db other : List ℕ) (folder : Folder) (name : List ℕ) (path : ObjectPath) → bytes_eq db other ≡ true → path_text path ≡ behind other (in_folder folder name)
+    → range_contains path_cmp (from_to db folder).0 (from_to db folder).1 path ≡ true
+between db other folder name path same text =
+    let here : path_text path ≡ behind db (in_folder folder name) = text ∙ ap (λ (d : List ℕ). behind d (in_folder folder name)) (sym ((bytes_eq-Decides db other).0 same)) in
+    let named = name_between folder name in
+    rw (after_db db (front_of folder) (in_folder folder name) path here, after_db db (past_of folder) (in_folder folder name) path here, named.0, named.1)
+
+-- what is listed is between the bounds
 inside : (dir : ListDir) (path : ObjectPath) → is_in dir path ≡ true → range_contains path_cmp (bounds_of dir).0 (bounds_of dir).1 path ≡ true
-inside (Manifests db) (Manifest of n) h = between db (codes "manifest/") (codes "manifest0") (codes "/manifest/" ++ (twenty n ++ codes ".manifest")) (Manifest of n) (text of ((bytes_eq-Decides db of).0 h)) (from_nothing (twenty n ++ codes ".manifest")) refl
-  where
-    text : (other : List ℕ) → db ≡ other → path_text (Manifest other n) ≡ db ++ (codes "/manifest/" ++ (twenty n ++ codes ".manifest"))
-    text other e = rw e simp append_assoc
-inside (Records db) (Record of n) h = between db (codes "compactions/") (codes "compactions0") (codes "/compactions/" ++ (twenty n ++ codes ".compactions")) (Record of n) (text of ((bytes_eq-Decides db of).0 h)) (from_nothing (twenty n ++ codes ".compactions")) refl
-  where
-    text : (other : List ℕ) → db ≡ other → path_text (Record other n) ≡ db ++ (codes "/compactions/" ++ (twenty n ++ codes ".compactions"))
-    text other e = rw e simp append_assoc
-inside (Tables db) (Table of id) h = between db (codes "compacted/") (codes "compacted0") (codes "/compacted/" ++ (ulid_text id ++ codes ".sst")) (Table of id) (text of ((bytes_eq-Decides db of).0 h)) (from_nothing (ulid_text id ++ codes ".sst")) refl
-  where
-    text : (other : List ℕ) → db ≡ other → path_text (Table other id) ≡ db ++ (codes "/compacted/" ++ (ulid_text id ++ codes ".sst"))
-    text other e = rw e simp append_assoc
-inside (Wals db) (Wal of n) h = between db (codes "wal/") (codes "wal0") (codes "/wal/" ++ (twenty n ++ codes ".sst")) (Wal of n) (text of ((bytes_eq-Decides db of).0 h)) (from_nothing (twenty n ++ codes ".sst")) refl
-  where
-    text : (other : List ℕ) → db ≡ other → path_text (Wal other n) ≡ db ++ (codes "/wal/" ++ (twenty n ++ codes ".sst"))
-    text other e = rw e simp append_assoc
+inside (Manifests db) (Manifest of n) h = between db of folders.Manifests (twenty n) (Manifest of n) h refl
+inside (Records db) (Record of n) h = between db of folders.Records (twenty n) (Record of n) h refl
+inside (Tables db) (Table of id) h = between db of folders.Tables (ulid_text id) (Table of id) h refl
+inside (Wals db) (Wal of n) h = between db of folders.Wals (twenty n) (Wal of n) h refl
 inside (All db) path h = refl
 inside _ _ h = absurd cc
 

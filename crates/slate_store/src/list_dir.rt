@@ -1,5 +1,5 @@
 //! Folders that can be listed.
-ghost use Rattle.std.specs.Prelude.{◌≡◌, bytes_eq};
+ghost use Rattle.std.specs.Prelude.{◌≡◌};
 ghost use Rattle.slate_store.specs.Folders.{is_in};
 
 use slate_ids::{DbPath, ObjectPath};
@@ -14,23 +14,18 @@ pub enum ListDir {
     All(DbPath),
 }
 
-fn is_same(a: &DbPath, b: &DbPath) -> bool
-    ensures { result ≡ bytes_eq a.now b.now }
-{
-    a.letters() == b.letters()
-}
-
 impl ListDir {
     /// Whether the folder lists this path.
+    #[tactic(auto, using(crate::proofs::Folders::same_name))]
     pub fn lists(&self, path: &ObjectPath) -> bool
         ensures { result ≡ is_in self.now path.now }
     {
         match (self, path) {
-            (ListDir::Manifests(db), ObjectPath::Manifest(of, _)) => is_same(db, of),
-            (ListDir::Records(db), ObjectPath::Record(of, _)) => is_same(db, of),
-            (ListDir::Tables(db), ObjectPath::Table(of, _)) => is_same(db, of),
-            (ListDir::Wals(db), ObjectPath::Wal(of, _)) => is_same(db, of),
-            (ListDir::All(db), any) => is_same(db, any.db()),
+            (ListDir::Manifests(db), ObjectPath::Manifest(of, _)) => db == of,
+            (ListDir::Records(db), ObjectPath::Record(of, _)) => db == of,
+            (ListDir::Tables(db), ObjectPath::Table(of, _)) => db == of,
+            (ListDir::Wals(db), ObjectPath::Wal(of, _)) => db == of,
+            (ListDir::All(db), any) => db == any.db(),
             _ => false,
         }
     }

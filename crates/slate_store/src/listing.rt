@@ -1,5 +1,5 @@
 //! What a folder lists of a map of objects.
-ghost use Rattle.std.specs.Prelude.{◌≡◌, true, codes, map, filter, IfOk};
+ghost use Rattle.std.specs.Prelude.{◌≡◌, true, map, filter, IfOk};
 ghost use Rattle.slate_ids.specs.PathKind.{is_rest};
 ghost use Rattle.slate_ids.specs.declared.object_path.ObjectPath.TheVariants.{Other};
 ghost use Rattle.slate_store.specs.Folders.{is_in, from_to, bounds_of as bounds_in};
@@ -7,7 +7,7 @@ ghost use Rattle.slate_store.specs.Store.{metadata};
 
 use crate::list_dir::ListDir;
 use crate::object::{ObjectMetadata, StoredObject};
-use slate_ids::{DbPath, ObjectPath, OutOfMemory, PathRest};
+use slate_ids::{DbPath, Folder, ObjectPath, OutOfMemory, PathRest};
 use std::alloc::Global;
 use std::collections::BTreeMap;
 use std::ops::Bound;
@@ -40,27 +40,25 @@ fn other(alloc: Global, db: &DbPath, rest: &str) -> Result<ObjectPath, OutOfMemo
     }
 }
 
-// The paths whose rest is from one text on, and below another one.
-fn from_to(alloc: Global, db: &DbPath, from: &str, to: &str) -> Result<Bounds, OutOfMemory>
-    requires from { is_rest from.now ≡ true }
-    requires to { is_rest to.now ≡ true }
-    ensures { IfOk result (λ bounds. bounds ≡ from_to db.now from.now to.now) }
+// Between which paths those of a folder stand.
+#[tactic(auto, using(crate::proofs::Folders::front_is_rest, crate::proofs::Folders::past_is_rest))]
+fn from_to(alloc: Global, db: &DbPath, folder: Folder) -> Result<Bounds, OutOfMemory>
+    ensures { IfOk result (λ bounds. bounds ≡ from_to db.now folder) }
 {
-    let from = Bound::Included(other(alloc, db, from)?);
-    let to = Bound::Excluded(other(alloc, db, to)?);
+    let from = Bound::Included(other(alloc, db, folder.front())?);
+    let to = Bound::Excluded(other(alloc, db, folder.past())?);
     Ok((from, to))
 }
 
-// Between which paths those of a folder stand.
-#[tactic(auto, using(crate::proofs::Folders::manifests_from, crate::proofs::Folders::manifests_to, crate::proofs::Folders::records_from, crate::proofs::Folders::records_to, crate::proofs::Folders::tables_from, crate::proofs::Folders::tables_to, crate::proofs::Folders::wals_from, crate::proofs::Folders::wals_to))]
+// Between which paths those of a list stand.
 fn bounds_of(alloc: Global, dir: &ListDir) -> Result<Bounds, OutOfMemory>
     ensures { IfOk result (λ bounds. bounds ≡ bounds_in dir.now) }
 {
     match dir {
-        ListDir::Manifests(db) => from_to(alloc, db, "manifest/", "manifest0"),
-        ListDir::Records(db) => from_to(alloc, db, "compactions/", "compactions0"),
-        ListDir::Tables(db) => from_to(alloc, db, "compacted/", "compacted0"),
-        ListDir::Wals(db) => from_to(alloc, db, "wal/", "wal0"),
+        ListDir::Manifests(db) => from_to(alloc, db, Folder::Manifests),
+        ListDir::Records(db) => from_to(alloc, db, Folder::Records),
+        ListDir::Tables(db) => from_to(alloc, db, Folder::Tables),
+        ListDir::Wals(db) => from_to(alloc, db, Folder::Wals),
         ListDir::All(_) => Ok((Bound::Unbounded, Bound::Unbounded)),
     }
 }
