@@ -63,7 +63,8 @@ impl BytesRange {
     ) -> Result<BytesRange, OutOfMemory>
         requires proper { keys.is_ordered (bound_map (λ s. s.now) start) (bound_map (λ s. s.now) end)
             ≡ true }
-        ensures { IfOk result (λ r. r ≡ record { start = bound_map (λ s. s.now) start.entry; end = bound_map (λ s. s.now) end.entry }) }
+        ensures { IfOk result (λ r. r
+            ≡ record { start = bound_map (λ s. s.now) start.entry; end = bound_map (λ s. s.now) end.entry }) }
     {
         Ok(BytesRange {
             start: copied(alloc, start)?,

@@ -31,7 +31,8 @@ pub trait ObjectCodec<T> {
         ensures { IfOk result (λ copied. copied ≡ value.now) };
 
     /// Decoding an encoded value gives its normal form.
-    ghost round_trip: { (codec : Self) (value : T) (bytes : List ℕ) → encoded codec value ≡ Ok bytes → decoded codec bytes ≡ Ok (normal codec value) };
+    ghost round_trip: { (codec : Self) (value : T) (bytes : List ℕ)
+        → encoded codec value ≡ Ok bytes → decoded codec bytes ≡ Ok (normal codec value) };
 }
 
 /// The epoch that fences holders of a value.

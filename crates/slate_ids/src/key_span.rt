@@ -85,7 +85,9 @@ impl<'a> KeySpan<'a> {
     pub fn meets(&self, other: &KeySpan<'a>) -> bool
         ensures meets { result ≡ ranges_meet self.now other.now }
         ensures sides { ranges_meet self.now other.now
-            ≡ (range.is_proper self.now && range.is_proper other.now && keys.is_ordered self.now.start other.now.end && keys.is_ordered other.now.start self.now.end) }
+            ≡ (range.is_proper self.now && range.is_proper other.now
+            && keys.is_ordered self.now.start other.now.end
+            && keys.is_ordered other.now.start self.now.end) }
     {
         self.common(other).is_proper()
     }

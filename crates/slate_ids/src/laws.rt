@@ -16,9 +16,13 @@ pub fn paths_apart()
 /// that begin with the prefix.
 #[tactic(auto, using(crate::proofs::RangeLaws::common_keys, crate::proofs::RangeLaws::meet_sides, crate::proofs::RangeLaws::improper_no_keys, crate::proofs::PrefixRanges::prefix_keys, crate::proofs::PrefixRanges::prefix_is_proper))]
 pub fn ranges_are_sets()
-    ensures common { (a b : KeyRange) (key : List ℕ) → has_key (common a b) key ≡ (has_key a key && has_key b key) }
-    ensures meet { (a b : KeyRange) → ranges_meet a b ≡ (is_proper a && is_proper b && is_ordered a.start b.end && is_ordered b.start a.end) }
+    ensures common { (a b : KeyRange) (key : List ℕ)
+        → has_key (common a b) key ≡ (has_key a key && has_key b key) }
+    ensures meet { (a b : KeyRange)
+        → ranges_meet a b
+        ≡ (is_proper a && is_proper b && is_ordered a.start b.end && is_ordered b.start a.end) }
     ensures none { (r : KeyRange) (key : List ℕ) → is_proper r ≡ false → has_key r key ≡ false }
-    ensures prefix { (prefix key : List ℕ) → All (λ b. b < 2 ^ 8) key → has_key (prefix_range prefix) key ≡ begins_with prefix key }
+    ensures prefix { (prefix key : List ℕ) → All (λ b. b < 2 ^ 8) key
+        → has_key (prefix_range prefix) key ≡ begins_with prefix key }
     ensures prefix_proper { (prefix : List ℕ) → is_proper (prefix_range prefix) ≡ true }
 {}

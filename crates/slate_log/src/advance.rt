@@ -117,11 +117,13 @@ impl AdvancePhase {
         moment: Millis,
     ) -> Step<()>
         requires due { advance_due self.now ≡ true }
-        ensures steps { Steps (S.told store.old) (S.told store.new) (advance_asks sequenced.now.db sequenced.now.log self.old) moment
+        ensures steps { Steps (S.told store.old) (S.told store.new)
+            (advance_asks sequenced.now.db sequenced.now.log self.old) moment
             (advance_goes self.old) self.old self.new result }
         ensures falls { IsAgain result → AdvanceFalls self.old self.new }
         ensures due { StillDue result (advance_due self.new) }
-        ensures memory { WhereOut result (Held (S.told store.old) (S.told store.new) (advance_asks sequenced.now.db sequenced.now.log self.old) moment self.old self.new) }
+        ensures memory { WhereOut result (Held (S.told store.old) (S.told store.new)
+            (advance_asks sequenced.now.db sequenced.now.log self.old) moment self.old self.new) }
         ensures fault { FaultRose (S.told store.old) (S.told store.new) result }
     {
         match self.asks(alloc, sequenced) {

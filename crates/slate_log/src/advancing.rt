@@ -32,7 +32,9 @@ impl<T, C> Sequenced<T, C> {
         tries: u32,
     ) -> Result<(), SlateDBError>
         requires { 0 < tries }
-        ensures advance { OrMemory result (AdvanceBegan self.now n moment tries (S.told store.old) (S.told store.new)) (Advanced self.now n moment tries (S.told store.old) (S.told store.new) result) }
+        ensures advance { OrMemory result
+            (AdvanceBegan self.now n moment tries (S.told store.old) (S.told store.new))
+            (Advanced self.now n moment tries (S.told store.old) (S.told store.new) result) }
         ensures reached { OnOk result (BoundaryReached self.now.db self.now.log n (S.told store.new)) }
         ensures never_lower { BoundaryKept self.now.db self.now.log (S.told store.old) (S.told store.new) }
         ensures fault { FaultOf (S.told store.old) (S.told store.new) result }

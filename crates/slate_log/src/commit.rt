@@ -36,7 +36,8 @@ pub fn prepare<T: Drop, C: ObjectCodec<T>, R: Rules<T>>(
     value: T,
     right: &Right,
 ) -> Result<CommitPhase<T>, SlateDBError>
-    ensures commit { Gives result (prepared (R.refusal rules.now) (C.encoded codec.now) id old.now value right.now) }
+    ensures commit { Gives result
+        (prepared (R.refusal rules.now) (C.encoded codec.now) id old.now value right.now) }
     ensures putting { IfOk result (λ commit. is_putting commit ≡ true) }
     ensures version { IfOk result (λ commit. commit_version commit ≡ Some (id + 1, value)) }
 {
@@ -126,12 +127,14 @@ impl<T: Drop> CommitPhase<T> {
         moment: Millis,
     ) -> Step<(u64, T)>
         requires due { commit_due self.now ≡ true }
-        ensures steps { Steps (S.told store.old) (S.told store.new) (commit_asks sequenced.now.db sequenced.now.log self.old) moment
+        ensures steps { Steps (S.told store.old) (S.told store.new)
+            (commit_asks sequenced.now.db sequenced.now.log self.old) moment
             (commit_goes self.old) self.old self.new result }
         ensures falls { IsAgain result → commit_rank self.new < commit_rank self.old }
         ensures due { StillDue result (commit_due self.new) }
         ensures version { KeepsVersion self.old self.new result }
-        ensures memory { WhereOut result (Held (S.told store.old) (S.told store.new) (commit_asks sequenced.now.db sequenced.now.log self.old) moment self.old self.new) }
+        ensures memory { WhereOut result (Held (S.told store.old) (S.told store.new)
+            (commit_asks sequenced.now.db sequenced.now.log self.old) moment self.old self.new) }
         ensures fault { FaultRose (S.told store.old) (S.told store.new) result }
     {
         match self.asks(alloc, sequenced) {

@@ -21,7 +21,10 @@ impl<T: Drop> CommitPhase<T> {
         moment: Millis,
     ) -> Result<(u64, T), SlateDBError>
         requires due { commit_due self ≡ true }
-        ensures run { OrMemory result (CommitBegan sequenced.now.db sequenced.now.log moment (S.told store.old) (S.told store.new) self) (Committed sequenced.now.db sequenced.now.log moment (S.told store.old) (S.told store.new) self result) }
+        ensures run { OrMemory result
+            (CommitBegan sequenced.now.db sequenced.now.log moment (S.told store.old) (S.told store.new) self)
+            (Committed sequenced.now.db sequenced.now.log moment
+            (S.told store.old) (S.told store.new) self result) }
         ensures version { IfOk result (λ version. commit_version self ≡ Some version) }
         ensures fault { FaultOf (S.told store.old) (S.told store.new) result }
     {

@@ -79,11 +79,13 @@ impl DeletePhase {
         moment: Millis,
     ) -> Step<()>
         requires due { delete_due self.now ≡ true }
-        ensures steps { Steps (S.told store.old) (S.told store.new) (delete_asks sequenced.now.db sequenced.now.log self.old) moment
+        ensures steps { Steps (S.told store.old) (S.told store.new)
+            (delete_asks sequenced.now.db sequenced.now.log self.old) moment
             (delete_goes self.old) self.old self.new result }
         ensures falls { IsAgain result → delete_rank self.new < delete_rank self.old }
         ensures due { StillDue result (delete_due self.new) }
-        ensures memory { WhereOut result (Held (S.told store.old) (S.told store.new) (delete_asks sequenced.now.db sequenced.now.log self.old) moment self.old self.new) }
+        ensures memory { WhereOut result (Held (S.told store.old) (S.told store.new)
+            (delete_asks sequenced.now.db sequenced.now.log self.old) moment self.old self.new) }
         ensures fault { FaultRose (S.told store.old) (S.told store.new) result }
     {
         let call = self.asks(sequenced);

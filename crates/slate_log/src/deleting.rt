@@ -49,7 +49,9 @@ impl<T, C> Sequenced<T, C> {
         store: &mut S,
         n: u64,
     ) -> Result<(), SlateDBError>
-        ensures delete { OrMemory result (DeleteBegan self.now n (S.told store.old) (S.told store.new)) (DeleteRan self.now n (S.told store.old) (S.told store.new) result) }
+        ensures delete { OrMemory result
+            (DeleteBegan self.now n (S.told store.old) (S.told store.new))
+            (DeleteRan self.now n (S.told store.old) (S.told store.new) result) }
         ensures allowed { OnOk result (BoundaryReached self.now.db self.now.log n (S.told store.old)) }
         ensures fault { FaultOf (S.told store.old) (S.told store.new) result }
     {
@@ -70,7 +72,8 @@ impl<T, C> Sequenced<T, C> {
         store: &mut S,
         n: u64,
     ) -> Result<(), SlateDBError>
-        ensures delete { Once (S.told store.old) (S.told store.new) (calls.Delete (version_path self.now.log self.now.db n)) (pos 0) deleted_reply result }
+        ensures delete { Once (S.told store.old) (S.told store.new)
+            (calls.Delete (version_path self.now.log self.now.db n)) (pos 0) deleted_reply result }
         ensures fault { FaultOf (S.told store.old) (S.told store.new) result }
     {
         let call = StoreCall::Delete(self.log.version_path(self.db, n));

@@ -21,7 +21,9 @@ pub fn prepare_change<T: Drop, C: ObjectCodec<T>, R: Rules<T>>(
     changed: Option<T>,
     right: &Right,
 ) -> Result<Option<CommitPhase<T>>, SlateDBError>
-    ensures commit { Gives result (wanted (λ new. prepared (R.refusal rules.now) (C.encoded codec.now) id old.now new right.now) (Ok changed)) }
+    ensures commit { Gives result (wanted
+        (λ new. prepared (R.refusal rules.now) (C.encoded codec.now) id old.now new right.now)
+        (Ok changed)) }
     ensures putting { IfOk result (λ commit. IfSome commit (λ c. is_putting c ≡ true)) }
 {
     match changed {

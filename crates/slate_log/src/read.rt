@@ -66,7 +66,9 @@ impl<T: Drop> ReadPhase<T> {
         sequenced: &Sequenced<T, C>,
         answer: &StoreAnswer,
     ) -> Step<Option<(u64, T)>>
-        ensures goes { GoesOn (read_goes sequenced.now.log (C.decoded sequenced.now.codec) self.old answer.now) self.old self.new result }
+        ensures goes { GoesOn
+            (read_goes sequenced.now.log (C.decoded sequenced.now.codec) self.old answer.now)
+            self.old self.new result }
         ensures falls { IsAgain result → Falls self.old self.new }
         ensures from { AtVersion result self.old }
         ensures due { StillDue result (read_due self.new) }
@@ -126,13 +128,16 @@ impl<T: Drop> ReadPhase<T> {
         moment: Millis,
     ) -> Step<Option<(u64, T)>>
         requires due { read_due self.now ≡ true }
-        ensures steps { Steps (S.told store.old) (S.told store.new) (read_asks sequenced.now.db sequenced.now.log self.old) moment
+        ensures steps { Steps (S.told store.old) (S.told store.new)
+            (read_asks sequenced.now.db sequenced.now.log self.old) moment
             (read_goes sequenced.now.log (C.decoded sequenced.now.codec) self.old) self.old self.new result }
         ensures falls { IsAgain result → Falls self.old self.new }
         ensures from { AtVersion result self.old }
         ensures due { StillDue result (read_due self.new) }
-        ensures memory { WhereOut result (Held (S.told store.old) (S.told store.new) (read_asks sequenced.now.db sequenced.now.log self.old) moment self.old self.new) }
-        ensures fault { NoFault (C.decoded sequenced.now.codec) → FaultRose (S.told store.old) (S.told store.new) result }
+        ensures memory { WhereOut result (Held (S.told store.old) (S.told store.new)
+            (read_asks sequenced.now.db sequenced.now.log self.old) moment self.old self.new) }
+        ensures fault { NoFault (C.decoded sequenced.now.codec)
+            → FaultRose (S.told store.old) (S.told store.new) result }
     {
         let call = self.asks(sequenced);
         match perform(alloc, store, &call, moment) {

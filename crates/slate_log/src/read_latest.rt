@@ -28,8 +28,11 @@ impl<T: Drop, C: ObjectCodec<T>> Sequenced<T, C> {
         tries: u32,
     ) -> Result<Option<(u64, T)>, SlateDBError>
         requires { 0 < tries }
-        ensures read { OrMemory result (ReadBegan C.decoded self.now tries (S.told store.old) (S.told store.new)) (Read C.decoded self.now tries (S.told store.old) (S.told store.new) result) }
-        ensures fault { NoFault (C.decoded self.now.codec) → FaultOf (S.told store.old) (S.told store.new) result }
+        ensures read { OrMemory result
+            (ReadBegan C.decoded self.now tries (S.told store.old) (S.told store.new))
+            (Read C.decoded self.now tries (S.told store.old) (S.told store.new) result) }
+        ensures fault { NoFault (C.decoded self.now.codec)
+            → FaultOf (S.told store.old) (S.told store.new) result }
     {
         let mut read = ReadPhase::Listing;
         let mut left = tries;

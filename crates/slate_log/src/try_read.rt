@@ -45,8 +45,11 @@ impl<T: Drop, C: ObjectCodec<T>> Sequenced<T, C> {
         number: u64,
         moment: Millis,
     ) -> Result<Option<T>, SlateDBError>
-        ensures read { Once (S.told store.old) (S.told store.new) (calls.Get (version_path self.now.log self.now.db number)) moment (try_reply (C.decoded self.now.codec)) result }
-        ensures fault { NoFault (C.decoded self.now.codec) → FaultOf (S.told store.old) (S.told store.new) result }
+        ensures read { Once (S.told store.old) (S.told store.new)
+            (calls.Get (version_path self.now.log self.now.db number)) moment
+            (try_reply (C.decoded self.now.codec)) result }
+        ensures fault { NoFault (C.decoded self.now.codec)
+            → FaultOf (S.told store.old) (S.told store.new) result }
     {
         let call = StoreCall::Get(self.log.version_path(self.db, number));
         let answer = perform(alloc, store, &call, moment)?;
@@ -60,8 +63,11 @@ impl<T: Drop, C: ObjectCodec<T>> Sequenced<T, C> {
         store: &mut S,
         number: u64,
     ) -> Result<Option<T>, SlateDBError>
-        ensures read { Once (S.told store.old) (S.told store.new) (calls.Get (version_path self.now.log self.now.db number)) (pos 0) (try_reply (C.decoded self.now.codec)) result }
-        ensures fault { NoFault (C.decoded self.now.codec) → FaultOf (S.told store.old) (S.told store.new) result }
+        ensures read { Once (S.told store.old) (S.told store.new)
+            (calls.Get (version_path self.now.log self.now.db number)) (pos 0)
+            (try_reply (C.decoded self.now.codec)) result }
+        ensures fault { NoFault (C.decoded self.now.codec)
+            → FaultOf (S.told store.old) (S.told store.new) result }
     {
         self.try_once(alloc, store, number, 0)
     }
@@ -94,10 +100,12 @@ impl TryReadPhase {
         moment: Millis,
     ) -> Step<Option<T>>
         requires due { try_due self.now ≡ true }
-        ensures steps { Steps (S.told store.old) (S.told store.new) (try_asks sequenced.now.db sequenced.now.log self.old) moment
+        ensures steps { Steps (S.told store.old) (S.told store.new)
+            (try_asks sequenced.now.db sequenced.now.log self.old) moment
             (try_goes (C.decoded sequenced.now.codec) self.old) self.old self.new result }
         ensures due { StillDue result (try_due self.new) }
-        ensures fault { NoFault (C.decoded sequenced.now.codec) → FaultRose (S.told store.old) (S.told store.new) result }
+        ensures fault { NoFault (C.decoded sequenced.now.codec)
+            → FaultRose (S.told store.old) (S.told store.new) result }
     {
         match *self {
             TryReadPhase::Getting(n) => {

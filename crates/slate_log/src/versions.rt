@@ -58,7 +58,8 @@ fn keep(
     kept: &mut Vec<(u64, ObjectMetadata)>,
     metadata: &ObjectMetadata,
 ) -> Result<(), OutOfMemory>
-    ensures { OnOk result (kept.new.items ≡ kept_with range.now kept.old.items metadata.now (number_of log metadata.now.location)) }
+    ensures { OnOk result (kept.new.items
+        ≡ kept_with range.now kept.old.items metadata.now (number_of log metadata.now.location)) }
 {
     match log.number_of(&metadata.location) {
         None => Ok(()),
@@ -109,7 +110,8 @@ impl<T, C> Sequenced<T, C> {
         range: NumberRange,
         moment: Millis,
     ) -> Result<Listed<(u64, ObjectMetadata)>, SlateDBError>
-        ensures read { Once (S.told store.old) (S.told store.new) (list_asks self.now.db self.now.log) moment (list_reply self.now.log range) result }
+        ensures read { Once (S.told store.old) (S.told store.new)
+            (list_asks self.now.db self.now.log) moment (list_reply self.now.log range) result }
         ensures fault { FaultOf (S.told store.old) (S.told store.new) result }
     {
         let call = StoreCall::List(self.log.folder(self.db));
@@ -124,7 +126,9 @@ impl<T, C> Sequenced<T, C> {
         store: &mut S,
         range: NumberRange,
     ) -> Result<Vec<(u64, ObjectMetadata)>, SlateDBError>
-        ensures read { Once (S.told store.old) (S.told store.new) (list_asks self.now.db self.now.log) (pos 0) (list_reply self.now.log range) (versions_of result) }
+        ensures read { Once (S.told store.old) (S.told store.new)
+            (list_asks self.now.db self.now.log) (pos 0)
+            (list_reply self.now.log range) (versions_of result) }
         ensures ascending { IfOk result (λ versions. Ascending versions.items) }
         ensures within { IfOk result (λ versions. Within range versions.items) }
         ensures fault { FaultOf (S.told store.old) (S.told store.new) result }
@@ -163,7 +167,8 @@ impl ListPhase {
         moment: Millis,
     ) -> Step<Listed<(u64, ObjectMetadata)>>
         requires due { list_due self.now ≡ true }
-        ensures steps { Steps (S.told store.old) (S.told store.new) (list_asks sequenced.now.db sequenced.now.log) moment
+        ensures steps { Steps (S.told store.old) (S.told store.new)
+            (list_asks sequenced.now.db sequenced.now.log) moment
             (list_goes sequenced.now.log self.old) self.old self.new result }
         ensures due { StillDue result (list_due self.new) }
         ensures fault { FaultRose (S.told store.old) (S.told store.new) result }

@@ -70,7 +70,8 @@ pub(crate) fn listing(
     objects: &BTreeMap<ObjectPath, StoredObject>,
     dir: &ListDir,
 ) -> Result<Vec<ObjectMetadata>, OutOfMemory>
-    ensures { IfOk result (λ found. found.items ≡ map metadata (filter (λ o. is_in dir.now o.0) objects.now.entries)) }
+    ensures { IfOk result (λ found. found.items
+        ≡ map metadata (filter (λ o. is_in dir.now o.0) objects.now.entries)) }
 {
     let bounds = bounds_of(alloc, dir)?;
     let mut found = Vec::new(alloc);

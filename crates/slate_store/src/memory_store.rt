@@ -108,7 +108,8 @@ fn keep(objects: &mut Objects, path: ObjectPath, object: StoredObject) -> Result
 
 // Removes the object at a path, unless the call fails.
 fn remove_under(mark: Mark, objects: &mut Objects, path: &ObjectPath)
-    ensures { objects.new.entries ≡ left_under mark objects.old.entries (remove_entry (is_at (path_cmp path.now)) objects.old.entries) }
+    ensures { objects.new.entries
+        ≡ left_under mark objects.old.entries (remove_entry (is_at (path_cmp path.now)) objects.old.entries) }
 {
     match mark {
         Mark::Fail => {}
@@ -122,7 +123,8 @@ impl MemoryStore {
     /// A store with no objects, whose last tag is 0, and with no faults. Its calls go by these marks, one mark a call;
     /// after their end each call is good. Takes no memory.
     pub fn new(alloc: Global, marks: Vec<Mark>) -> MemoryStore
-        ensures { result ≡ record { store = record { objects = []; last_tag = 0 }; marks = marks.items; faults = 0 } }
+        ensures { result
+            ≡ record { store = record { objects = []; last_tag = 0 }; marks = marks.items; faults = 0 } }
     {
         MemoryStore {
             objects: BTreeMap::new(alloc),
@@ -134,7 +136,12 @@ impl MemoryStore {
 
     /// Gives the next call another mark. Takes no memory.
     pub fn set_mark(&mut self, mark: Mark)
-        ensures { self.new ≡ record { store = self.old.store; marks = mark ∷ drop 1 self.old.marks; faults = self.old.faults } }
+        ensures { self.new
+            ≡ record {
+              store = self.old.store;
+              marks = mark ∷ drop 1 self.old.marks;
+              faults = self.old.faults;
+            } }
     {
         self.marks.set(mark);
     }
@@ -225,7 +232,8 @@ impl MemoryStore {
         bytes: &[u8],
         moment: Millis,
     ) -> Result<u64, StoreError>
-        ensures writes { Writes (write_mark self.old) (stored path.now bytes.now moment self.old.store) self.old self.new result }
+        ensures writes { Writes (write_mark self.old)
+            (stored path.now bytes.now moment self.old.store) self.old self.new result }
         ensures later { self.old.faults ≤ self.new.faults }
     {
         let Some(tag) = self.next_tag() else {
@@ -300,7 +308,8 @@ impl ObjectStore for MemoryStore {
 
     /// Removes the object at a path. An absent one is no error. Takes no memory: under a good mark it succeeds.
     fn delete(&mut self, path: &ObjectPath) -> Result<(), StoreError>
-        ensures calls { Calls (λ _. answers.Deleted) (told_of self.old) (told_of self.new) (calls.Delete path.now) (pos 0) result }
+        ensures calls { Calls (λ _. answers.Deleted) (told_of self.old) (told_of self.new)
+            (calls.Delete path.now) (pos 0) result }
         ensures good { next_mark self.old.marks ≡ Good → result ≡ Ok tt }
         ensures no_memory { result ≢ Err NoMemory }
     {

@@ -63,7 +63,8 @@ fn perform_replace<S: ObjectStore>(
     bytes: &ByteList,
     moment: Millis,
 ) -> Result<StoreAnswer, OutOfMemory>
-    ensures { Performs (S.told store.old) (S.told store.new) (calls.Replace path.now tag bytes.now) moment result }
+    ensures { Performs (S.told store.old) (S.told store.new)
+        (calls.Replace path.now tag bytes.now) moment result }
 {
     match store.replace(alloc, path, tag, bytes.as_slice(), moment) {
         Ok(tag) => Ok(StoreAnswer::Replaced(tag)),

@@ -41,7 +41,12 @@ impl Model for MemorySink {
 
     ghost Value = { MemoryEnd };
 
-    ghost view = { λ a. record { bytes = a.bytes.items; fails = a.fails.items; calls = a.calls; faults = a.faults } };
+    ghost view = { λ a. record {
+      bytes = a.bytes.items;
+      fails = a.fails.items;
+      calls = a.calls;
+      faults = a.faults;
+    } };
 }
 
 impl MemorySink {

@@ -42,7 +42,12 @@ impl Model for MemorySource {
 
     ghost Value = { MemoryEnd };
 
-    ghost view = { λ a. record { bytes = drop a.place a.bytes.items; fails = a.fails.items; calls = a.calls; faults = a.faults } };
+    ghost view = { λ a. record {
+      bytes = drop a.place a.bytes.items;
+      fails = a.fails.items;
+      calls = a.calls;
+      faults = a.faults;
+    } };
 
     ghost invariant = { λ a. a.place ≤ vec_len a.bytes };
 }

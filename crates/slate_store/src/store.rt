@@ -35,7 +35,8 @@ pub trait ObjectStore {
 
     /// The objects of a folder, ascending by the text of their paths.
     fn list(&mut self, alloc: Global, dir: &ListDir) -> Result<Vec<ObjectMetadata>, StoreError>
-        ensures { Calls (λ v. answers.Found v.items) (told self.old) (told self.new) (calls.List dir.now) (pos 0) result };
+        ensures { Calls (λ v. answers.Found v.items) (told self.old) (told self.new)
+            (calls.List dir.now) (pos 0) result };
 
     /// The object at a path, where there is one.
     fn get(&mut self, alloc: Global, path: &ObjectPath) -> Result<Option<StoredObject>, StoreError>
@@ -49,7 +50,8 @@ pub trait ObjectStore {
         bytes: &[u8],
         moment: Millis,
     ) -> Result<Option<u64>, StoreError>
-        ensures { Calls answers.Created (told self.old) (told self.new) (calls.PutNew path.now bytes.now) moment result };
+        ensures { Calls answers.Created (told self.old) (told self.new)
+            (calls.PutNew path.now bytes.now) moment result };
 
     /// Writes an object in the place of the one with this tag. Answers the new tag, or None where the path is absent or
     /// has another tag, and writes nothing then.
@@ -61,7 +63,8 @@ pub trait ObjectStore {
         bytes: &[u8],
         moment: Millis,
     ) -> Result<Option<u64>, StoreError>
-        ensures { Calls answers.Replaced (told self.old) (told self.new) (calls.Replace path.now tag bytes.now) moment result };
+        ensures { Calls answers.Replaced (told self.old) (told self.new)
+            (calls.Replace path.now tag bytes.now) moment result };
 
     /// Writes an object, and answers its tag.
     fn put(
@@ -71,9 +74,11 @@ pub trait ObjectStore {
         bytes: &[u8],
         moment: Millis,
     ) -> Result<u64, StoreError>
-        ensures { Calls answers.Written (told self.old) (told self.new) (calls.Put path.now bytes.now) moment result };
+        ensures { Calls answers.Written (told self.old) (told self.new)
+            (calls.Put path.now bytes.now) moment result };
 
     /// Removes the object at a path. An absent one is no error.
     fn delete(&mut self, path: &ObjectPath) -> Result<(), StoreError>
-        ensures { Calls (λ _. answers.Deleted) (told self.old) (told self.new) (calls.Delete path.now) (pos 0) result };
+        ensures { Calls (λ _. answers.Deleted) (told self.old) (told self.new)
+            (calls.Delete path.now) (pos 0) result };
 }
