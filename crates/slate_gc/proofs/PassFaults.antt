@@ -12,13 +12,13 @@ use Rattle.slate_ids.specs.declared.error.SlateDBError.{SlateDBError}
 use Rattle.slate_ids.specs.declared.error.SlateDBError.TheVariants.{LatestTransactionalObjectVersionMissing, ManifestMissing, Corrupt, StoreFault}
 use Rattle.slate_log.proofs.Advances.{advance_faults}
 use Rattle.slate_log.proofs.Faults.{OnlyFaults, Fine, fine_stay, fine_ok, fine_err, sound_at, list_answers, get_answers}
-use Rattle.slate_log.specs.Advance.{AdvanceGoes, advance_goes, advance_due}
+use Rattle.slate_log.specs.AdvancePhase.{AdvanceGoes, advance_goes, advance_due}
 use Rattle.slate_log.specs.Boundary.{boundary_got, greatest}
 use Rattle.slate_log.proofs.Steps.{is_reading}
 use Rattle.slate_log.specs.Due.{NoFault, WhereOut}
 use Rattle.slate_log.specs.LogPaths.{version_path, boundary_path, folder}
-use Rattle.slate_log.specs.declared.advance.AdvancePhase.{AdvancePhase}
-use Rattle.slate_log.specs.declared.advance.AdvancePhase.TheVariants as advancing
+use Rattle.slate_log.specs.declared.advance_phase.AdvancePhase.{AdvancePhase}
+use Rattle.slate_log.specs.declared.advance_phase.AdvancePhase.TheVariants as advancing
 use Rattle.slate_log.specs.declared.log_kind.LogKind.TheVariants as logs
 use Rattle.slate_model.specs.declared.manifest.Manifest.{Manifest}
 use Rattle.slate_store.specs.Calls.{IsAnswerTo}

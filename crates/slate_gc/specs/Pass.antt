@@ -10,10 +10,10 @@ use Rattle.slate_gc.specs.declared.pass_phase.PassPhase.TheVariants.{Listing, Ge
 use Rattle.slate_ids.specs.declared.error.FormatName.TheVariants.{Boundary as BoundaryFormat}
 use Rattle.slate_ids.specs.declared.error.SlateDBError.{SlateDBError}
 use Rattle.slate_ids.specs.declared.error.SlateDBError.TheVariants.{LatestTransactionalObjectVersionMissing, ManifestMissing, Corrupt, StoreFault}
-use Rattle.slate_log.specs.Advance.{AdvanceGoes, advance_asks, advance_goes, advance_due}
+use Rattle.slate_log.specs.AdvancePhase.{AdvanceGoes, advance_asks, advance_goes, advance_due}
 use Rattle.slate_log.specs.Boundary.{boundary_got, greatest}
 use Rattle.slate_log.specs.LogPaths.{version_path, boundary_path, folder}
-use Rattle.slate_log.specs.declared.advance.AdvancePhase.TheVariants as advancing
+use Rattle.slate_log.specs.declared.advance_phase.AdvancePhase.TheVariants as advancing
 use Rattle.slate_log.specs.declared.log_kind.LogKind.TheVariants as logs
 use Rattle.slate_model.specs.declared.manifest.Manifest.{Manifest}
 use Rattle.slate_store.specs.Machines.{Goes, Stay, End}

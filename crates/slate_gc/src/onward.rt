@@ -4,7 +4,7 @@ ghost use Rattle.slate_gc.specs.Pass as pass;
 ghost use Rattle.slate_gc.specs.Picks as picking;
 ghost use Rattle.slate_gc.specs.declared.pass_phase.PassPhase.TheVariants as phases;
 ghost use Rattle.slate_ids.specs.Answers.{Gives};
-ghost use Rattle.slate_log.specs.Advance.{advance_goes};
+ghost use Rattle.slate_log.specs.AdvancePhase.{advance_goes};
 ghost use Rattle.slate_log.specs.Boundary as boundaries;
 ghost use Rattle.slate_log.specs.Due.{StillDue, WhereOut, NeverOut};
 ghost use Rattle.slate_log.specs.declared.log_kind.LogKind.TheVariants as logs;

@@ -11,11 +11,11 @@ use Rattle.slate_store.specs.declared.mark.Mark.TheVariants.{Good, Fail, Lost}
 use Rattle.slate_store.specs.declared.object.StoredObject.{StoredObject}
 use Rattle.slate_store.specs.declared.store_answer.StoreAnswer.{StoreAnswer}
 use Rattle.slate_store.specs.declared.store_call.StoreCall.TheVariants.{PutNew, Replace}
-use Rattle.slate_log.specs.Advance.{advance_asks, advance_goes, read_goes_to, bound_goes}
+use Rattle.slate_log.specs.AdvancePhase.{advance_asks, advance_goes, read_goes_to, bound_goes}
 use Rattle.slate_log.specs.Boundary.{boundary_of, boundary_got}
 use Rattle.slate_log.specs.LogPaths.{boundary_path}
-use Rattle.slate_log.specs.declared.advance.AdvancePhase.{AdvancePhase}
-use Rattle.slate_log.specs.declared.advance.AdvancePhase.TheVariants.{Bounding, Creating, Replacing, Over}
+use Rattle.slate_log.specs.declared.advance_phase.AdvancePhase.{AdvancePhase}
+use Rattle.slate_log.specs.declared.advance_phase.AdvancePhase.TheVariants.{Bounding, Creating, Replacing, Over}
 use Rattle.slate_protocol.specs.Chains.{Link, Log, top}
 use Rattle.slate_laws.proofs.Facts.{IsSound, IsAtMost, AdvanceKnows, AdvanceBrings, target}
 use Rattle.slate_laws.proofs.Puts.{Leaves, leaves_not}

@@ -13,7 +13,7 @@ use Rattle.slate_store.specs.declared.mark.Mark.TheVariants.{Good}
 use Rattle.slate_store.specs.declared.object.ObjectMetadata.{ObjectMetadata}
 use Rattle.slate_store.specs.declared.object.StoredObject.{StoredObject}
 use Rattle.slate_store.specs.declared.store_answer.StoreAnswer.TheVariants.{Found, Got}
-use Rattle.slate_log.specs.Advance.{AdvanceGoes, advance_asks, advance_goes}
+use Rattle.slate_log.specs.AdvancePhase.{AdvanceGoes, advance_asks, advance_goes}
 use Rattle.slate_log.specs.Boundary.{boundary_got, greater, greatest}
 use Rattle.slate_log.specs.LogPaths.{version_path, boundary_path}
 use Rattle.slate_log.specs.declared.log_kind.LogKind.TheVariants.{Manifest as ManifestLog}

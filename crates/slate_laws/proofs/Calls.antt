@@ -9,7 +9,7 @@ use Rattle.slate_store.specs.Store.{Store}
 use Rattle.slate_events.specs.declared.call.Call.{Call}
 use Rattle.slate_events.specs.declared.call.Call.TheVariants.{OpenWriter, Flush, WriteCheckpoint, ReplaceCheckpoint, RefreshCheckpoint, DeleteCheckpoint, Pass}
 use Rattle.slate_gc.specs.declared.pass_counts.PassCounts.{PassCounts}
-use Rattle.slate_log.specs.declared.commit.CommitPhase.{CommitPhase}
+use Rattle.slate_log.specs.declared.commit_phase.CommitPhase.{CommitPhase}
 use Rattle.slate_protocol.specs.Calls.{Next, Go, Finish, new_value, right_of, fence_of, commit_of, done_next, commit_next, after_version, after_commit, after_pass, after_phrase, follow, read_next, once_open, begin}
 use Rattle.slate_protocol.specs.Chains.{link_at, top}
 use Rattle.slate_protocol.specs.Logs.{Chain, author_of, manifests}

@@ -11,10 +11,10 @@ use Rattle.slate_store.specs.declared.store_call.StoreCall.TheVariants.{Delete}
 use Rattle.slate_events.specs.declared.call.Call.{Call}
 use Rattle.slate_events.specs.declared.reply.Reply.TheVariants.{Refused}
 use Rattle.slate_events.specs.declared.reply.Reply.TheVariants as reply
-use Rattle.slate_log.specs.Advance.{AdvanceGoes, advance_asks, advance_goes}
+use Rattle.slate_log.specs.AdvancePhase.{AdvanceGoes, advance_asks, advance_goes}
 use Rattle.slate_log.specs.LogPaths.{version_path}
-use Rattle.slate_log.specs.declared.advance.AdvancePhase.{AdvancePhase}
-use Rattle.slate_log.specs.declared.advance.AdvancePhase.TheVariants as advancing
+use Rattle.slate_log.specs.declared.advance_phase.AdvancePhase.{AdvancePhase}
+use Rattle.slate_log.specs.declared.advance_phase.AdvancePhase.TheVariants as advancing
 use Rattle.slate_log.specs.declared.log_kind.LogKind.TheVariants.{Manifest as ManifestLog}
 use Rattle.slate_gc.specs.Pass.{PassGoes, counts_of, deletes_next, advanced_goes, one_deleted, one_failed}
 use Rattle.slate_gc.specs.Picks.{picks}

@@ -12,12 +12,12 @@ use Rattle.slate_store.specs.declared.store_answer.StoreAnswer.{StoreAnswer}
 use Rattle.slate_store.specs.declared.store_answer.StoreAnswer.TheVariants.{Found, Got, Created, Replaced, Deleted, Fault}
 use Rattle.slate_events.specs.declared.call.Call.{Call}
 use Rattle.slate_events.specs.declared.call.Call.TheVariants.{OpenWriter, Flush, WriteCheckpoint, ReplaceCheckpoint, RefreshCheckpoint, DeleteCheckpoint, Pass}
-use Rattle.slate_log.specs.Advance.{AdvanceGoes, advance_goes, advance_due, read_goes_to, bound_goes, written_goes}
-use Rattle.slate_log.specs.declared.advance.AdvancePhase.{AdvancePhase}
-use Rattle.slate_log.specs.declared.advance.AdvancePhase.TheVariants as advancing
+use Rattle.slate_log.specs.AdvancePhase.{AdvanceGoes, advance_goes, advance_due, read_goes_to, bound_goes, written_goes}
+use Rattle.slate_log.specs.declared.advance_phase.AdvancePhase.{AdvancePhase}
+use Rattle.slate_log.specs.declared.advance_phase.AdvancePhase.TheVariants as advancing
 use Rattle.slate_log.specs.Boundary.{boundary_of, boundary_got, greatest}
-use Rattle.slate_log.specs.Commit.{commit_goes, commit_due, created_goes, bounded_goes}
-use Rattle.slate_log.specs.Read.{read_goes, read_due, listed_goes, got_goes, decoded_goes, boundary_goes}
+use Rattle.slate_log.specs.CommitPhase.{commit_goes, commit_due, created_goes, bounded_goes}
+use Rattle.slate_log.specs.ReadPhase.{read_goes, read_due, listed_goes, got_goes, decoded_goes, boundary_goes}
 use Rattle.slate_gc.specs.Pass as gc
 use Rattle.slate_gc.specs.Pass.{PassGoes, pass_goes, pass_due}
 use Rattle.slate_gc.specs.Picks.{Dated, greatest_number, picks}
@@ -25,11 +25,11 @@ use Rattle.slate_gc.specs.declared.pass_counts.PassCounts.{PassCounts}
 use Rattle.slate_gc.specs.declared.pass_options.PassOptions.{PassOptions}
 use Rattle.slate_gc.specs.declared.pass_phase.PassPhase.{PassPhase}
 use Rattle.slate_gc.specs.declared.pass_phase.PassPhase.TheVariants as passing
-use Rattle.slate_log.specs.declared.commit.CommitPhase.{CommitPhase}
-use Rattle.slate_log.specs.declared.commit.CommitPhase.TheVariants as committing
+use Rattle.slate_log.specs.declared.commit_phase.CommitPhase.{CommitPhase}
+use Rattle.slate_log.specs.declared.commit_phase.CommitPhase.TheVariants as committing
 use Rattle.slate_log.specs.declared.log_kind.LogKind.TheVariants.{Manifest as ManifestLog}
-use Rattle.slate_log.specs.declared.read.ReadPhase.{ReadPhase}
-use Rattle.slate_log.specs.declared.read.ReadPhase.TheVariants as reading
+use Rattle.slate_log.specs.declared.read_phase.ReadPhase.{ReadPhase}
+use Rattle.slate_log.specs.declared.read_phase.ReadPhase.TheVariants as reading
 use Rattle.slate_protocol.specs.Calls.{Next, Go, Finish, commit_of, done_next, commit_next, after_phrase, follow, read_next, once_open, begin}
 use Rattle.slate_protocol.specs.Phrases.{goes, is_due, phrase_goes, read_on, commit_on, pass_on}
 use Rattle.slate_protocol.specs.declared.party.Facts.{Facts}

@@ -21,14 +21,14 @@ use Rattle.slate_events.specs.declared.event.Event.{Event}
 use Rattle.slate_events.specs.declared.filter_word.FilterWord.{FilterWord}
 use Rattle.slate_events.specs.declared.reply.Reply.TheVariants.{Refused}
 use Rattle.slate_log.specs.Boundary.{boundary_got, greatest}
-use Rattle.slate_log.specs.Commit.{commit_asks, commit_goes}
-use Rattle.slate_log.specs.Read.{read_asks, read_goes}
-use Rattle.slate_log.specs.declared.advance.AdvancePhase.TheVariants as advancing
-use Rattle.slate_log.specs.declared.commit.CommitPhase.{CommitPhase}
-use Rattle.slate_log.specs.declared.commit.CommitPhase.TheVariants as committing
+use Rattle.slate_log.specs.CommitPhase.{commit_asks, commit_goes}
+use Rattle.slate_log.specs.ReadPhase.{read_asks, read_goes}
+use Rattle.slate_log.specs.declared.advance_phase.AdvancePhase.TheVariants as advancing
+use Rattle.slate_log.specs.declared.commit_phase.CommitPhase.{CommitPhase}
+use Rattle.slate_log.specs.declared.commit_phase.CommitPhase.TheVariants as committing
 use Rattle.slate_log.specs.declared.log_kind.LogKind.TheVariants.{Manifest as ManifestLog}
-use Rattle.slate_log.specs.declared.read.ReadPhase.{ReadPhase}
-use Rattle.slate_log.specs.declared.read.ReadPhase.TheVariants as reading
+use Rattle.slate_log.specs.declared.read_phase.ReadPhase.{ReadPhase}
+use Rattle.slate_log.specs.declared.read_phase.ReadPhase.TheVariants as reading
 use Rattle.slate_gc.specs.Pass.{pass_asks, pass_goes, counts_of, listed_goes, candidates_by, decoded_goes, bounded_goes, bounded_next, moves_to}
 use Rattle.slate_gc.specs.Picks.{Dated, dated, candidates, greatest_number, picks}
 use Rattle.slate_gc.specs.declared.pass_options.PassOptions.{PassOptions}

@@ -1,12 +1,12 @@
 -- What a party knows stays true under whatever the others do.
 use Rattle.std.proofs.Common.{ℕ, List, arith}
 use Rattle.slate_store.specs.Store.{Store}
-use Rattle.slate_log.specs.declared.advance.AdvancePhase.{AdvancePhase}
-use Rattle.slate_log.specs.declared.advance.AdvancePhase.TheVariants as advancing
-use Rattle.slate_log.specs.declared.commit.CommitPhase.{CommitPhase}
-use Rattle.slate_log.specs.declared.commit.CommitPhase.TheVariants as committing
-use Rattle.slate_log.specs.declared.read.ReadPhase.{ReadPhase}
-use Rattle.slate_log.specs.declared.read.ReadPhase.TheVariants as reading
+use Rattle.slate_log.specs.declared.advance_phase.AdvancePhase.{AdvancePhase}
+use Rattle.slate_log.specs.declared.advance_phase.AdvancePhase.TheVariants as advancing
+use Rattle.slate_log.specs.declared.commit_phase.CommitPhase.{CommitPhase}
+use Rattle.slate_log.specs.declared.commit_phase.CommitPhase.TheVariants as committing
+use Rattle.slate_log.specs.declared.read_phase.ReadPhase.{ReadPhase}
+use Rattle.slate_log.specs.declared.read_phase.ReadPhase.TheVariants as reading
 use Rattle.slate_protocol.specs.Chains.{Link, Log}
 use Rattle.slate_laws.proofs.Facts.{IsValue, Holds, IsNext, IsAtMost, IsReached, ReadKnows, CommitKnows, AdvanceKnows, Grows}
 

@@ -10,8 +10,8 @@ use Rattle.slate_events.specs.declared.event.Event.{Event}
 use Rattle.slate_gc.specs.declared.pass_options.PassOptions.{PassOptions}
 use Rattle.slate_gc.specs.declared.pass_phase.PassPhase.{PassPhase}
 use Rattle.slate_gc.specs.declared.pass_phase.PassPhase.TheVariants as passing
-use Rattle.slate_log.specs.declared.commit.CommitPhase.TheVariants.{Putting}
-use Rattle.slate_log.specs.declared.read.ReadPhase.{ReadPhase}
+use Rattle.slate_log.specs.declared.commit_phase.CommitPhase.TheVariants.{Putting}
+use Rattle.slate_log.specs.declared.read_phase.ReadPhase.{ReadPhase}
 use Rattle.slate_protocol.specs.Chains.{bound_in, AgreesAt}
 use Rattle.slate_protocol.specs.Holding.{IsVersion, IsMadeOf, Each, candidates_in, due_in}
 use Rattle.slate_protocol.specs.Lawful.{IsAccepted, chains_at_end}

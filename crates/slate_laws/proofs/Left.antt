@@ -22,10 +22,10 @@ use Rattle.slate_store.specs.declared.object.ObjectMetadata.{ObjectMetadata}
 use Rattle.slate_store.specs.declared.object.StoredObject.{StoredObject}
 use Rattle.slate_store.specs.declared.store_answer.StoreAnswer.{StoreAnswer}
 use Rattle.slate_store.specs.declared.store_call.StoreCall.TheVariants.{PutNew, Replace}
-use Rattle.slate_log.specs.Advance.{advance_asks}
+use Rattle.slate_log.specs.AdvancePhase.{advance_asks}
 use Rattle.slate_log.specs.LogPaths.{version_path, boundary_path, number_of}
-use Rattle.slate_log.specs.declared.advance.AdvancePhase.{AdvancePhase}
-use Rattle.slate_log.specs.declared.advance.AdvancePhase.TheVariants as advancing
+use Rattle.slate_log.specs.declared.advance_phase.AdvancePhase.{AdvancePhase}
+use Rattle.slate_log.specs.declared.advance_phase.AdvancePhase.TheVariants as advancing
 use Rattle.slate_log.specs.declared.log_kind.LogKind.TheVariants.{Manifest as ManifestLog}
 use Rattle.slate_protocol.specs.Alone.{is_one_of, without}
 use Rattle.slate_laws.proofs.Ordered.{IsAbove, IsOrdered}

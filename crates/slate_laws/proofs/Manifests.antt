@@ -14,9 +14,9 @@ use Rattle.slate_encodable.specs.Normal.{normal_manifest, normal_checkpoint}
 use Rattle.slate_model.specs.declared.checkpoint.Checkpoint.{Checkpoint}
 use Rattle.slate_model.specs.declared.manifest.Manifest.{Manifest}
 use Rattle.slate_events.specs.declared.call.Call.{Call}
-use Rattle.slate_log.specs.Commit.{prepared, checked_commit, encoded_commit}
-use Rattle.slate_log.specs.declared.commit.CommitPhase.{CommitPhase}
-use Rattle.slate_log.specs.declared.commit.CommitPhase.TheVariants.{Putting}
+use Rattle.slate_log.specs.CommitPhase.{prepared, checked_commit, encoded_commit}
+use Rattle.slate_log.specs.declared.commit_phase.CommitPhase.{CommitPhase}
+use Rattle.slate_log.specs.declared.commit_phase.CommitPhase.TheVariants.{Putting}
 use Rattle.slate_log.specs.declared.right.Right.{Right}
 use Rattle.slate_log.specs.Change.{renewed, wanted, some_commit}
 use Rattle.slate_log.specs.Fence.{unless}

@@ -16,7 +16,7 @@ use Rattle.slate_store.specs.declared.mark.Mark.TheVariants.{Good, Fail, Lost}
 use Rattle.slate_store.specs.declared.object.ObjectMetadata.{ObjectMetadata}
 use Rattle.slate_store.specs.declared.object.StoredObject.{StoredObject}
 use Rattle.slate_store.specs.declared.store_answer.StoreAnswer.{StoreAnswer}
-use Rattle.slate_log.specs.Advance.{AdvanceGoes, advance_asks, advance_goes}
+use Rattle.slate_log.specs.AdvancePhase.{AdvanceGoes, advance_asks, advance_goes}
 use Rattle.slate_log.specs.Boundary.{greater, greatest}
 use Rattle.slate_log.specs.LogPaths.{version_path, folder}
 use Rattle.slate_log.specs.declared.log_kind.LogKind.TheVariants.{Manifest as ManifestLog}

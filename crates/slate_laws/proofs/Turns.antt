@@ -16,11 +16,11 @@ use Rattle.slate_store.specs.declared.store_answer.StoreAnswer.TheVariants.{Faul
 use Rattle.slate_store.specs.declared.store_call.StoreCall.TheVariants.{PutNew}
 use Rattle.slate_log.specs.Boundary.{greatest}
 use Rattle.slate_log.specs.LogPaths.{version_path, folder}
-use Rattle.slate_log.specs.Read.{read_asks, read_goes, listed_goes, got_goes, decoded_goes, boundary_goes}
-use Rattle.slate_log.specs.Commit.{commit_asks, commit_goes, bounded_goes}
-use Rattle.slate_log.specs.declared.commit.CommitPhase.TheVariants as committing
-use Rattle.slate_log.specs.declared.read.ReadPhase.{ReadPhase}
-use Rattle.slate_log.specs.declared.read.ReadPhase.TheVariants as reading
+use Rattle.slate_log.specs.ReadPhase.{read_asks, read_goes, listed_goes, got_goes, decoded_goes, boundary_goes}
+use Rattle.slate_log.specs.CommitPhase.{commit_asks, commit_goes, bounded_goes}
+use Rattle.slate_log.specs.declared.commit_phase.CommitPhase.TheVariants as committing
+use Rattle.slate_log.specs.declared.read_phase.ReadPhase.{ReadPhase}
+use Rattle.slate_log.specs.declared.read_phase.ReadPhase.TheVariants as reading
 use Rattle.slate_protocol.specs.Chains.{Link, Log, link_at, with_link, bytes_of, link_bytes, bound_in}
 use Rattle.slate_protocol.specs.World.{wrote}
 use Rattle.slate_laws.proofs.Stores.{IsTidy}

@@ -8,11 +8,11 @@ use Rattle.slate_store.specs.Machines.{Stay, End, IsEnd}
 use Rattle.slate_store.specs.declared.object.StoredObject.{StoredObject}
 use Rattle.slate_store.specs.declared.store_answer.StoreAnswer.{StoreAnswer}
 use Rattle.slate_store.specs.declared.store_answer.StoreAnswer.TheVariants.{Got, Created, Replaced, Fault}
-use Rattle.slate_log.specs.Advance.{advance_asks, advance_goes, advance_due, AdvanceGoes, bound_goes, read_goes_to, written_goes}
+use Rattle.slate_log.specs.AdvancePhase.{advance_asks, advance_goes, advance_due, AdvanceGoes, bound_goes, read_goes_to, written_goes}
 use Rattle.slate_log.specs.Boundary.{boundary_of}
 use Rattle.slate_log.specs.LogPaths.{boundary_path}
-use Rattle.slate_log.specs.declared.advance.AdvancePhase.{AdvancePhase}
-use Rattle.slate_log.specs.declared.advance.AdvancePhase.TheVariants.{Bounding, Creating, Replacing, Over}
+use Rattle.slate_log.specs.declared.advance_phase.AdvancePhase.{AdvancePhase}
+use Rattle.slate_log.specs.declared.advance_phase.AdvancePhase.TheVariants.{Bounding, Creating, Replacing, Over}
 use Rattle.slate_log.specs.declared.log_kind.LogKind.{LogKind}
 use Rattle.slate_log.proofs.Faults.{OnlyFaults, Fine, fine_stay, fine_ok, fine_err, sound_at, get_answers, create_answers, replace_answers}
 

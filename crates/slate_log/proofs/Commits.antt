@@ -10,11 +10,11 @@ use Rattle.slate_store.specs.declared.step.Step.TheVariants.{Done}
 use Rattle.slate_store.specs.declared.store_answer.StoreAnswer.{StoreAnswer}
 use Rattle.slate_store.specs.declared.store_answer.StoreAnswer.TheVariants.{Got, Created, Fault}
 use Rattle.slate_log.specs.Boundary.{boundary_got}
-use Rattle.slate_log.specs.Commit.{commit_asks, commit_goes, commit_due, commit_version, KeepsVersion, CommitGoes, created_goes, bounded_goes}
+use Rattle.slate_log.specs.CommitPhase.{commit_asks, commit_goes, commit_due, commit_version, KeepsVersion, CommitGoes, created_goes, bounded_goes}
 use Rattle.slate_log.proofs.Faults.{OnlyFaults, Fine, fine_stay, fine_ok, fine_err, sound_at, get_answers, create_answers}
 use Rattle.slate_log.specs.LogPaths.{version_path, boundary_path}
-use Rattle.slate_log.specs.declared.commit.CommitPhase.{CommitPhase}
-use Rattle.slate_log.specs.declared.commit.CommitPhase.TheVariants.{Putting, Bounding, Over}
+use Rattle.slate_log.specs.declared.commit_phase.CommitPhase.{CommitPhase}
+use Rattle.slate_log.specs.declared.commit_phase.CommitPhase.TheVariants.{Putting, Bounding, Over}
 use Rattle.slate_log.specs.declared.log_kind.LogKind.{LogKind}
 
 abbrev FineCommit : {T : Type 0} → CommitGoes T → Type 0

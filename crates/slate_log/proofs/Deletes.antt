@@ -14,13 +14,13 @@ use Rattle.slate_store.specs.declared.store_answer.StoreAnswer.{StoreAnswer}
 use Rattle.slate_store.specs.declared.store_answer.StoreAnswer.TheVariants.{Found, Got, Created, Replaced, Written, Deleted, Fault}
 use Rattle.slate_store.specs.declared.store_call.StoreCall.{StoreCall}
 use Rattle.slate_store.specs.declared.store_call.StoreCall.TheVariants.{Get}
-use Rattle.slate_log.specs.Advancing.{AtLeast, BoundaryReached}
+use Rattle.slate_log.specs.Advance.{AtLeast, BoundaryReached}
 use Rattle.slate_log.specs.Boundary.{boundary_got}
-use Rattle.slate_log.specs.Delete.{delete_asks, delete_goes, delete_due, DeleteGoes, checked_goes}
-use Rattle.slate_log.specs.Deleting.{DeleteRan, DeleteBegan}
+use Rattle.slate_log.specs.DeletePhase.{delete_asks, delete_goes, delete_due, DeleteGoes, checked_goes}
+use Rattle.slate_log.specs.Delete.{DeleteRan, DeleteBegan}
 use Rattle.slate_log.specs.LogPaths.{version_path, boundary_path}
-use Rattle.slate_log.specs.declared.delete.DeletePhase.{DeletePhase}
-use Rattle.slate_log.specs.declared.delete.DeletePhase.TheVariants.{Bounding, Deleting, Over}
+use Rattle.slate_log.specs.declared.delete_phase.DeletePhase.{DeletePhase}
+use Rattle.slate_log.specs.declared.delete_phase.DeletePhase.TheVariants.{Bounding, Deleting, Over}
 use Rattle.slate_log.specs.declared.log_kind.LogKind.{LogKind}
 use Rattle.slate_log.specs.declared.sequenced.Sequenced.{Sequenced}
 use Rattle.slate_log.proofs.Faults.{OnlyFaults, Fine, fine_stay, fine_ok, fine_err, sound_at, get_answers, delete_answers}

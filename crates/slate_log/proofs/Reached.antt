@@ -17,12 +17,12 @@ use Rattle.slate_store.specs.declared.store_answer.StoreAnswer.{StoreAnswer}
 use Rattle.slate_store.specs.declared.store_answer.StoreAnswer.TheVariants.{Found, Got, Created, Replaced, Written, Deleted, Fault}
 use Rattle.slate_store.specs.declared.store_call.StoreCall.{StoreCall}
 use Rattle.slate_store.specs.declared.store_call.StoreCall.TheVariants.{Get, PutNew, Replace}
-use Rattle.slate_log.specs.Advance.{advance_asks, advance_goes, AdvanceGoes, bound_goes, read_goes_to}
-use Rattle.slate_log.specs.Advancing.{Advanced, AdvanceBegan, boundary_at, AtLeast, ReachedIn, NoLower, KeptIn, BoundaryReached, BoundaryKept}
+use Rattle.slate_log.specs.AdvancePhase.{advance_asks, advance_goes, AdvanceGoes, bound_goes, read_goes_to}
+use Rattle.slate_log.specs.Advance.{Advanced, AdvanceBegan, boundary_at, AtLeast, ReachedIn, NoLower, KeptIn, BoundaryReached, BoundaryKept}
 use Rattle.slate_log.specs.Boundary.{boundary_of, boundary_got}
 use Rattle.slate_log.specs.LogPaths.{boundary_path}
-use Rattle.slate_log.specs.declared.advance.AdvancePhase.{AdvancePhase}
-use Rattle.slate_log.specs.declared.advance.AdvancePhase.TheVariants.{Bounding, Creating, Replacing, Over}
+use Rattle.slate_log.specs.declared.advance_phase.AdvancePhase.{AdvancePhase}
+use Rattle.slate_log.specs.declared.advance_phase.AdvancePhase.TheVariants.{Bounding, Creating, Replacing, Over}
 use Rattle.slate_log.specs.declared.log_kind.LogKind.{LogKind}
 use Rattle.slate_log.specs.declared.sequenced.Sequenced.{Sequenced}
 use Rattle.slate_ids.proofs.DecimalTexts.{decimal_back}

@@ -13,10 +13,10 @@ use Rattle.slate_log.specs.Boundary.{boundary_got, greatest}
 use Rattle.slate_log.specs.Due.{NoFault}
 use Rattle.slate_log.proofs.Faults.{OnlyFaults, Fine, fine_stay, fine_ok, fine_err, sound_at, list_answers, get_answers}
 use Rattle.slate_log.specs.LogPaths.{version_path, boundary_path, folder}
-use Rattle.slate_log.specs.Read.{read_asks, read_goes, read_due, Reply, listed_goes, got_goes, decoded_goes, boundary_goes}
+use Rattle.slate_log.specs.ReadPhase.{read_asks, read_goes, read_due, Reply, listed_goes, got_goes, decoded_goes, boundary_goes}
 use Rattle.slate_log.specs.declared.log_kind.LogKind.{LogKind}
-use Rattle.slate_log.specs.declared.read.ReadPhase.{ReadPhase}
-use Rattle.slate_log.specs.declared.read.ReadPhase.TheVariants.{Listing, Getting, Bounding, Over}
+use Rattle.slate_log.specs.declared.read_phase.ReadPhase.{ReadPhase}
+use Rattle.slate_log.specs.declared.read_phase.ReadPhase.TheVariants.{Listing, Getting, Bounding, Over}
 
 abbrev FineReply : {T : Type 0} → Reply T → Type 0
 FineReply out = Fine read_due out

@@ -6,10 +6,10 @@ use Rattle.slate_store.specs.Store.{Store}
 use Rattle.slate_store.specs.Calls.{Told, Makes, contents_after, moment_of}
 use Rattle.slate_store.specs.Machines.{Goes, Held, Steps, GoesOn}
 use Rattle.slate_log.specs.Due.{WhereOut}
-use Rattle.slate_log.specs.Read.{read_asks}
+use Rattle.slate_log.specs.ReadPhase.{read_asks}
 use Rattle.slate_log.specs.declared.log_kind.LogKind.{LogKind}
-use Rattle.slate_log.specs.declared.read.ReadPhase.{ReadPhase}
-use Rattle.slate_log.specs.declared.read.ReadPhase.TheVariants.{Listing, Getting, Bounding, Over}
+use Rattle.slate_log.specs.declared.read_phase.ReadPhase.{ReadPhase}
+use Rattle.slate_log.specs.declared.read_phase.ReadPhase.TheVariants.{Listing, Getting, Bounding, Over}
 use Rattle.slate_store.specs.declared.mark.Mark.{Mark}
 use Rattle.slate_store.specs.declared.mark.Mark.TheVariants.{Good, Fail, Lost}
 use Rattle.slate_store.specs.declared.step.Step.{Step}

@@ -3,8 +3,8 @@ use Rattle.std.specs.Prelude.{ℕ, ◌+◌, ◌==◌, List, Option, Some, None, 
 use Rattle.slate_ids.specs.Limits.{last_number}
 use Rattle.slate_ids.specs.declared.error.SlateDBError.{SlateDBError}
 use Rattle.slate_ids.specs.declared.error.SlateDBError.TheVariants.{Exhausted}
-use Rattle.slate_log.specs.Commit.{prepared}
-use Rattle.slate_log.specs.declared.commit.CommitPhase.{CommitPhase}
+use Rattle.slate_log.specs.CommitPhase.{prepared}
+use Rattle.slate_log.specs.declared.commit_phase.CommitPhase.{CommitPhase}
 use Rattle.slate_log.specs.declared.right.Right.{Right}
 
 -- the value with its epoch plus one, as a change of the value read

@@ -1,47 +1,28 @@
--- Delete: get the boundary, and delete a version that isn't above it; or delete it as it is.
-use Rattle.std.specs.Prelude.{ℕ, Bool, true, false, List, Option, Some, None, Ok, Err, nat_le, if◌then◌else◌}
-use Rattle.slate_ids.specs.declared.error.SlateDBError.TheVariants.{StoreFault, Corrupt, InvalidDeletion}
-use Rattle.slate_ids.specs.declared.error.FormatName.TheVariants.{Boundary as BoundaryFormat}
-use Rattle.slate_store.specs.declared.store_call.StoreCall.{StoreCall}
-use Rattle.slate_store.specs.declared.store_call.StoreCall.TheVariants.{Get, Delete}
+-- The plain calls that delete a version.
+use Rattle.std.specs.Prelude.{ℕ, pos, Result, Ok, Err}
+use Rattle.slate_ids.specs.declared.error.SlateDBError.{SlateDBError}
+use Rattle.slate_ids.specs.declared.error.SlateDBError.TheVariants.{StoreFault}
+use Rattle.slate_store.specs.Calls.{Told}
+use Rattle.slate_store.specs.Runs.{Ran, Began}
 use Rattle.slate_store.specs.declared.store_answer.StoreAnswer.{StoreAnswer}
-use Rattle.slate_store.specs.declared.store_answer.StoreAnswer.TheVariants.{Got, Deleted}
-use Rattle.slate_store.specs.Machines.{Goes, Stay, End}
-use Rattle.slate_log.specs.Boundary.{boundary_got}
-use Rattle.slate_log.specs.LogPaths.{version_path, boundary_path}
-use Rattle.slate_log.specs.declared.delete.DeletePhase.{DeletePhase}
-use Rattle.slate_log.specs.declared.delete.DeletePhase.TheVariants.{Bounding, Deleting, Over}
-use Rattle.slate_log.specs.declared.log_kind.LogKind.{LogKind}
+use Rattle.slate_store.specs.declared.store_answer.StoreAnswer.TheVariants.{Deleted}
+use Rattle.slate_log.specs.Commit.{never}
+use Rattle.slate_log.specs.DeletePhase.{delete_asks, delete_goes}
+use Rattle.slate_log.specs.declared.delete_phase.DeletePhase.{DeletePhase}
+use Rattle.slate_log.specs.declared.delete_phase.DeletePhase.TheVariants.{Bounding}
+use Rattle.slate_log.specs.declared.sequenced.Sequenced.{Sequenced}
 
--- the one call of each phase
-abbrev pub delete_asks : List ℕ → LogKind → DeletePhase → StoreCall
-delete_asks db log (Bounding n) = Get (boundary_path log db)
-delete_asks db log (Deleting n) = Delete (version_path log db n)
-delete_asks db log Over = Get (boundary_path log db)
+-- the deletion ran
+abbrev pub DeleteRan : {T C : Type 0} → Sequenced T C → ℕ → Told → Told → Result (Unit {0}) SlateDBError → Type 0
+DeleteRan sequenced n old new result =
+    (to : DeletePhase) × Ran never (delete_asks sequenced.db sequenced.log) delete_goes (pos 0) 1 old new (Bounding n) to result
 
--- how a deletion goes on
-abbrev pub DeleteGoes : Type 0
-DeleteGoes = Goes DeletePhase (Unit {0})
+-- memory ran out within the deletion
+abbrev pub DeleteBegan : {T C : Type 0} → Sequenced T C → ℕ → Told → Told → Type 0
+DeleteBegan sequenced n old new =
+    (to : DeletePhase) × Began never (delete_asks sequenced.db sequenced.log) delete_goes (pos 0) 1 old new (Bounding n) to
 
--- a version above the boundary is not deleted
-abbrev pub checked_goes : ℕ → Option ℕ → DeleteGoes
-checked_goes n None = End Over (Err (Corrupt BoundaryFormat))
-checked_goes n (Some boundary) = if nat_le n boundary then Stay (Deleting n) else End Over (Err (InvalidDeletion n))
-
--- how the deletion goes on from the answer; an answer to another call ends as a fault does
-abbrev pub delete_goes : DeletePhase → StoreAnswer → DeleteGoes
-delete_goes (Bounding n) (Got object) = checked_goes n (boundary_got object)
-delete_goes (Deleting n) Deleted = End Over (Ok tt)
-delete_goes phase answer = End Over (Err StoreFault)
-
--- whether a call is due
-abbrev pub delete_due : DeletePhase → Bool
-delete_due (Bounding n) = true
-delete_due (Deleting n) = true
-delete_due Over = false
-
--- the steps that are left
-abbrev pub delete_rank : DeletePhase → ℕ
-delete_rank (Bounding n) = 2
-delete_rank (Deleting n) = 1
-delete_rank Over = 0
+-- the reply to the answer to a delete; any other answer is a fault
+abbrev pub deleted_reply : StoreAnswer → Result (Unit {0}) SlateDBError
+deleted_reply Deleted = Ok tt
+deleted_reply answer = Err StoreFault

@@ -10,8 +10,8 @@ use Rattle.slate_store.specs.declared.store_answer.StoreAnswer.TheVariants.{Got}
 use Rattle.slate_store.specs.Machines.{Goes, End}
 use Rattle.slate_log.specs.LogPaths.{version_path, boundary_path}
 use Rattle.slate_log.specs.declared.log_kind.LogKind.{LogKind}
-use Rattle.slate_log.specs.declared.try_read.TryReadPhase.{TryReadPhase}
-use Rattle.slate_log.specs.declared.try_read.TryReadPhase.TheVariants.{Getting, Over}
+use Rattle.slate_log.specs.declared.try_read_phase.TryReadPhase.{TryReadPhase}
+use Rattle.slate_log.specs.declared.try_read_phase.TryReadPhase.TheVariants.{Getting, Over}
 
 -- a value, where it is not refused
 abbrev pub some_value : {T : Type 0} → Result T SlateDBError → Result (Option T) SlateDBError

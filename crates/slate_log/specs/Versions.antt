@@ -13,8 +13,8 @@ use Rattle.slate_store.specs.declared.store_answer.StoreAnswer.TheVariants.{Foun
 use Rattle.slate_store.specs.Machines.{Goes, End}
 use Rattle.slate_log.specs.LogPaths.{number_of, folder}
 use Rattle.slate_log.specs.declared.log_kind.LogKind.{LogKind}
-use Rattle.slate_log.specs.declared.versions.ListPhase.{ListPhase}
-use Rattle.slate_log.specs.declared.versions.ListPhase.TheVariants.{Listing, Over}
+use Rattle.slate_log.specs.declared.list_phase.ListPhase.{ListPhase}
+use Rattle.slate_log.specs.declared.list_phase.ListPhase.TheVariants.{Listing, Over}
 
 -- a number and what is told of its object
 abbrev pub Version : Type 0

@@ -1,97 +1,83 @@
-//! Deleting a version of a log.
-ghost use Rattle.std.specs.Prelude.{◌≡◌, ◌<◌, true};
-ghost use Rattle.slate_store.specs.Machines.{Steps, Held, GoesOnAlways, IsAgain};
-ghost use Rattle.slate_log.specs.Delete.{delete_asks, delete_goes, delete_due, delete_rank};
-ghost use Rattle.slate_log.specs.Due.{StillDue, FaultRose, WhereOut, NeverOut};
+//! The plain calls that delete a version.
+ghost use Rattle.std.specs.Prelude.{◌≡◌, pos, true, OnOk};
+ghost use Rattle.slate_ids.specs.Answers.{OrMemory};
+ghost use Rattle.slate_store.specs.declared.store_call.StoreCall.TheVariants as calls;
+ghost use Rattle.slate_log.specs.Advance.{BoundaryReached};
+ghost use Rattle.slate_log.specs.Delete.{DeleteRan, DeleteBegan, deleted_reply};
+ghost use Rattle.slate_log.specs.Due.{FaultOf};
+ghost use Rattle.slate_log.specs.LogPaths.{version_path};
+ghost use Rattle.slate_log.specs.Once.{Once};
+ghost use Rattle.slate_log.specs.declared.delete_phase.DeletePhase.TheVariants.{Bounding, Deleting};
 
-use crate::boundary::boundary_in;
+use crate::delete_phase::DeletePhase;
 use crate::sequenced::Sequenced;
-use slate_ids::{FormatName, Millis, SlateDBError};
+use slate_ids::SlateDBError;
 use slate_store::{ObjectStore, Step, StoreAnswer, StoreCall, perform};
 use std::alloc::Global;
-use std::mem;
 
-/// Where a deletion stands.
-#[derive(Clone, Copy, Debug)]
-pub enum DeletePhase {
-    /// The boundary is to be got: this number is deleted where it isn't above it.
-    Bounding(u64),
-    /// The version of this number is to be deleted.
-    Deleting(u64),
-    /// It ended.
-    Over,
+// The reply to the answer to a delete.
+fn deleted_reply(answer: &StoreAnswer) -> Result<(), SlateDBError>
+    ensures { result ≡ deleted_reply answer.now }
+{
+    match answer {
+        StoreAnswer::Deleted => Ok(()),
+        _ => Err(SlateDBError::StoreFault),
+    }
 }
 
-impl DeletePhase {
-    /// The call that is due. Takes no memory.
-    pub fn asks<T, C>(&self, sequenced: &Sequenced<T, C>) -> StoreCall
-        ensures { result ≡ delete_asks sequenced.now.db sequenced.now.log self.now }
+impl<T, C> Sequenced<T, C> {
+    /// The machine that deletes the version of this number where the boundary is at or above it.
+    pub fn start_delete(&self, n: u64) -> DeletePhase
+        ensures { result ≡ Bounding n }
     {
-        match self {
-            DeletePhase::Bounding(_) => StoreCall::Get(sequenced.log.boundary_path(sequenced.db)),
-            DeletePhase::Deleting(n) => {
-                StoreCall::Delete(sequenced.log.version_path(sequenced.db, *n))
-            }
-            DeletePhase::Over => StoreCall::Get(sequenced.log.boundary_path(sequenced.db)),
-        }
+        DeletePhase::Bounding(n)
     }
 
-    /// Whether a call is due. None is after an end, but for want of memory.
-    pub fn due(&self) -> bool
-        ensures { result ≡ delete_due self.now }
+    /// The machine that deletes the version of this number as it is.
+    pub fn start_delete_unchecked(&self, n: u64) -> DeletePhase
+        ensures { result ≡ Deleting n }
     {
-        match self {
-            DeletePhase::Over => false,
-            _ => true,
-        }
+        DeletePhase::Deleting(n)
     }
 
-    /// Goes on from the answer to that call. Takes no memory.
-    pub fn goes_on(&mut self, answer: &StoreAnswer) -> Step<()>
-        ensures goes { GoesOnAlways (delete_goes self.old answer.now) self.new result }
-        ensures falls { IsAgain result → delete_rank self.new < delete_rank self.old }
-        ensures due { StillDue result (delete_due self.new) }
-        ensures memory { NeverOut result }
-    {
-        match (mem::replace(self, DeletePhase::Over), answer) {
-            (DeletePhase::Bounding(n), StoreAnswer::Got(object)) => match boundary_in(object) {
-                None => Step::Done(Err(SlateDBError::Corrupt(FormatName::Boundary))),
-                Some(boundary) => {
-                    if n <= boundary {
-                        *self = DeletePhase::Deleting(n);
-                        Step::Again
-                    } else {
-                        Step::Done(Err(SlateDBError::InvalidDeletion(n)))
-                    }
-                }
-            },
-            (DeletePhase::Deleting(_), StoreAnswer::Deleted) => Step::Done(Ok(())),
-            _ => Step::Done(Err(SlateDBError::StoreFault)),
-        }
-    }
-
-    /// Makes the one call that is due. Want of memory leaves the phase as it was, and any other end leaves none due.
-    pub fn next<T, C, S: ObjectStore>(
-        &mut self,
+    /// Deletes the version of this number where the boundary is at or above it, and else is `InvalidDeletion` and deletes
+    /// nothing. An absent boundary counts as 0, and one that can't be read is `Corrupt`. A version that isn't there is no
+    /// refusal. After `StoreFault` the version is as it was, or is gone.
+    pub fn delete<S: ObjectStore>(
+        &self,
         alloc: Global,
-        sequenced: &Sequenced<T, C>,
         store: &mut S,
-        moment: Millis,
-    ) -> Step<()>
-        requires due { delete_due self.now ≡ true }
-        ensures steps { Steps (S.told store.old) (S.told store.new)
-            (delete_asks sequenced.now.db sequenced.now.log self.old) moment
-            (delete_goes self.old) self.old self.new result }
-        ensures falls { IsAgain result → delete_rank self.new < delete_rank self.old }
-        ensures due { StillDue result (delete_due self.new) }
-        ensures memory { WhereOut result (Held (S.told store.old) (S.told store.new)
-            (delete_asks sequenced.now.db sequenced.now.log self.old) moment self.old self.new) }
-        ensures fault { FaultRose (S.told store.old) (S.told store.new) result }
+        n: u64,
+    ) -> Result<(), SlateDBError>
+        ensures delete { OrMemory result
+            (DeleteBegan self.now n (S.told store.old) (S.told store.new))
+            (DeleteRan self.now n (S.told store.old) (S.told store.new) result) }
+        ensures allowed { OnOk result (BoundaryReached self.now.db self.now.log n (S.told store.old)) }
+        ensures fault { FaultOf (S.told store.old) (S.told store.new) result }
     {
-        let call = self.asks(sequenced);
-        match perform(alloc, store, &call, moment) {
-            Ok(answer) => self.goes_on(&answer),
-            Err(_) => Step::Done(Err(SlateDBError::OutOfMemory)),
+        let mut deletion = DeletePhase::Bounding(n);
+        loop {
+            match deletion.next(alloc, self, store, 0) {
+                Step::Done(result) => return result,
+                Step::Again => {}
+            }
         }
+    }
+
+    /// Deletes the version of this number by one call, whatever the boundary. A version that isn't there is no refusal.
+    /// After `StoreFault` the version is as it was, or is gone.
+    pub fn delete_unchecked<S: ObjectStore>(
+        &self,
+        alloc: Global,
+        store: &mut S,
+        n: u64,
+    ) -> Result<(), SlateDBError>
+        ensures delete { Once (S.told store.old) (S.told store.new)
+            (calls.Delete (version_path self.now.log self.now.db n)) (pos 0) deleted_reply result }
+        ensures fault { FaultOf (S.told store.old) (S.told store.new) result }
+    {
+        let call = StoreCall::Delete(self.log.version_path(self.db, n));
+        let answer = perform(alloc, store, &call, 0)?;
+        deleted_reply(&answer)
     }
 }

@@ -3,36 +3,38 @@
 #![tactic(auto)]
 
 mod advance;
-mod advancing;
+mod advance_phase;
 mod boundary;
 mod commit;
-mod committing;
+mod commit_phase;
 mod delete;
-mod deleting;
+mod delete_phase;
 mod fencing;
+mod list_phase;
 mod log_kind;
 mod next_value;
 mod preparing;
 mod ran_out;
-mod read;
 mod read_latest;
+mod read_phase;
 mod right;
 mod rules;
 mod sequenced;
 mod try_read;
+mod try_read_phase;
 mod versions;
 
-pub use advance::AdvancePhase;
+pub use advance_phase::AdvancePhase;
 pub use boundary::{boundary_in, decode_boundary, encode_boundary, greater, greatest};
-pub use commit::{CommitPhase, prepare};
-pub use delete::DeletePhase;
+pub use commit_phase::{CommitPhase, prepare};
+pub use delete_phase::DeletePhase;
 pub use fencing::fence;
+pub use list_phase::ListPhase;
 pub use log_kind::LogKind;
 pub use next_value::next_epoch;
 pub use preparing::prepare_change;
-pub use read::ReadPhase;
+pub use read_phase::ReadPhase;
 pub use right::Right;
 pub use rules::Rules;
 pub use sequenced::Sequenced;
-pub use try_read::TryReadPhase;
-pub use versions::ListPhase;
+pub use try_read_phase::TryReadPhase;

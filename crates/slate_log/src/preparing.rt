@@ -2,9 +2,9 @@
 ghost use Rattle.std.specs.Prelude.{◌≡◌, Ok, IfOk, IfSome, true};
 ghost use Rattle.slate_ids.specs.Answers.{Gives};
 ghost use Rattle.slate_log.specs.Change.{wanted};
-ghost use Rattle.slate_log.specs.Commit.{prepared, is_putting};
+ghost use Rattle.slate_log.specs.CommitPhase.{prepared, is_putting};
 
-use crate::commit::{CommitPhase, prepare};
+use crate::commit_phase::{CommitPhase, prepare};
 use crate::right::Right;
 use crate::rules::Rules;
 use slate_ids::{ObjectCodec, SlateDBError};

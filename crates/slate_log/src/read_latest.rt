@@ -2,10 +2,10 @@
 ghost use Rattle.std.specs.Prelude.{◌≡◌, ◌<◌};
 ghost use Rattle.slate_ids.specs.Answers.{OrMemory};
 ghost use Rattle.slate_log.specs.Due.{FaultOf, NoFault};
-ghost use Rattle.slate_log.specs.Reading.{Read, ReadBegan};
-ghost use Rattle.slate_log.specs.declared.read.ReadPhase.TheVariants.{Listing};
+ghost use Rattle.slate_log.specs.ReadLatest.{Read, ReadBegan};
+ghost use Rattle.slate_log.specs.declared.read_phase.ReadPhase.TheVariants.{Listing};
 
-use crate::read::ReadPhase;
+use crate::read_phase::ReadPhase;
 use crate::sequenced::Sequenced;
 use slate_ids::{ObjectCodec, SlateDBError};
 use slate_store::{ObjectStore, Step};

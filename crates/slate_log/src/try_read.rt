@@ -1,28 +1,18 @@
-//! Reading one version by its number.
-ghost use Rattle.std.specs.Prelude.{◌≡◌, pos, true, IfErr};
+//! The plain call that reads one version by its number.
+ghost use Rattle.std.specs.Prelude.{◌≡◌, pos};
 ghost use Rattle.slate_ids.specs.Answers.{Gives};
-ghost use Rattle.slate_store.specs.Machines.{Steps};
 ghost use Rattle.slate_store.specs.declared.store_call.StoreCall.TheVariants as calls;
-ghost use Rattle.slate_log.specs.Due.{StillDue, FaultOf, FaultRose, NoFault};
+ghost use Rattle.slate_log.specs.Due.{FaultOf, NoFault};
 ghost use Rattle.slate_log.specs.LogPaths.{version_path};
 ghost use Rattle.slate_log.specs.Once.{Once};
-ghost use Rattle.slate_log.specs.TryRead.{try_asks, try_goes, try_due, try_reply};
-ghost use Rattle.slate_log.specs.declared.try_read.TryReadPhase.TheVariants.{Getting};
+ghost use Rattle.slate_log.specs.TryRead.{try_reply};
+ghost use Rattle.slate_log.specs.declared.try_read_phase.TryReadPhase.TheVariants.{Getting};
 
-use crate::ran_out::ran_out;
 use crate::sequenced::Sequenced;
+use crate::try_read_phase::TryReadPhase;
 use slate_ids::{Millis, ObjectCodec, SlateDBError};
-use slate_store::{ObjectStore, Step, StoreAnswer, StoreCall, perform};
+use slate_store::{ObjectStore, StoreAnswer, StoreCall, perform};
 use std::alloc::Global;
-
-/// Where the read of one version stands.
-#[derive(Clone, Copy, Debug)]
-pub enum TryReadPhase {
-    /// The version of this number is to be got.
-    Getting(u64),
-    /// It ended.
-    Over,
-}
 
 impl<T: Drop, C: ObjectCodec<T>> Sequenced<T, C> {
     // The value that was got.
@@ -38,7 +28,7 @@ impl<T: Drop, C: ObjectCodec<T>> Sequenced<T, C> {
         }
     }
 
-    fn try_once<S: ObjectStore>(
+    pub(crate) fn try_once<S: ObjectStore>(
         &self,
         alloc: Global,
         store: &mut S,
@@ -77,45 +67,5 @@ impl<T: Drop, C: ObjectCodec<T>> Sequenced<T, C> {
         ensures { result ≡ Getting number }
     {
         TryReadPhase::Getting(number)
-    }
-}
-
-impl TryReadPhase {
-    /// Whether the call is due. It isn't after an end, but for want of memory.
-    pub fn due(&self) -> bool
-        ensures { result ≡ try_due self.now }
-    {
-        match self {
-            TryReadPhase::Getting(_) => true,
-            TryReadPhase::Over => false,
-        }
-    }
-
-    /// Makes the one call. Want of memory leaves the phase as it was, and any other end leaves none due.
-    pub fn next<T: Drop, C: ObjectCodec<T>, S: ObjectStore>(
-        &mut self,
-        alloc: Global,
-        sequenced: &Sequenced<T, C>,
-        store: &mut S,
-        moment: Millis,
-    ) -> Step<Option<T>>
-        requires due { try_due self.now ≡ true }
-        ensures steps { Steps (S.told store.old) (S.told store.new)
-            (try_asks sequenced.now.db sequenced.now.log self.old) moment
-            (try_goes (C.decoded sequenced.now.codec) self.old) self.old self.new result }
-        ensures due { StillDue result (try_due self.new) }
-        ensures fault { NoFault (C.decoded sequenced.now.codec)
-            → FaultRose (S.told store.old) (S.told store.new) result }
-    {
-        match *self {
-            TryReadPhase::Getting(n) => {
-                let reply = sequenced.try_once(alloc, store, n, moment);
-                if !ran_out(&reply) {
-                    *self = TryReadPhase::Over;
-                }
-                Step::Done(reply)
-            }
-            TryReadPhase::Over => unreachable!(),
-        }
     }
 }

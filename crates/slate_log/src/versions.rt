@@ -1,28 +1,18 @@
-//! Listing the versions of a log.
-ghost use Rattle.std.specs.Prelude.{◌≡◌, ◌≤◌, pos, true, IfOk, OnOk, length};
+//! The plain call that lists the versions of a log.
+ghost use Rattle.std.specs.Prelude.{◌≡◌, ◌≤◌, pos, IfOk, OnOk, length};
 ghost use Rattle.slate_ids.specs.Answers.{Gives};
-ghost use Rattle.slate_store.specs.Machines.{Steps};
-ghost use Rattle.slate_log.specs.Due.{StillDue, FaultOf, FaultRose};
+ghost use Rattle.slate_log.specs.Due.{FaultOf};
 ghost use Rattle.slate_log.specs.LogPaths.{number_of};
 ghost use Rattle.slate_log.specs.Once.{Once};
-ghost use Rattle.slate_log.specs.Versions.{place, put_in, kept_with, versions_in, versions_of, list_reply, list_asks, list_goes, list_due, Ascending, Within};
-ghost use Rattle.slate_log.specs.declared.versions.ListPhase.TheVariants.{Listing};
+ghost use Rattle.slate_log.specs.Versions.{place, put_in, kept_with, versions_in, versions_of, list_reply, list_asks, Ascending, Within};
+ghost use Rattle.slate_log.specs.declared.list_phase.ListPhase.TheVariants.{Listing};
 
+use crate::list_phase::ListPhase;
 use crate::log_kind::LogKind;
-use crate::ran_out::ran_out;
 use crate::sequenced::Sequenced;
 use slate_ids::{Listed, Millis, NumberRange, OutOfMemory, SlateDBError};
-use slate_store::{ObjectMetadata, ObjectStore, Step, StoreAnswer, StoreCall, perform};
+use slate_store::{ObjectMetadata, ObjectStore, StoreAnswer, StoreCall, perform};
 use std::alloc::Global;
-
-/// Where a list of versions stands.
-#[derive(Clone, Copy, Debug)]
-pub enum ListPhase {
-    /// The versions are to be listed: those with numbers in this range.
-    Listing(NumberRange),
-    /// It ended.
-    Over,
-}
 
 // The place of a number among ascending ones, after its equals.
 fn place(kept: &[(u64, ObjectMetadata)], number: u64) -> usize
@@ -103,7 +93,7 @@ fn list_reply(
 }
 
 impl<T, C> Sequenced<T, C> {
-    fn list_once<S: ObjectStore>(
+    pub(crate) fn list_once<S: ObjectStore>(
         &self,
         alloc: Global,
         store: &mut S,
@@ -144,44 +134,5 @@ impl<T, C> Sequenced<T, C> {
         ensures { result ≡ Listing range }
     {
         ListPhase::Listing(range)
-    }
-}
-
-impl ListPhase {
-    /// Whether the call is due. It isn't after an end, but for want of memory.
-    pub fn due(&self) -> bool
-        ensures { result ≡ list_due self.now }
-    {
-        match self {
-            ListPhase::Listing(_) => true,
-            ListPhase::Over => false,
-        }
-    }
-
-    /// Makes the one call. Want of memory leaves the phase as it was, and any other end leaves none due.
-    pub fn next<T, C, S: ObjectStore>(
-        &mut self,
-        alloc: Global,
-        sequenced: &Sequenced<T, C>,
-        store: &mut S,
-        moment: Millis,
-    ) -> Step<Listed<(u64, ObjectMetadata)>>
-        requires due { list_due self.now ≡ true }
-        ensures steps { Steps (S.told store.old) (S.told store.new)
-            (list_asks sequenced.now.db sequenced.now.log) moment
-            (list_goes sequenced.now.log self.old) self.old self.new result }
-        ensures due { StillDue result (list_due self.new) }
-        ensures fault { FaultRose (S.told store.old) (S.told store.new) result }
-    {
-        match *self {
-            ListPhase::Listing(range) => {
-                let reply = sequenced.list_once(alloc, store, range, moment);
-                if !ran_out(&reply) {
-                    *self = ListPhase::Over;
-                }
-                Step::Done(reply)
-            }
-            ListPhase::Over => unreachable!(),
-        }
     }
 }

@@ -11,7 +11,7 @@ use Rattle.slate_events.specs.declared.call.Call.{Call}
 use Rattle.slate_events.specs.declared.db_spec.DbSpec.{DbSpec}
 use Rattle.slate_events.specs.declared.event.Event.{Event}
 use Rattle.slate_events.specs.declared.event.Event.TheVariants.{Open, Start, Step, Stop}
-use Rattle.slate_log.specs.declared.commit.CommitPhase.TheVariants.{Putting}
+use Rattle.slate_log.specs.declared.commit_phase.CommitPhase.TheVariants.{Putting}
 use Rattle.slate_log.specs.declared.log_kind.LogKind.TheVariants.{Manifest as ManifestLog}
 use Rattle.slate_protocol.specs.Calls.{new_value, right_of, fence_of}
 use Rattle.slate_protocol.specs.Chains.{Link, Log, with_link}

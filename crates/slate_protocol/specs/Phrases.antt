@@ -6,14 +6,14 @@ use Rattle.slate_manifest_parts.specs.Decoding.{decoded_manifest}
 use Rattle.slate_store.specs.declared.store_call.StoreCall.{StoreCall}
 use Rattle.slate_store.specs.declared.store_answer.StoreAnswer.{StoreAnswer}
 use Rattle.slate_store.specs.Machines.{Goes, Stay, End}
-use Rattle.slate_log.specs.Read.{read_asks, read_goes, read_due}
-use Rattle.slate_log.specs.Commit.{commit_asks, commit_goes, commit_due}
+use Rattle.slate_log.specs.ReadPhase.{read_asks, read_goes, read_due}
+use Rattle.slate_log.specs.CommitPhase.{commit_asks, commit_goes, commit_due}
 use Rattle.slate_gc.specs.Pass.{pass_asks, pass_goes, pass_due}
 use Rattle.slate_gc.specs.declared.pass_counts.PassCounts.{PassCounts}
 use Rattle.slate_gc.specs.declared.pass_options.PassOptions.{PassOptions}
 use Rattle.slate_gc.specs.declared.pass_phase.PassPhase.{PassPhase}
-use Rattle.slate_log.specs.declared.read.ReadPhase.{ReadPhase}
-use Rattle.slate_log.specs.declared.commit.CommitPhase.{CommitPhase}
+use Rattle.slate_log.specs.declared.read_phase.ReadPhase.{ReadPhase}
+use Rattle.slate_log.specs.declared.commit_phase.CommitPhase.{CommitPhase}
 use Rattle.slate_log.specs.declared.log_kind.LogKind.TheVariants.{Manifest as ManifestLog}
 use Rattle.slate_protocol.specs.declared.position.Phrase.{Phrase}
 use Rattle.slate_protocol.specs.declared.position.Phrase.TheVariants.{Read, Commit, Pass}

@@ -24,17 +24,17 @@ use Rattle.slate_gc.specs.declared.pass_counts.PassCounts.{PassCounts}
 use Rattle.slate_gc.specs.declared.pass_options.PassOptions.{PassOptions}
 use Rattle.slate_gc.specs.declared.pass_phase.PassPhase.{PassPhase}
 use Rattle.slate_gc.specs.declared.pass_phase.PassPhase.TheVariants as passing
-use Rattle.slate_log.specs.Advance.{AdvanceGoes, advance_goes, read_goes_to, written_goes}
-use Rattle.slate_log.specs.declared.advance.AdvancePhase.{AdvancePhase}
-use Rattle.slate_log.specs.declared.advance.AdvancePhase.TheVariants as advancing
+use Rattle.slate_log.specs.AdvancePhase.{AdvanceGoes, advance_goes, read_goes_to, written_goes}
+use Rattle.slate_log.specs.declared.advance_phase.AdvancePhase.{AdvancePhase}
+use Rattle.slate_log.specs.declared.advance_phase.AdvancePhase.TheVariants as advancing
 use Rattle.slate_log.specs.Boundary.{boundary_of, boundary_got, greatest}
-use Rattle.slate_log.specs.Read.{read_goes, listed_goes, decoded_goes, boundary_goes}
-use Rattle.slate_log.specs.Commit.{commit_goes, created_goes, bounded_goes}
+use Rattle.slate_log.specs.ReadPhase.{read_goes, listed_goes, decoded_goes, boundary_goes}
+use Rattle.slate_log.specs.CommitPhase.{commit_goes, created_goes, bounded_goes}
 use Rattle.slate_log.specs.declared.log_kind.LogKind.TheVariants.{Manifest as ManifestLog}
-use Rattle.slate_log.specs.declared.read.ReadPhase.{ReadPhase}
-use Rattle.slate_log.specs.declared.read.ReadPhase.TheVariants as reading
-use Rattle.slate_log.specs.declared.commit.CommitPhase.{CommitPhase}
-use Rattle.slate_log.specs.declared.commit.CommitPhase.TheVariants as committing
+use Rattle.slate_log.specs.declared.read_phase.ReadPhase.{ReadPhase}
+use Rattle.slate_log.specs.declared.read_phase.ReadPhase.TheVariants as reading
+use Rattle.slate_log.specs.declared.commit_phase.CommitPhase.{CommitPhase}
+use Rattle.slate_log.specs.declared.commit_phase.CommitPhase.TheVariants as committing
 use Rattle.slate_protocol.specs.Phrases.{asks, goes, phrase_goes, read_on, commit_on, pass_on}
 use Rattle.slate_protocol.specs.Calls.{follow}
 use Rattle.slate_protocol.specs.declared.party.Facts.{Facts}

@@ -6,7 +6,7 @@ use Rattle.slate_store.specs.Calls.{Told, Makes, moment_of}
 use Rattle.slate_store.specs.declared.store_answer.StoreAnswer.{StoreAnswer}
 use Rattle.slate_events.specs.declared.call.Call.{Call}
 use Rattle.slate_events.specs.declared.reply.Reply.{Reply}
-use Rattle.slate_log.specs.declared.read.ReadPhase.TheVariants.{Bounding}
+use Rattle.slate_log.specs.declared.read_phase.ReadPhase.TheVariants.{Bounding}
 use Rattle.slate_protocol.specs.Phrases.{asks, goes, at_read}
 use Rattle.slate_protocol.specs.Calls.{Next, Go, Finish, follow, after_phrase, after_version}
 use Rattle.slate_protocol.specs.declared.party.Facts.{Facts}

@@ -1,8 +1,8 @@
 //! The phrase under way, as a machine over any store.
 ghost use Rattle.std.specs.Prelude.{◌≡◌, true};
 ghost use Rattle.slate_store.specs.Machines.{Steps};
-ghost use Rattle.slate_log.specs.Read.{read_due};
-ghost use Rattle.slate_log.specs.Commit.{commit_due};
+ghost use Rattle.slate_log.specs.ReadPhase.{read_due};
+ghost use Rattle.slate_log.specs.CommitPhase.{commit_due};
 ghost use Rattle.slate_gc.specs.Pass.{pass_due};
 ghost use Rattle.slate_protocol.specs.Phrases.{asks, goes, is_due as due_at};
 ghost use Rattle.slate_steps.specs.PhraseSteps.{ReadSteps, ReadAtEnd, CommitSteps, PassSteps, AtEnd};

@@ -12,18 +12,18 @@ use Rattle.slate_store.specs.declared.store_answer.StoreAnswer.{StoreAnswer}
 use Rattle.slate_store.specs.declared.store_answer.StoreAnswer.TheVariants.{Fault}
 use Rattle.slate_txn.specs.Apply.{Ways, FaultFree, renews, begun, read_on, commit_on, apply_asks, apply_goes, state_due}
 use Rattle.slate_log.specs.Change.{wanted, some_commit}
-use Rattle.slate_log.specs.Commit.{commit_goes, commit_due, prepared, checked_commit, encoded_commit}
+use Rattle.slate_log.specs.CommitPhase.{commit_goes, commit_due, prepared, checked_commit, encoded_commit}
 use Rattle.slate_log.proofs.Commits.{commit_faults}
 use Rattle.slate_log.proofs.Faults.{OnlyFaults, Fine, fine_stay, fine_ok, fine_err}
 use Rattle.slate_txn.specs.Holder.{Holder, at_version}
-use Rattle.slate_log.specs.Read.{read_goes, read_due, Reply}
+use Rattle.slate_log.specs.ReadPhase.{read_goes, read_due, Reply}
 use Rattle.slate_log.proofs.ReadFaults.{read_faults}
 use Rattle.slate_txn.specs.declared.apply.ApplyPhase.{ApplyPhase}
 use Rattle.slate_txn.specs.declared.apply.ApplyPhase.TheVariants.{Reading, Committing}
-use Rattle.slate_log.specs.declared.commit.CommitPhase.{CommitPhase}
-use Rattle.slate_log.specs.declared.commit.CommitPhase.TheVariants.{Putting, Bounding, Over as CommitOver}
-use Rattle.slate_log.specs.declared.read.ReadPhase.{ReadPhase}
-use Rattle.slate_log.specs.declared.read.ReadPhase.TheVariants.{Listing, Getting, Bounding as BoundingRead, Over}
+use Rattle.slate_log.specs.declared.commit_phase.CommitPhase.{CommitPhase}
+use Rattle.slate_log.specs.declared.commit_phase.CommitPhase.TheVariants.{Putting, Bounding, Over as CommitOver}
+use Rattle.slate_log.specs.declared.read_phase.ReadPhase.{ReadPhase}
+use Rattle.slate_log.specs.declared.read_phase.ReadPhase.TheVariants.{Listing, Getting, Bounding as BoundingRead, Over}
 use Rattle.slate_log.specs.declared.right.Right.{Right}
 
 -- a commit that is made is due

@@ -9,10 +9,10 @@ use Rattle.slate_store.specs.Runs.{Run}
 use Rattle.slate_store.specs.declared.made.Made.{Made}
 use Rattle.slate_store.specs.declared.store_answer.StoreAnswer.{StoreAnswer}
 use Rattle.slate_store.specs.declared.store_call.StoreCall.{StoreCall}
-use Rattle.slate_log.specs.Commit.{commit_goes}
-use Rattle.slate_log.specs.Read.{read_goes, Reply}
-use Rattle.slate_log.specs.declared.commit.CommitPhase.{CommitPhase}
-use Rattle.slate_log.specs.declared.read.ReadPhase.TheVariants.{Listing}
+use Rattle.slate_log.specs.CommitPhase.{commit_goes}
+use Rattle.slate_log.specs.ReadPhase.{read_goes, Reply}
+use Rattle.slate_log.specs.declared.commit_phase.CommitPhase.{CommitPhase}
+use Rattle.slate_log.specs.declared.read_phase.ReadPhase.TheVariants.{Listing}
 use Rattle.slate_txn.proofs.Fences.{Free, commit_free, read_free}
 use Rattle.slate_txn.specs.Apply.{Ways, ApplyState, ApplyGoes, Applies, Begins, apply_asks, apply_goes, renews, begun, read_on, commit_on}
 use Rattle.slate_log.specs.Change.{wanted}

@@ -9,7 +9,7 @@ use Rattle.slate_store.specs.Machines.{Steps}
 use Rattle.slate_store.specs.declared.step.Step.{Step}
 use Rattle.slate_store.specs.declared.step.Step.TheVariants.{Again, Done}
 use Rattle.slate_log.specs.Due.{FaultOf, FaultRose}
-use Rattle.slate_log.specs.declared.read.ReadPhase.{ReadPhase}
+use Rattle.slate_log.specs.declared.read_phase.ReadPhase.{ReadPhase}
 use Rattle.slate_txn.specs.FencedHolder.{FencedHolder, state_within}
 use Rattle.slate_txn.specs.FencedRefreshing.{FencedRefreshed, fence_after, fence_after_step, fence_within, fenced_refresh_goes}
 use Rattle.slate_txn.specs.Fencing.{held_fence, FencedOnly, FencedStep, NotFenced, NotFencedStep}

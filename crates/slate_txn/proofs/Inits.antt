@@ -5,9 +5,9 @@ use Rattle.slate_ids.specs.declared.error.SlateDBError.TheVariants.{OutOfMemory}
 use Rattle.slate_store.specs.Calls.{Told}
 use Rattle.slate_store.specs.Machines.{Held}
 use Rattle.slate_store.specs.declared.step.Step.TheVariants.{Done}
-use Rattle.slate_log.specs.Commit.{commit_asks}
+use Rattle.slate_log.specs.CommitPhase.{commit_asks}
 use Rattle.slate_txn.specs.Holder.{Holder}
-use Rattle.slate_log.specs.declared.commit.CommitPhase.{CommitPhase}
+use Rattle.slate_log.specs.declared.commit_phase.CommitPhase.{CommitPhase}
 use Rattle.slate_txn.specs.declared.init.InitMachine.{InitMachine}
 use Rattle.slate_txn.specs.declared.init.InitMachine.TheVariants.{Committing}
 use Rattle.slate_txn.specs.Initing.{InitSteps}

@@ -6,10 +6,10 @@ use Rattle.slate_ids.specs.declared.error.SlateDBError.TheVariants.{OutOfMemory}
 use Rattle.slate_store.specs.Calls.{Told}
 use Rattle.slate_store.specs.Machines.{Held}
 use Rattle.slate_store.specs.declared.step.Step.TheVariants.{Done}
-use Rattle.slate_log.specs.Read.{read_asks}
+use Rattle.slate_log.specs.ReadPhase.{read_asks}
 use Rattle.slate_txn.specs.declared.load.LoadMachine.{LoadMachine}
 use Rattle.slate_txn.specs.declared.load.LoadMachine.TheVariants.{Reading}
-use Rattle.slate_log.specs.declared.read.ReadPhase.{ReadPhase}
+use Rattle.slate_log.specs.declared.read_phase.ReadPhase.{ReadPhase}
 use Rattle.slate_log.specs.declared.sequenced.Sequenced.{Sequenced}
 use Rattle.slate_txn.specs.Loading.{LoadSteps}
 

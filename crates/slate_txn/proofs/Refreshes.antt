@@ -9,9 +9,9 @@ use Rattle.slate_store.specs.Machines.{Steps}
 use Rattle.slate_store.specs.declared.step.Step.{Step}
 use Rattle.slate_store.specs.declared.step.Step.TheVariants.{Again, Done}
 use Rattle.slate_log.specs.Due.{FaultOf, FaultRose, NoFault}
-use Rattle.slate_log.specs.Read.{read_asks, read_goes}
-use Rattle.slate_log.specs.Reading.{Read, ReadBegan}
-use Rattle.slate_log.specs.declared.read.ReadPhase.{ReadPhase}
+use Rattle.slate_log.specs.ReadPhase.{read_asks, read_goes}
+use Rattle.slate_log.specs.ReadLatest.{Read, ReadBegan}
+use Rattle.slate_log.specs.declared.read_phase.ReadPhase.{ReadPhase}
 use Rattle.slate_log.specs.declared.sequenced.Sequenced.{Sequenced}
 use Rattle.slate_txn.proofs.Fences.{ran_free, step_free, read_free}
 use Rattle.slate_txn.specs.Fencing.{NoFence, NotFenced, NotFencedStep}

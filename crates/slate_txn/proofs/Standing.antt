@@ -20,11 +20,11 @@ use Rattle.slate_store.specs.declared.store_call.StoreCall.TheVariants.{PutNew, 
 use Rattle.slate_ids.specs.declared.object_path.ObjectPath.{ObjectPath}
 use Rattle.slate_log.proofs.Steps.{reads_keep}
 use Rattle.slate_log.specs.Boundary.{boundary_got}
-use Rattle.slate_log.specs.Commit.{commit_asks, commit_goes, bounded_goes, is_putting}
-use Rattle.slate_log.specs.Committing.{Committed, CommitBegan, never}
+use Rattle.slate_log.specs.CommitPhase.{commit_asks, commit_goes, bounded_goes, is_putting}
+use Rattle.slate_log.specs.Commit.{Committed, CommitBegan, never}
 use Rattle.slate_log.specs.LogPaths.{version_path, boundary_path}
-use Rattle.slate_log.specs.declared.commit.CommitPhase.{CommitPhase}
-use Rattle.slate_log.specs.declared.commit.CommitPhase.TheVariants.{Putting, Bounding, Over}
+use Rattle.slate_log.specs.declared.commit_phase.CommitPhase.{CommitPhase}
+use Rattle.slate_log.specs.declared.commit_phase.CommitPhase.TheVariants.{Putting, Bounding, Over}
 use Rattle.slate_log.specs.declared.log_kind.LogKind.{LogKind}
 use Rattle.slate_txn.specs.Holder.{Holder}
 use Rattle.slate_txn.specs.Standing.{SameContents, PutStands, after_put, may_stand, UpdateStands}

@@ -8,10 +8,10 @@ use Rattle.slate_store.specs.Calls.{Told}
 use Rattle.slate_store.specs.Machines.{Steps}
 use Rattle.slate_store.specs.declared.step.Step.{Step}
 use Rattle.slate_store.specs.declared.step.Step.TheVariants.{Again, Done}
-use Rattle.slate_log.specs.Commit.{commit_asks, commit_goes}
-use Rattle.slate_log.specs.Committing.{Committed, CommitBegan}
+use Rattle.slate_log.specs.CommitPhase.{commit_asks, commit_goes}
+use Rattle.slate_log.specs.Commit.{Committed, CommitBegan}
 use Rattle.slate_txn.specs.Holder.{Holder}
-use Rattle.slate_log.specs.declared.commit.CommitPhase.{CommitPhase}
+use Rattle.slate_log.specs.declared.commit_phase.CommitPhase.{CommitPhase}
 use Rattle.slate_txn.specs.declared.update.UpdateMachine.{UpdateMachine}
 use Rattle.slate_txn.specs.declared.update.UpdateMachine.TheVariants.{Committing}
 use Rattle.slate_txn.specs.Updating.{done_of, Updated, UpdateBegan, UpdateState, held_goes, update_goes, UpdateSteps, done_step, held_by}

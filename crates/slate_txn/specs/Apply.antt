@@ -9,15 +9,15 @@ use Rattle.slate_store.specs.Runs.{Ran, Began}
 use Rattle.slate_store.specs.declared.store_call.StoreCall.{StoreCall}
 use Rattle.slate_store.specs.declared.store_answer.StoreAnswer.{StoreAnswer}
 use Rattle.slate_log.specs.Change.{renewed}
-use Rattle.slate_log.specs.Commit.{commit_asks, commit_goes, commit_due, commit_rank}
+use Rattle.slate_log.specs.CommitPhase.{commit_asks, commit_goes, commit_due, commit_rank}
 use Rattle.slate_log.specs.Due.{NoFault}
 use Rattle.slate_txn.specs.Holder.{Holder, at_version}
-use Rattle.slate_log.specs.Read.{read_asks, read_goes, read_due, is_listing, rank}
+use Rattle.slate_log.specs.ReadPhase.{read_asks, read_goes, read_due, is_listing, rank}
 use Rattle.slate_txn.specs.declared.apply.ApplyPhase.{ApplyPhase}
 use Rattle.slate_txn.specs.declared.apply.ApplyPhase.TheVariants.{Reading, Committing}
-use Rattle.slate_log.specs.declared.commit.CommitPhase.{CommitPhase}
-use Rattle.slate_log.specs.declared.read.ReadPhase.{ReadPhase}
-use Rattle.slate_log.specs.declared.read.ReadPhase.TheVariants.{Listing}
+use Rattle.slate_log.specs.declared.commit_phase.CommitPhase.{CommitPhase}
+use Rattle.slate_log.specs.declared.read_phase.ReadPhase.{ReadPhase}
+use Rattle.slate_log.specs.declared.read_phase.ReadPhase.TheVariants.{Listing}
 use Rattle.slate_log.specs.declared.right.Right.{Right}
 
 -- the phase and the holder

@@ -7,7 +7,7 @@ use Rattle.slate_store.specs.Machines.{Goes, Stay, End}
 use Rattle.slate_store.specs.declared.step.Step.{Step}
 use Rattle.slate_store.specs.declared.step.Step.TheVariants.{Again, Done}
 use Rattle.slate_store.specs.declared.store_answer.StoreAnswer.{StoreAnswer}
-use Rattle.slate_log.specs.declared.read.ReadPhase.{ReadPhase}
+use Rattle.slate_log.specs.declared.read_phase.ReadPhase.{ReadPhase}
 use Rattle.slate_txn.specs.FencedHolder.{FencedHolder, state_within}
 use Rattle.slate_txn.specs.Fencing.{held_fence}
 use Rattle.slate_txn.specs.Holder.{Holder}

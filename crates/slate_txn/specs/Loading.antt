@@ -7,10 +7,10 @@ use Rattle.slate_store.specs.Machines.{Goes, Stay, End, Steps}
 use Rattle.slate_store.specs.declared.step.Step.{Step}
 use Rattle.slate_store.specs.declared.store_answer.StoreAnswer.{StoreAnswer}
 use Rattle.slate_txn.specs.Holder.{Holder}
-use Rattle.slate_log.specs.Read.{read_asks, read_goes, read_due}
+use Rattle.slate_log.specs.ReadPhase.{read_asks, read_goes, read_due}
 use Rattle.slate_txn.specs.declared.load.LoadMachine.{LoadMachine}
 use Rattle.slate_txn.specs.declared.load.LoadMachine.TheVariants.{Reading, Over}
-use Rattle.slate_log.specs.declared.read.ReadPhase.{ReadPhase}
+use Rattle.slate_log.specs.declared.read_phase.ReadPhase.{ReadPhase}
 use Rattle.slate_log.specs.declared.sequenced.Sequenced.{Sequenced}
 
 -- the holder of a version

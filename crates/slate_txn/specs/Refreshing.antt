@@ -9,9 +9,9 @@ use Rattle.slate_store.specs.declared.step.Step.{Step}
 use Rattle.slate_store.specs.declared.step.Step.TheVariants.{Again, Done}
 use Rattle.slate_store.specs.declared.store_answer.StoreAnswer.{StoreAnswer}
 use Rattle.slate_store.specs.declared.store_call.StoreCall.{StoreCall}
-use Rattle.slate_log.specs.Read.{read_asks, read_goes}
-use Rattle.slate_log.specs.Reading.{Read, ReadBegan}
-use Rattle.slate_log.specs.declared.read.ReadPhase.{ReadPhase}
+use Rattle.slate_log.specs.ReadPhase.{read_asks, read_goes}
+use Rattle.slate_log.specs.ReadLatest.{Read, ReadBegan}
+use Rattle.slate_log.specs.declared.read_phase.ReadPhase.{ReadPhase}
 use Rattle.slate_txn.specs.Holder.{Holder, at_version}
 
 -- a version that was read is held, and else the holder is unchanged

@@ -6,8 +6,8 @@ use Rattle.slate_ids.specs.declared.error.SlateDBError.TheVariants.{Transactiona
 use Rattle.slate_ids.specs.declared.error.FormatName.TheVariants.{Boundary as BoundaryFormat}
 use Rattle.slate_store.specs.Calls.{Told, contents_after}
 use Rattle.slate_store.specs.declared.mark.Mark.TheVariants.{Good}
-use Rattle.slate_log.specs.Commit.{commit_asks}
-use Rattle.slate_log.specs.declared.commit.CommitPhase.{CommitPhase}
+use Rattle.slate_log.specs.CommitPhase.{commit_asks}
+use Rattle.slate_log.specs.declared.commit_phase.CommitPhase.{CommitPhase}
 use Rattle.slate_log.specs.declared.log_kind.LogKind.{LogKind}
 use Rattle.slate_txn.specs.Holder.{Holder}
 

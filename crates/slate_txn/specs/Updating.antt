@@ -9,11 +9,11 @@ use Rattle.slate_store.specs.Machines.{Goes, Stay, End, Steps, AnswersAtOnce}
 use Rattle.slate_store.specs.declared.step.Step.{Step}
 use Rattle.slate_store.specs.declared.step.Step.TheVariants.{Again, Done}
 use Rattle.slate_store.specs.declared.store_answer.StoreAnswer.{StoreAnswer}
-use Rattle.slate_log.specs.Commit.{prepared, commit_asks, commit_goes, commit_due}
-use Rattle.slate_log.specs.Committing.{Committed, CommitBegan}
+use Rattle.slate_log.specs.CommitPhase.{prepared, commit_asks, commit_goes, commit_due}
+use Rattle.slate_log.specs.Commit.{Committed, CommitBegan}
 use Rattle.slate_txn.specs.Holder.{Holder, at_version}
-use Rattle.slate_log.specs.declared.commit.CommitPhase.{CommitPhase}
-use Rattle.slate_log.specs.declared.commit.CommitPhase.TheVariants.{Over}
+use Rattle.slate_log.specs.declared.commit_phase.CommitPhase.{CommitPhase}
+use Rattle.slate_log.specs.declared.commit_phase.CommitPhase.TheVariants.{Over}
 use Rattle.slate_txn.specs.declared.stored.DirtyObject.{DirtyObject}
 use Rattle.slate_log.specs.declared.right.Right.{Right}
 use Rattle.slate_txn.specs.declared.update.UpdateMachine.{UpdateMachine}

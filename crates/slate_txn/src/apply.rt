@@ -3,7 +3,7 @@ ghost use Rattle.std.specs.Prelude.{◌≡◌, ◌<◌, ℕ, Option, Result, IfO
 ghost use Rattle.slate_ids.specs.Answers.{Gives, OrMemory};
 ghost use Rattle.slate_ids.specs.declared.error.SlateDBError.{SlateDBError as Refusal};
 ghost use Rattle.slate_store.specs.Machines.{Steps, GoesOn, IsAgain};
-ghost use Rattle.slate_log.specs.Commit.{is_putting};
+ghost use Rattle.slate_log.specs.CommitPhase.{is_putting};
 ghost use Rattle.slate_log.specs.Due.{StillDue, WhereOut, FaultOf, FaultRose};
 ghost use Rattle.slate_txn.specs.Changing.{ComputesWith};
 ghost use Rattle.slate_txn.specs.Apply.{apply_goes, apply_asks, apply_due, ApplyFalls, is_start, is_reading_phase, Applied, ApplyBegan, Applies, FaultFree};

@@ -2,8 +2,8 @@
 ghost use Rattle.std.specs.Prelude.{◌≡◌, ◌<◌, None, OnOk, true};
 ghost use Rattle.slate_store.specs.Machines.{Steps};
 ghost use Rattle.slate_log.specs.Due.{FaultOf, FaultRose, NoFault, StillDue};
-ghost use Rattle.slate_log.specs.Read.{read_due};
-ghost use Rattle.slate_log.specs.declared.read.ReadPhase.TheVariants.{Listing};
+ghost use Rattle.slate_log.specs.ReadPhase.{read_due};
+ghost use Rattle.slate_log.specs.declared.read_phase.ReadPhase.TheVariants.{Listing};
 ghost use Rattle.slate_txn.specs.FencedRefreshing.{FencedRefreshed, fence_after, fence_after_step, fenced_refresh_goes};
 ghost use Rattle.slate_txn.specs.Fencing.{held_fence, FencedOnly, FencedStep, NoFence};
 ghost use Rattle.slate_txn.specs.Refreshing.{refresh_asks};
@@ -23,7 +23,7 @@ pub struct FencedRefreshMachine<T> {
 }
 
 impl<T> Model for FencedRefreshMachine<T> {
-    ghost use Rattle.slate_log.specs.declared.read.ReadPhase.{ReadPhase};
+    ghost use Rattle.slate_log.specs.declared.read_phase.ReadPhase.{ReadPhase};
 
     ghost Value = { ReadPhase T };
 

@@ -4,9 +4,9 @@ ghost use Rattle.slate_ids.specs.Answers.{OrMemory};
 ghost use Rattle.slate_ids.specs.declared.error.SlateDBError.{SlateDBError as Refusal};
 ghost use Rattle.slate_log.specs.Due.{FaultOf, FaultRose, NoFault, StillDue};
 ghost use Rattle.slate_txn.specs.Loading.{loaded, load_due, LoadSteps};
-ghost use Rattle.slate_log.specs.Reading.{Read, ReadBegan};
+ghost use Rattle.slate_log.specs.ReadLatest.{Read, ReadBegan};
 ghost use Rattle.slate_txn.specs.declared.load.LoadMachine.TheVariants.{Reading};
-ghost use Rattle.slate_log.specs.declared.read.ReadPhase.TheVariants.{Listing};
+ghost use Rattle.slate_log.specs.declared.read_phase.ReadPhase.TheVariants.{Listing};
 
 use crate::stored::Stored;
 use slate_ids::{Millis, ObjectCodec, SlateDBError};

@@ -1,7 +1,7 @@
 //! Raising the epoch of a value read.
 ghost use Rattle.std.specs.Prelude.{◌≡◌, ◌+◌, IfOk, Some, true};
 ghost use Rattle.slate_ids.specs.Answers.{Gives};
-ghost use Rattle.slate_log.specs.Commit.{is_putting, commit_version};
+ghost use Rattle.slate_log.specs.CommitPhase.{is_putting, commit_version};
 ghost use Rattle.slate_log.specs.Change.{next_epoch as raised_once};
 ghost use Rattle.slate_txn.specs.Raise.{raised};
 

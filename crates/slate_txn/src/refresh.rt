@@ -2,8 +2,8 @@
 ghost use Rattle.std.specs.Prelude.{◌≡◌, ◌<◌, OnErr, true};
 ghost use Rattle.slate_store.specs.Machines.{Steps};
 ghost use Rattle.slate_log.specs.Due.{FaultOf, FaultRose, NoFault, StillDue};
-ghost use Rattle.slate_log.specs.Read.{read_due};
-ghost use Rattle.slate_log.specs.declared.read.ReadPhase.TheVariants.{Listing};
+ghost use Rattle.slate_log.specs.ReadPhase.{read_due};
+ghost use Rattle.slate_log.specs.declared.read_phase.ReadPhase.TheVariants.{Listing};
 ghost use Rattle.slate_txn.specs.Fencing.{NoFence, NotFenced, NotFencedStep};
 ghost use Rattle.slate_txn.specs.Refreshing.{Refreshes, refreshed, held_after, refreshed_step, held_after_step, refresh_asks, refresh_goes};
 
@@ -21,7 +21,7 @@ pub struct RefreshMachine<T> {
 }
 
 impl<T> Model for RefreshMachine<T> {
-    ghost use Rattle.slate_log.specs.declared.read.ReadPhase.{ReadPhase};
+    ghost use Rattle.slate_log.specs.declared.read_phase.ReadPhase.{ReadPhase};
 
     ghost Value = { ReadPhase T };
 

@@ -2,7 +2,7 @@
 ghost use Rattle.std.specs.Prelude.{◌≡◌, ◌+◌, ◌⊎◌, IfOk, IfErr, OnOk, OnErr, Some, Err, ◌≢◌, true, false};
 ghost use Rattle.slate_ids.specs.Answers.{Gives};
 ghost use Rattle.slate_ids.specs.declared.error.SlateDBError.TheVariants.{StoreFault};
-ghost use Rattle.slate_log.specs.Commit.{is_putting, commit_version};
+ghost use Rattle.slate_log.specs.CommitPhase.{is_putting, commit_version};
 ghost use Rattle.slate_log.specs.Due.{FaultOf, FaultRose, StillDue};
 ghost use Rattle.slate_txn.specs.Holder.{at_version};
 ghost use Rattle.slate_txn.specs.Standing.{SameContents, UpdateStands, may_stand};

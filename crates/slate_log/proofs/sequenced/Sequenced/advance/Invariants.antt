@@ -1,7 +1,7 @@
 use Rattle.std.proofs.Common.{◌≡◌, ◌+◌, ◌*◌, true}
 use Rattle.slate_store.specs.Runs.{Running}
-use Rattle.slate_log.specs.Advance.{advance_asks, advance_goes, advance_due, is_bounding, advance_rank}
-use Rattle.slate_log.specs.declared.advance.AdvancePhase.TheVariants.{Bounding}
+use Rattle.slate_log.specs.AdvancePhase.{advance_asks, advance_goes, advance_due, is_bounding, advance_rank}
+use Rattle.slate_log.specs.declared.advance_phase.AdvancePhase.TheVariants.{Bounding}
 use Rattle.slate_log.proofs.sequenced.Sequenced.advance.Given as goal
 
 -- the run so far, which stands at this phase with so many tries left

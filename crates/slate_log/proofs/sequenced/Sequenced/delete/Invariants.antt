@@ -1,8 +1,8 @@
 use Rattle.std.proofs.Common.{◌≡◌, pos, true}
 use Rattle.slate_store.specs.Runs.{Running}
-use Rattle.slate_log.specs.Committing.{never}
-use Rattle.slate_log.specs.Delete.{delete_asks, delete_goes, delete_due, delete_rank}
-use Rattle.slate_log.specs.declared.delete.DeletePhase.TheVariants.{Bounding}
+use Rattle.slate_log.specs.Commit.{never}
+use Rattle.slate_log.specs.DeletePhase.{delete_asks, delete_goes, delete_due, delete_rank}
+use Rattle.slate_log.specs.declared.delete_phase.DeletePhase.TheVariants.{Bounding}
 use Rattle.slate_log.proofs.sequenced.Sequenced.delete.Given as goal
 
 -- the run so far, which stands at this phase

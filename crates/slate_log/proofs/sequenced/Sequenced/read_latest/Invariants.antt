@@ -1,7 +1,7 @@
 use Rattle.std.proofs.Common.{◌≡◌, ◌+◌, ◌*◌, pos, true}
 use Rattle.slate_store.specs.Runs.{Running}
-use Rattle.slate_log.specs.Read.{read_asks, read_goes, read_due, is_listing, rank}
-use Rattle.slate_log.specs.declared.read.ReadPhase.TheVariants.{Listing}
+use Rattle.slate_log.specs.ReadPhase.{read_asks, read_goes, read_due, is_listing, rank}
+use Rattle.slate_log.specs.declared.read_phase.ReadPhase.TheVariants.{Listing}
 use Rattle.slate_log.proofs.sequenced.Sequenced.read_latest.Given as goal
 
 -- the run so far, which stands at this phase with so many tries left

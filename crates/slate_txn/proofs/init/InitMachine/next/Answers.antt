@@ -4,7 +4,7 @@ use Rattle.std.proofs.lemmas.Int.{to_z-of_z}
 use Rattle.slate_ids.specs.declared.error.SlateDBError.TheVariants.{OutOfMemory}
 use Rattle.slate_store.specs.Machines.{Held}
 use Rattle.slate_store.specs.declared.step.Step.TheVariants.{Done}
-use Rattle.slate_log.specs.Commit.{commit_asks}
+use Rattle.slate_log.specs.CommitPhase.{commit_asks}
 use Rattle.slate_txn.specs.Holder.{Holder}
 use Rattle.slate_txn.specs.Initing.{InitSteps}
 use Rattle.slate_txn.proofs.Inits.{init_held}

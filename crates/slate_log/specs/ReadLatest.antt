@@ -3,9 +3,9 @@ use Rattle.std.specs.Prelude.{ℕ, List, Option, Result, pos}
 use Rattle.slate_ids.specs.declared.error.SlateDBError.{SlateDBError}
 use Rattle.slate_store.specs.Calls.{Told}
 use Rattle.slate_store.specs.Runs.{Ran, Began}
-use Rattle.slate_log.specs.Read.{read_asks, read_goes, is_listing}
-use Rattle.slate_log.specs.declared.read.ReadPhase.{ReadPhase}
-use Rattle.slate_log.specs.declared.read.ReadPhase.TheVariants.{Listing}
+use Rattle.slate_log.specs.ReadPhase.{read_asks, read_goes, is_listing}
+use Rattle.slate_log.specs.declared.read_phase.ReadPhase.{ReadPhase}
+use Rattle.slate_log.specs.declared.read_phase.ReadPhase.TheVariants.{Listing}
 use Rattle.slate_log.specs.declared.sequenced.Sequenced.{Sequenced}
 
 -- the read ran, with so many tries

@@ -4,7 +4,7 @@ use Rattle.slate_log.proofs.Commits.{commit_faults, answers_version}
 use Rattle.slate_log.proofs.Faults.{call_rose}
 use Rattle.std.proofs.Common.{arith, ◌∙◌, refl, w64}
 use Rattle.std.proofs.lemmas.Int.{to_z-of_z}
-use Rattle.slate_log.proofs.commit.CommitPhase.run.Goals as goal
+use Rattle.slate_log.proofs.commit_phase.CommitPhase.run.Goals as goal
 
 pub loop-result-init : goal.loop-result-init
 loop-result-init g c = record { running = begins _ _ _ _ _ _ _ (omega arith); due = c.requires.due; version = refl }

@@ -1,7 +1,7 @@
 use Rattle.std.proofs.Common.{w64}
 use Rattle.std.proofs.lemmas.Int.{to_z-of_z}
 use Rattle.slate_log.proofs.Steps.{goes_steps, goes_held, reads_only}
-use Rattle.slate_log.proofs.read.ReadPhase.next.Goals as goal
+use Rattle.slate_log.proofs.read_phase.ReadPhase.next.Goals as goal
 
 pub returns-in-Ok-clause-steps : goal.returns-in-Ok-clause-steps
 returns-in-Ok-clause-steps g c =

@@ -2,7 +2,7 @@
 ghost use Rattle.std.specs.Prelude.{◌≡◌, ◌<◌, pos, true};
 ghost use Rattle.slate_store.specs.Machines.{Steps, Held, GoesOn, IsAgain};
 ghost use Rattle.slate_log.specs.Due.{StillDue, FaultRose, NoFault, WhereOut};
-ghost use Rattle.slate_log.specs.Read.{read_asks, read_goes, read_due, is_listing, Falls, AtVersion};
+ghost use Rattle.slate_log.specs.ReadPhase.{read_asks, read_goes, read_due, is_listing, Falls, AtVersion};
 
 use crate::boundary::{boundary_in, greatest};
 use crate::sequenced::Sequenced;

@@ -1,8 +1,8 @@
 use Rattle.std.proofs.Common.{◌≡◌, true}
 use Rattle.slate_store.specs.Runs.{Running}
-use Rattle.slate_log.specs.Commit.{commit_asks, commit_goes, commit_due, commit_version, commit_rank}
-use Rattle.slate_log.specs.Committing.{never}
-use Rattle.slate_log.proofs.commit.CommitPhase.run.Given as goal
+use Rattle.slate_log.specs.CommitPhase.{commit_asks, commit_goes, commit_due, commit_version, commit_rank}
+use Rattle.slate_log.specs.Commit.{never}
+use Rattle.slate_log.proofs.commit_phase.CommitPhase.run.Given as goal
 
 -- the run so far, which stands at this phase
 abbrev pub invariant-loop-result : goal.invariant-loop-result

@@ -14,8 +14,8 @@ use Rattle.slate_store.specs.Machines.{Goes, Stay, End}
 use Rattle.slate_log.specs.Boundary.{boundary_got, greatest}
 use Rattle.slate_log.specs.LogPaths.{version_path, boundary_path, folder}
 use Rattle.slate_log.specs.declared.log_kind.LogKind.{LogKind}
-use Rattle.slate_log.specs.declared.read.ReadPhase.{ReadPhase}
-use Rattle.slate_log.specs.declared.read.ReadPhase.TheVariants.{Listing, Getting, Bounding, Over}
+use Rattle.slate_log.specs.declared.read_phase.ReadPhase.{ReadPhase}
+use Rattle.slate_log.specs.declared.read_phase.ReadPhase.TheVariants.{Listing, Getting, Bounding, Over}
 
 -- the one call of each phase
 abbrev pub read_asks : {T : Type 0} → List ℕ → LogKind → ReadPhase T → StoreCall
