@@ -1,5 +1,4 @@
 mod Trackers
-mod Joined
 mod Latest
 mod Ascending
 mod Nestings

@@ -4,6 +4,7 @@ pub mod Options
 pub mod Cores
 pub mod Manifests
 pub mod Trees
+pub mod Walks
 pub mod Watermark
 pub mod Externals
 pub mod Nesting

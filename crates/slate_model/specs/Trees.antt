@@ -4,6 +4,7 @@ use Rattle.std.specs.List.{flat_map}
 use Rattle.slate_tables.specs.declared.ss_table_id.SsTableId.{SsTableId}
 use Rattle.slate_model.specs.declared.lsm_tree_state.LsmTreeState.{LsmTreeState}
 use Rattle.slate_tables.specs.Views.{View}
+use Rattle.slate_tables.specs.Runs.{Run}
 use Rattle.slate_model.specs.Segments.{Prefixed}
 use Rattle.slate_model.specs.Cores.{Core}
 
@@ -15,9 +16,17 @@ segment_trees segments = map (λ s. s.tree) segments
 abbrev pub trees_of : Core → List LsmTreeState
 trees_of core = core.tree ∷ segment_trees core.segments
 
+-- the views of these runs
+abbrev pub views_of_runs : List Run → List View
+views_of_runs runs = flat_map (λ run. run.views) runs
+
 -- the views of a tree: of the tables that flushes wrote, the newest first, then of the runs
 abbrev pub views_of_tree : LsmTreeState → List View
-views_of_tree tree = tree.l0 ++ flat_map (λ run. run.views) tree.compacted
+views_of_tree tree = tree.l0 ++ views_of_runs tree.compacted
+
+-- the views of the trees of these segments
+abbrev pub views_of_segments : List Prefixed → List View
+views_of_segments segments = flat_map views_of_tree (segment_trees segments)
 
 -- the views of all trees
 abbrev pub views_of : Core → List View

@@ -20,6 +20,7 @@ mod tree_of_prefix;
 mod trees;
 mod validation;
 mod versioned_manifest;
+mod views;
 mod watermark;
 
 pub use checkpoint::{Checkpoint, CheckpointCreateResult, CheckpointOptions};
@@ -41,3 +42,4 @@ pub use slate_tables::{
 };
 pub use trees::Trees;
 pub use versioned_manifest::VersionedManifest;
+pub use views::Views;

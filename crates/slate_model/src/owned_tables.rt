@@ -1,28 +1,20 @@
 //! Which tables a database owns, and which it shares with others.
-ghost use Rattle.std.specs.Prelude.{◌≡◌, ◌++◌, IfOk, OnOk, map, filter};
-ghost use Rattle.std.specs.List.{list_any, flat_map};
-ghost use Rattle.slate_model.specs.Trees.{views_of_tree, tables_of_views};
+ghost use Rattle.std.specs.Prelude.{◌≡◌, ◌++◌, IfOk, OnOk};
+ghost use Rattle.std.specs.List.{list_any};
 ghost use Rattle.slate_model.specs.Externals as externals;
 ghost use Rattle.slate_model.specs.Externals.{owned, external, shared_by};
 
 use crate::external_db::ExternalDb;
-use crate::lsm_tree_state::LsmTreeState;
 use crate::manifest::Manifest;
 use slate_ids::{DbPath, OutOfMemory};
-use slate_tables::{SortedRun, SsTableId, SsTableView};
+use slate_tables::SsTableId;
 use std::alloc::Global;
 
 // Whether two ids are of one table.
 pub(crate) fn same_table(a: &SsTableId, b: &SsTableId) -> bool
     ensures { result ≡ externals.same_table a.now b.now }
 {
-    match (a, b) {
-        (SsTableId::Wal(a), SsTableId::Wal(b)) => a == b,
-        (SsTableId::Compacted(a), SsTableId::Compacted(b)) => {
-            a.timestamp_ms() == b.timestamp_ms() && a.tail() == b.tail()
-        }
-        _ => false,
-    }
+    a == b
 }
 
 // Whether one of these entries lists this table.
@@ -37,50 +29,6 @@ fn is_owned(entries: &[ExternalDb], id: &SsTableId) -> bool
     ensures { result ≡ externals.is_owned entries.now id.now }
 {
     !is_listed(id, entries)
-}
-
-// Adds the owned tables of these views.
-fn push_owned(
-    ids: &mut Vec<SsTableId>,
-    entries: &[ExternalDb],
-    views: &[SsTableView],
-) -> Result<(), OutOfMemory>
-    ensures { OnOk result (ids.new.items ≡ ids.old.items ++ filter (externals.is_owned entries.now) (tables_of_views views.now)) }
-{
-    for view in views {
-        if is_owned(entries, &view.sst.id) {
-            ids.push(view.sst.id)?;
-        }
-    }
-    Ok(())
-}
-
-// Adds the owned tables of these runs.
-fn push_owned_of_runs(
-    ids: &mut Vec<SsTableId>,
-    entries: &[ExternalDb],
-    runs: &[SortedRun],
-) -> Result<(), OutOfMemory>
-    ensures { OnOk result (ids.new.items ≡ ids.old.items ++ filter (externals.is_owned entries.now) (tables_of_views (flat_map (λ run. run.views) runs.now))) }
-{
-    for run in runs {
-        push_owned(ids, entries, run.sst_views())?;
-    }
-    Ok(())
-}
-
-// Adds the owned tables of a tree.
-fn push_owned_of_tree(
-    ids: &mut Vec<SsTableId>,
-    entries: &[ExternalDb],
-    tree: &LsmTreeState,
-) -> Result<(), OutOfMemory>
-    ensures { OnOk result (ids.new.items ≡ ids.old.items ++ filter (externals.is_owned entries.now) (tables_of_views (views_of_tree tree.now))) }
-{
-    let (front, back) = tree.l0.as_slices();
-    push_owned(ids, entries, front)?;
-    push_owned(ids, entries, back)?;
-    push_owned_of_runs(ids, entries, tree.compacted.as_slice())
 }
 
 // Adds the tables of an entry, with its path.
@@ -100,8 +48,10 @@ impl Manifest {
         ensures { IfOk result (λ ids. ids.items ≡ owned self.now) }
     {
         let mut ids = Vec::new(alloc);
-        for tree in self.core.trees() {
-            push_owned_of_tree(&mut ids, self.external_dbs.as_slice(), tree)?;
+        for view in self.core.views() {
+            if is_owned(self.external_dbs.as_slice(), &view.sst.id) {
+                ids.push(view.sst.id)?;
+            }
         }
         Ok(ids)
     }

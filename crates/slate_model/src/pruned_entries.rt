@@ -1,54 +1,22 @@
 //! Entries of other databases without the tables that no view uses.
 ghost use Rattle.std.specs.Prelude.{◌≡◌, map, filter};
-ghost use Rattle.std.specs.List.{list_any};
-ghost use Rattle.slate_model.specs.Trees.{views_of_tree};
 ghost use Rattle.slate_model.specs.Externals as externals;
 ghost use Rattle.slate_model.specs.Externals.{pruned};
 
 use crate::external_db::ExternalDb;
-use crate::lsm_tree_state::LsmTreeState;
 use crate::manifest::Manifest;
 use crate::manifest_core::ManifestCore;
 use crate::owned_tables::same_table;
 use slate_ids::Listed;
-use slate_tables::{SortedRun, SsTableId, SsTableView};
-use std::collections::VecDeque;
+use slate_tables::SsTableId;
 use std::mem;
-
-// Whether one of these views is of this table.
-fn has_view(views: &[SsTableView], id: &SsTableId) -> bool
-    ensures { result ≡ list_any (externals.is_of id.now) views.now }
-{
-    views.iter().any(|view| same_table(id, &view.sst.id))
-}
-
-// Whether a view of these runs is of this table.
-fn runs_have_view(runs: &[SortedRun], id: &SsTableId) -> bool
-    ensures { result ≡ list_any (λ run. list_any (externals.is_of id.now) run.views) runs.now }
-{
-    runs.iter().any(|run| has_view(run.sst_views(), id))
-}
-
-// Whether one of these views is of this table.
-fn queue_has_view(views: &VecDeque<SsTableView>, id: &SsTableId) -> bool
-    ensures { result ≡ list_any (externals.is_of id.now) views.now.items }
-{
-    views.iter().any(|view| same_table(id, &view.sst.id))
-}
-
-// Whether a view of a tree is of this table.
-fn tree_has_view(tree: &LsmTreeState, id: &SsTableId) -> bool
-    ensures { result ≡ list_any (externals.is_of id.now) (views_of_tree tree.now) }
-{
-    queue_has_view(tree.l0.as_deque(), id) || runs_have_view(tree.compacted.as_slice(), id)
-}
 
 // Whether a view of any tree is of this table.
 fn is_used(core: &ManifestCore, id: &SsTableId) -> bool
     ensures { result ≡ externals.is_used core.now id.now }
 {
-    for tree in core.trees() {
-        if tree_has_view(tree, id) {
+    for view in core.views() {
+        if same_table(id, &view.sst.id) {
             return true;
         }
     }
