@@ -1,5 +1,5 @@
 //! Checkpoints: versions that a manifest keeps from being collected.
-ghost use Rattle.std.specs.Prelude.{◌≡◌};
+ghost use Rattle.std.specs.Prelude.{◌≡◌, IfOk};
 ghost use Rattle.slate_model.specs.Options.{no_options};
 
 use slate_ids::{CheckpointId, Millis, OutOfMemory, Text};
@@ -21,8 +21,11 @@ pub struct Checkpoint {
     pub name: Option<Text>,
 }
 
-impl Plain for Checkpoint {
-    fn clone(&self, alloc: Global) -> Result<Checkpoint, OutOfMemory> {
+impl Checkpoint {
+    /// An equal value. It shares the keys.
+    pub fn clone(&self, alloc: Global) -> Result<Checkpoint, OutOfMemory>
+        ensures { IfOk result (λ copied. copied ≡ self.now) }
+    {
         Ok(Checkpoint {
             id: self.id,
             manifest_id: self.manifest_id,
@@ -30,6 +33,12 @@ impl Plain for Checkpoint {
             create_time: self.create_time,
             name: Plain::clone(&self.name, alloc)?,
         })
+    }
+}
+
+impl Plain for Checkpoint {
+    fn clone(&self, alloc: Global) -> Result<Checkpoint, OutOfMemory> {
+        Checkpoint::clone(self, alloc)
     }
 
     fn is(&self, other: &Checkpoint) -> bool {

@@ -1,5 +1,5 @@
 //! What a database shares with another.
-ghost use Rattle.std.specs.Prelude.{◌≡◌};
+ghost use Rattle.std.specs.Prelude.{◌≡◌, IfOk};
 ghost use Rattle.slate_model.specs.Externals as externals;
 
 use crate::owned_tables::same_table;
@@ -30,14 +30,23 @@ impl ExternalDb {
     }
 }
 
-impl Plain for ExternalDb {
-    fn clone(&self, alloc: Global) -> Result<ExternalDb, OutOfMemory> {
+impl ExternalDb {
+    /// An equal value. It shares the keys.
+    pub fn clone(&self, alloc: Global) -> Result<ExternalDb, OutOfMemory>
+        ensures { IfOk result (λ copied. copied ≡ self.now) }
+    {
         Ok(ExternalDb {
             path: self.path,
             source_checkpoint_id: self.source_checkpoint_id,
             final_checkpoint_id: self.final_checkpoint_id,
             sst_ids: self.sst_ids.copy(alloc)?,
         })
+    }
+}
+
+impl Plain for ExternalDb {
+    fn clone(&self, alloc: Global) -> Result<ExternalDb, OutOfMemory> {
+        ExternalDb::clone(self, alloc)
     }
 
     fn is(&self, other: &ExternalDb) -> bool {

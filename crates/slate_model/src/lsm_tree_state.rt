@@ -1,5 +1,5 @@
 //! A tree: what the tables of its keys are.
-ghost use Rattle.std.specs.Prelude.{◌≡◌};
+ghost use Rattle.std.specs.Prelude.{◌≡◌, IfOk};
 ghost use Rattle.slate_model.specs.Cores.{empty_tree};
 
 use slate_ids::{Listed, OutOfMemory, Ulid};
@@ -33,14 +33,23 @@ impl LsmTreeState {
     }
 }
 
-impl Plain for LsmTreeState {
-    fn clone(&self, alloc: Global) -> Result<LsmTreeState, OutOfMemory> {
+impl LsmTreeState {
+    /// An equal value. It shares the keys.
+    pub fn clone(&self, alloc: Global) -> Result<LsmTreeState, OutOfMemory>
+        ensures { IfOk result (λ copied. copied ≡ self.now) }
+    {
         Ok(LsmTreeState {
             last_compacted_l0_sst_view_id: self.last_compacted_l0_sst_view_id,
             last_compacted_l0_sst_id: self.last_compacted_l0_sst_id,
             l0: self.l0.clone(alloc)?,
             compacted: self.compacted.clone(alloc)?,
         })
+    }
+}
+
+impl Plain for LsmTreeState {
+    fn clone(&self, alloc: Global) -> Result<LsmTreeState, OutOfMemory> {
+        LsmTreeState::clone(self, alloc)
     }
 
     fn is(&self, other: &LsmTreeState) -> bool {

@@ -1,5 +1,5 @@
 //! A manifest.
-ghost use Rattle.std.specs.Prelude.{◌≡◌};
+ghost use Rattle.std.specs.Prelude.{◌≡◌, IfOk};
 ghost use Rattle.slate_model.specs.Manifests.{initial_manifest};
 
 use crate::external_db::ExternalDb;
@@ -35,14 +35,23 @@ impl Manifest {
     }
 }
 
-impl Plain for Manifest {
-    fn clone(&self, alloc: Global) -> Result<Manifest, OutOfMemory> {
+impl Manifest {
+    /// An equal value. It shares the keys.
+    pub fn clone(&self, alloc: Global) -> Result<Manifest, OutOfMemory>
+        ensures { IfOk result (λ copied. copied ≡ self.now) }
+    {
         Ok(Manifest {
             external_dbs: self.external_dbs.clone(alloc)?,
             core: self.core.clone(alloc)?,
             writer_epoch: self.writer_epoch,
             compactor_epoch: self.compactor_epoch,
         })
+    }
+}
+
+impl Plain for Manifest {
+    fn clone(&self, alloc: Global) -> Result<Manifest, OutOfMemory> {
+        Manifest::clone(self, alloc)
     }
 
     fn is(&self, other: &Manifest) -> bool {

@@ -110,8 +110,11 @@ fn same_numbers(a: &ManifestCore, b: &ManifestCore) -> bool
         && a.last_l0_clock_tick == b.last_l0_clock_tick
 }
 
-impl Plain for ManifestCore {
-    fn clone(&self, alloc: Global) -> Result<ManifestCore, OutOfMemory> {
+impl ManifestCore {
+    /// An equal value. It shares the keys.
+    pub fn clone(&self, alloc: Global) -> Result<ManifestCore, OutOfMemory>
+        ensures { IfOk result (λ copied. copied ≡ self.now) }
+    {
         Ok(ManifestCore {
             initialized: self.initialized,
             tree: self.tree.clone(alloc)?,
@@ -127,6 +130,12 @@ impl Plain for ManifestCore {
             sequence_tracker: self.sequence_tracker.clone(alloc)?,
             checkpoints: self.checkpoints.clone(alloc)?,
         })
+    }
+}
+
+impl Plain for ManifestCore {
+    fn clone(&self, alloc: Global) -> Result<ManifestCore, OutOfMemory> {
+        ManifestCore::clone(self, alloc)
     }
 
     fn is(&self, other: &ManifestCore) -> bool {

@@ -1,5 +1,5 @@
 //! A segment of a database.
-ghost use Rattle.std.specs.Prelude.{◌≡◌};
+ghost use Rattle.std.specs.Prelude.{◌≡◌, IfOk};
 ghost use Rattle.std.specs.Borrow.{sem};
 ghost use Rattle.slate_model.specs.Segments as ascending;
 ghost use Rattle.slate_model.specs.Lending.{LendsTree};
@@ -105,12 +105,21 @@ impl Segment {
     }
 }
 
-impl Plain for Segment {
-    fn clone(&self, alloc: Global) -> Result<Segment, OutOfMemory> {
+impl Segment {
+    /// An equal value. It shares the keys.
+    pub fn clone(&self, alloc: Global) -> Result<Segment, OutOfMemory>
+        ensures { IfOk result (λ copied. copied ≡ self.now) }
+    {
         Ok(Segment {
             prefix: Plain::clone(&self.prefix, alloc)?,
             tree: self.tree.clone(alloc)?,
         })
+    }
+}
+
+impl Plain for Segment {
+    fn clone(&self, alloc: Global) -> Result<Segment, OutOfMemory> {
+        Segment::clone(self, alloc)
     }
 
     fn is(&self, other: &Segment) -> bool {

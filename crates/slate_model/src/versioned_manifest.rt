@@ -1,5 +1,5 @@
 //! A version of a database's log.
-ghost use Rattle.std.specs.Prelude.{◌≡◌, option_copied};
+ghost use Rattle.std.specs.Prelude.{◌≡◌, IfOk, option_copied};
 ghost use Rattle.slate_model.specs.Segments.{IsAscending, segment_at};
 
 use crate::checkpoint::Checkpoint;
@@ -212,12 +212,21 @@ impl VersionedManifest {
     }
 }
 
-impl Plain for VersionedManifest {
-    fn clone(&self, alloc: Global) -> Result<VersionedManifest, OutOfMemory> {
+impl VersionedManifest {
+    /// An equal value. It shares the keys.
+    pub fn clone(&self, alloc: Global) -> Result<VersionedManifest, OutOfMemory>
+        ensures { IfOk result (λ copied. copied ≡ self.now) }
+    {
         Ok(VersionedManifest {
             id: self.id,
             manifest: self.manifest.clone(alloc)?,
         })
+    }
+}
+
+impl Plain for VersionedManifest {
+    fn clone(&self, alloc: Global) -> Result<VersionedManifest, OutOfMemory> {
+        VersionedManifest::clone(self, alloc)
     }
 
     fn is(&self, other: &VersionedManifest) -> bool {

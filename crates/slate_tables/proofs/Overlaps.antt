@@ -15,7 +15,7 @@ use Rattle.slate_ids.specs.KeyRange.{has_key}
 use Rattle.slate_tables.specs.Views.{View, effective_range, shows_key}
 use Rattle.slate_tables.specs.Runs.{all_show}
 use Rattle.slate_tables.specs.Overlap.{showing, IsGreatestOverlap, included_in, excluded_in, start_keys, end_keys, limit_keys, closed_at, open_at, IsMostOpen}
-use Rattle.slate_tables.proofs.KeyOrder.{le_trans, lt_le, le_refl, le_lt_trans, lt_le_trans, lt_irreflexive, not_lt, not_le}
+use Rattle.slate_ids.proofs.KeyOrder.{le_trans, lt_le, le_refl, le_lt_trans, lt_le_trans, lt_irreflexive, not_lt, not_le}
 use Rattle.slate_tables.proofs.Slots.{Begins, begins}
 use Rattle.slate_tables.proofs.Counting.{count_cons, count_append, count_weaker, count_permuted, parted_at}
 

@@ -7,7 +7,7 @@ use Rattle.slate_ids.specs.Keys.{key_lt, key_le, is_past, is_up_to, is_ordered}
 use Rattle.slate_ids.specs.KeyRange.{KeyRange, has_key}
 use Rattle.slate_tables.specs.Views.{View, effective_range, has_first_key, shows_key}
 use Rattle.slate_tables.specs.Runs.{end_at, slot_end, slot, ends_by, ends_before_next}
-use Rattle.slate_tables.proofs.KeyOrder.{le_trans, le_refl, lt_le, lt_le_trans, le_lt_trans, same_key}
+use Rattle.slate_ids.proofs.KeyOrder.{le_trans, le_refl, lt_le, lt_le_trans, le_lt_trans, same_key}
 
 -- a range that has its first key
 pub record Begins (r : KeyRange) : Type 0 where
@@ -58,7 +58,7 @@ own_end r k b e =
     ap (λ s. is_past s k && is_up_to r.end k) b.start ∙ ap (λ t. t && is_up_to r.end k) up ∙ ap (λ x. is_up_to x k) e ∙ le_refl k
 
 -- a range that begins has its first key
-own_start : (r : KeyRange) (k : List ℕ) → (b : Begins r) → b.key ≡ k → has_key r k ≡ true
+pub own_start : (r : KeyRange) (k : List ℕ) → (b : Begins r) → b.key ≡ k → has_key r k ≡ true
 unfolding is_past is_up_to
 own_start r k b e = ap (has_key r) (sym e) ∙ ap (λ s. is_past s b.key && is_up_to r.end b.key) b.start ∙ ap (λ t. t && is_up_to r.end b.key) (le_refl b.key) ∙ b.has
 
@@ -72,7 +72,7 @@ own_slot s v (w ∷ ws) b next h o =
     ap (λ x. is_ordered s (end_at r x)) n.start ∙ kept
 
 -- a start with a key is ordered before an end that the key is up to
-included_ordered : (key : List ℕ) (e : Bound (List ℕ)) → is_ordered (Included key) e ≡ is_up_to e key
+pub included_ordered : (key : List ℕ) (e : Bound (List ℕ)) → is_ordered (Included key) e ≡ is_up_to e key
 unfolding is_ordered is_up_to
 included_ordered key (Included k) = refl
 included_ordered key (Excluded k) = refl

@@ -3,7 +3,7 @@ use Rattle.std.specs.Prelude.{◌≡◌, ◌<◌, ◌^◌, ℕ, List, Bool, true
 use Rattle.std.specs.declared.ops.Bound.{Bound}
 use Rattle.std.specs.declared.ops.Bound.TheVariants.{Included, Excluded, Unbounded}
 use Rattle.slate_ids.specs.Keys.{is_up_to}
-use Rattle.slate_ids.specs.KeyRange.{KeyRange, common, ranges_meet, intersection}
+use Rattle.slate_ids.specs.KeyRange.{KeyRange, has_key, common, ranges_meet, intersection}
 use Rattle.slate_tables.specs.declared.ss_table_id.SsTableId.{SsTableId}
 use Rattle.slate_tables.specs.declared.ss_table_id.SsTableId.TheVariants.{Wal, Compacted}
 use Rattle.slate_tables.specs.declared.ss_table_handle.SsTableHandle.{SsTableHandle}
@@ -69,3 +69,7 @@ has_first_key Unbounded end = false
 -- whether a view shows a key: it shows the one that it starts at
 abbrev pub shows_key : View → Bool
 shows_key v = has_first_key (effective_range v).start (effective_range v).end
+
+-- a range has a key
+abbrev pub HasKey : KeyRange → Type 0
+HasKey r = (key : List ℕ) × (has_key r key ≡ true)

@@ -124,12 +124,21 @@ impl SortedRun {
     }
 }
 
-impl Plain for SortedRun {
-    fn clone(&self, alloc: Global) -> Result<SortedRun, OutOfMemory> {
+impl SortedRun {
+    /// An equal value. It shares the keys.
+    pub fn clone(&self, alloc: Global) -> Result<SortedRun, OutOfMemory>
+        ensures { IfOk result (λ copied. copied ≡ self.now) }
+    {
         Ok(SortedRun {
             id: self.id,
             views: self.views.clone(alloc)?,
         })
+    }
+}
+
+impl Plain for SortedRun {
+    fn clone(&self, alloc: Global) -> Result<SortedRun, OutOfMemory> {
+        SortedRun::clone(self, alloc)
     }
 
     fn is(&self, other: &SortedRun) -> bool {

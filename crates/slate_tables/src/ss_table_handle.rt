@@ -1,5 +1,5 @@
 //! A table as it lies in the store.
-ghost use Rattle.std.specs.Prelude.{◌≡◌};
+ghost use Rattle.std.specs.Prelude.{◌≡◌, IfOk};
 ghost use Rattle.slate_tables.specs.Tables.{table_size};
 
 use crate::ss_table_id::SsTableId;
@@ -36,13 +36,22 @@ impl AsRef<SsTableHandle> for SsTableHandle {
     }
 }
 
-impl Plain for SsTableHandle {
-    fn clone(&self, alloc: Global) -> Result<SsTableHandle, OutOfMemory> {
+impl SsTableHandle {
+    /// An equal value. It shares the keys.
+    pub fn clone(&self, alloc: Global) -> Result<SsTableHandle, OutOfMemory>
+        ensures { IfOk result (λ copied. copied ≡ self.now) }
+    {
         Ok(SsTableHandle {
             id: self.id,
             format_version: self.format_version,
             info: self.info.clone(alloc)?,
         })
+    }
+}
+
+impl Plain for SsTableHandle {
+    fn clone(&self, alloc: Global) -> Result<SsTableHandle, OutOfMemory> {
+        SsTableHandle::clone(self, alloc)
     }
 
     fn is(&self, other: &SsTableHandle) -> bool {

@@ -1,5 +1,5 @@
 //! What is known of a table.
-ghost use Rattle.std.specs.Prelude.{◌≡◌};
+ghost use Rattle.std.specs.Prelude.{◌≡◌, IfOk};
 ghost use Rattle.slate_tables.specs.Tables.{no_info};
 
 use crate::table_tags::{CompressionTag, FilterFormat, SstType};
@@ -55,8 +55,11 @@ impl Default for SsTableInfo {
     }
 }
 
-impl Plain for SsTableInfo {
-    fn clone(&self, alloc: Global) -> Result<SsTableInfo, OutOfMemory> {
+impl SsTableInfo {
+    /// An equal value. It shares the keys.
+    pub fn clone(&self, alloc: Global) -> Result<SsTableInfo, OutOfMemory>
+        ensures { IfOk result (λ copied. copied ≡ self.now) }
+    {
         Ok(SsTableInfo {
             first_entry: Plain::clone(&self.first_entry, alloc)?,
             last_entry: Plain::clone(&self.last_entry, alloc)?,
@@ -70,6 +73,12 @@ impl Plain for SsTableInfo {
             stats_len: self.stats_len,
             filter_format: self.filter_format,
         })
+    }
+}
+
+impl Plain for SsTableInfo {
+    fn clone(&self, alloc: Global) -> Result<SsTableInfo, OutOfMemory> {
+        SsTableInfo::clone(self, alloc)
     }
 
     fn is(&self, other: &SsTableInfo) -> bool {

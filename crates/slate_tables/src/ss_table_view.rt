@@ -1,15 +1,15 @@
 //! A view of a table: all of its keys, or a range of them.
-ghost use Rattle.std.specs.Prelude.{◌≡◌, true, IfOk, Some, None, is_some, option_copied};
+ghost use Rattle.std.specs.Prelude.{◌≡◌, ℕ, List, true, false, IfOk, Some, None, is_some, option_copied};
 ghost use Rattle.std.specs.Option.{ForSome};
-ghost use Rattle.slate_ids.specs.KeyRange.{ranges_meet, no_keys};
+ghost use Rattle.slate_ids.specs.KeyRange.{has_key, ranges_meet, no_keys};
 ghost use Rattle.slate_tables.specs.Tables.{physical_range, table_size};
 ghost use Rattle.slate_tables.specs.Views as views;
-ghost use Rattle.slate_tables.specs.Views.{FitsId, MayShow, starts_with_key, effective_range, view_range, projected};
+ghost use Rattle.slate_tables.specs.Views.{FitsId, MayShow, HasKey, starts_with_key, effective_range, view_range, projected};
 
 use crate::ss_table_handle::SsTableHandle;
 use crate::ss_table_id::SsTableId;
 use bytes::Bytes;
-use slate_ids::{BytesRange, KeySpan, OutOfMemory, Plain, Ulid};
+use slate_ids::{BytesRange, KeySpan, OutOfMemory, Plain, Ulid, ranges_are_sets};
 use std::alloc::Global;
 use std::marker::Model;
 use std::ops::Bound;
@@ -116,10 +116,14 @@ impl SsTableView {
         }
     }
 
-    /// Whether the view shows a key: it shows the one that it starts at.
+    /// Whether the view shows a key: it shows the one that it starts at. It does exactly where its effective range has a key.
     pub fn shows_key(&self) -> bool
-        ensures { result ≡ views.shows_key self.now }
+        ensures shows { result ≡ views.shows_key self.now }
+        ensures some { views.shows_key self.now ≡ true → HasKey (effective_range self.now) }
+        ensures none { views.shows_key self.now ≡ false → (key : List ℕ) → has_key (effective_range self.now) key ≡ false }
     {
+        ranges_are_sets();
+        let _shown = self.visible_range();
         let none = BytesRange::new_empty();
         has_first_key(&self.effective_span(&none))
     }
@@ -180,13 +184,22 @@ impl SsTableView {
     }
 }
 
-impl Plain for SsTableView {
-    fn clone(&self, alloc: Global) -> Result<SsTableView, OutOfMemory> {
+impl SsTableView {
+    /// An equal value. It shares the keys.
+    pub fn clone(&self, alloc: Global) -> Result<SsTableView, OutOfMemory>
+        ensures { IfOk result (λ copied. copied ≡ self.now) }
+    {
         Ok(SsTableView {
             id: self.id,
             sst: self.sst.clone(alloc)?,
             visible: Plain::clone(&self.visible, alloc)?,
         })
+    }
+}
+
+impl Plain for SsTableView {
+    fn clone(&self, alloc: Global) -> Result<SsTableView, OutOfMemory> {
+        SsTableView::clone(self, alloc)
     }
 
     fn is(&self, other: &SsTableView) -> bool {

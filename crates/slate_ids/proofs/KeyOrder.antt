@@ -1,11 +1,12 @@
 -- The order of keys, by its tests.
-use Rattle.std.specs.Prelude.{ℕ, true, false, List, [], ◌∷◌}
+use Rattle.std.specs.Prelude.{ℕ, Bool, true, false, not, bytes_eq, List, [], ◌∷◌}
 use Rattle.std.proofs.Common.{◌≡◌, refl, sym, ap, ◌∙◌}
-use Rattle.std.specs.Ordering.{MatchOrdering, nat_cmp, ordering_then, ordering_reverse, is_lt, is_le, is_gt}
+use Rattle.std.specs.Ordering.{MatchOrdering, nat_cmp, ordering_then, ordering_reverse, is_lt, is_le, is_eq, is_gt}
 use Rattle.std.specs.Cmp.Lexicographic.{slice_cmp}
 use Rattle.std.specs.declared.cmp.Ordering.{Ordering}
 use Rattle.std.specs.declared.cmp.Ordering.TheVariants.{Less, Equal, Greater}
 use Rattle.std.proofs.lemmas.Cmp.{ranked, nat_list_cmp_total, tied_itself, alike_right, upto}
+use Rattle.std.proofs.lemmas.Map.Text.{is_eq-slice_cmp}
 use Rattle.slate_ids.specs.Keys.{key_lt, key_le}
 
 abbrev cmp : List ℕ → List ℕ → Ordering
@@ -94,3 +95,41 @@ le_not_lt Greater h k = absurd cc
 
 pub same_key : (a b : List ℕ) → key_le a b ≡ true → key_lt a b ≡ false → a ≡ b
 same_key a b h k = tied a b (le_not_lt (cmp a b) h k)
+
+-- ---- the order alone
+
+pub one_way : (a b : List ℕ) → key_lt a b ≡ true → key_lt b a ≡ false
+one_way a b h = by (key_lt b a) refl
+  where
+    by : (t : Bool) → key_lt b a ≡ t → t ≡ false
+    by true e = absurd (lt_irreflexive a (lt_le_trans a b a h (lt_le b a e)))
+    by false e = refl
+
+pub lt_trans : (a b c : List ℕ) → key_lt a b ≡ true → key_lt b c ≡ true → key_lt a c ≡ true
+lt_trans a b c h k = lt_le_trans a b c h (lt_le b c k)
+
+turned : (o r : Ordering) → o ≡ ordering_reverse r → is_le o ≡ not (is_lt r)
+turned Less Greater e = refl
+turned Equal Equal e = refl
+turned Greater Less e = refl
+turned Less Less e = absurd cc
+turned Less Equal e = absurd cc
+turned Equal Less e = absurd cc
+turned Equal Greater e = absurd cc
+turned Greater Equal e = absurd cc
+turned Greater Greater e = absurd cc
+
+-- a key is at most another exactly where the other isn't before it
+pub le_is : (a b : List ℕ) → key_le a b ≡ not (key_lt b a)
+le_is a b = turned (cmp a b) (cmp b a) (nat_list_cmp_total.antisymm a b)
+
+decided : (o r : Ordering) → o ≡ ordering_reverse r → is_lt o ≡ false → is_eq o ≡ false → is_lt r ≡ true
+decided Less r e l q = absurd cc
+decided Equal r e l q = absurd cc
+decided Greater Less e l q = refl
+decided Greater Equal e l q = absurd cc
+decided Greater Greater e l q = absurd cc
+
+-- of two keys that differ, one stands before the other
+pub other_way : (a b : List ℕ) → key_lt a b ≡ false → bytes_eq a b ≡ false → key_lt b a ≡ true
+other_way a b l q = decided (cmp a b) (cmp b a) (nat_list_cmp_total.antisymm a b) l (is_eq-slice_cmp a b ∙ q)
