@@ -69,7 +69,7 @@ fn normal_segment(alloc: Global, segment: &Segment) -> Result<Segment, OutOfMemo
     ensures { IfOk result (λ made. made ≡ normal.normal_segment segment.now) }
 {
     let tree = normal_tree(alloc, segment.tree())?;
-    Ok(Segment::new(segment.prefix().clone()?, tree))
+    Ok(Segment::new(Plain::clone(segment.prefix(), alloc)?, tree))
 }
 
 fn normal_segments(alloc: Global, segments: &[Segment]) -> Result<Vec<Segment>, OutOfMemory>
