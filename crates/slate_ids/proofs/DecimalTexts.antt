@@ -10,7 +10,7 @@ use Rattle.std.proofs.lemmas.Fmt.{decimal_nonempty, decimal_digit, first_decimal
 use Rattle.slate_ids.specs.Decimals.{digits_from, decimal_of, ReadsDecimal}
 
 -- the number that digits go on to
-abbrev read_on : ℕ → List ℕ → ℕ
+abbrev pub read_on : ℕ → List ℕ → ℕ
 read_on n [] = n
 read_on n (c ∷ cs) = read_on (n * 10 + (c - 48)) cs
 
@@ -18,22 +18,22 @@ own : IsNumeralModel (AllDigits 10) (read_on 0)
 own = numerals_by_fold _ tells_digits read_on (search rules)
 
 -- the digits, and the number that they go on to
-record Read (n : ℕ) (bs : List ℕ) (m : ℕ) : Type 0 where
-  digits : AllDigits 10 bs
-  value : read_on n bs ≡ m
-  below : m < 2 ^ 64
+pub record Read (n : ℕ) (bs : List ℕ) (m : ℕ) : Type 0 where
+  pub digits : AllDigits 10 bs
+  pub value : read_on n bs ≡ m
+  pub below : m < 2 ^ 64
 
-abbrev good : ℕ → ℕ → Bool
+abbrev pub good : ℕ → ℕ → Bool
 good n c = nat_le 48 c && nat_le c 57 && nat_lt (n * 10 + (c - 48)) (2 ^ 64)
 
-record Good (n c : ℕ) : Type 0 where
-  range : IsInRange 48 57 c
-  below : n * 10 + (c - 48) < 2 ^ 64
+pub record Good (n c : ℕ) : Type 0 where
+  pub range : IsInRange 48 57 c
+  pub below : n * 10 + (c - 48) < 2 ^ 64
 
 tests : (n c : ℕ) → good n c ≡ true → (48 ≤ c) × (c ≤ 57) × (n * 10 + (c - 48) < 2 ^ 64)
 tests n c h = grind (arith, nat_tests)
 
-good_is : (n c : ℕ) → good n c ≡ true → Good n c
+pub good_is : (n c : ℕ) → good n c ≡ true → Good n c
 good_is n c h = let t = tests n c h in record { range = (t.0, t.1); below = t.2 }
 
 passes : (n c : ℕ) → 48 ≤ c → c ≤ 57 → n * 10 + (c - 48) < 2 ^ 64 → good n c ≡ true
@@ -47,7 +47,7 @@ reads_if true n c cs m e rest h =
     record { digits = tells_digits.more c cs fine.range read.digits; value = read.value; below = read.below }
 reads_if false n c cs m e rest h = absurd cc
 
-reads : (n : ℕ) (bs : List ℕ) (m : ℕ) → n < 2 ^ 64 → digits_from (2 ^ 64) n bs ≡ Some m → Read n bs m
+pub reads : (n : ℕ) (bs : List ℕ) (m : ℕ) → n < 2 ^ 64 → digits_from (2 ^ 64) n bs ≡ Some m → Read n bs m
 reads n [] m below h = let same : n ≡ m = cc in record { digits = tells_digits.empty; value = same; below = subst (λ (k : ℕ). k < 2 ^ 64) same below }
 reads n (c ∷ cs) m below h = reads_if (good n c) n c cs m refl (λ k b e. reads k cs m b e) h
 
@@ -95,6 +95,9 @@ text_of n small =
       some = some_of _ (decimal_nonempty n small);
       digits = subst (λ (k : ℕ). digits_from (2 ^ 64) 0 (decimal n) ≡ Some k) value (writes 0 (decimal n) (digits_decimal own n small) (omega (arith, value, small)));
     }
+
+pub decimal_digits : (n : ℕ) → n < 2 ^ 64 → digits_from (2 ^ 64) 0 (decimal n) ≡ Some n
+decimal_digits n small = (text_of n small).digits
 
 by_tests : (bs : List ℕ) (lead none : Bool) (o : Option ℕ) → leads bs ≡ lead → (length bs == 0) ≡ none → digits_from (2 ^ 64) 0 bs ≡ o → ReadsDecimal bs (if lead then None else (if none then None else o))
 by_tests bs true none o e s h = λ n small same. let t = (text_of n small).plain in absurd cc

@@ -1,10 +1,7 @@
 -- The kinds are read back from their texts.
 use Rattle.std.proofs.Common.{◌≡◌, ℕ, ◌^◌, ◌<◌, ◌==◌, nat_lt, Bool, true, false, List, ◌++◌, length, Some, None, option_and_then, option_map, codes, refl, sym, ap, ◌∙◌, arith, if◌then◌else◌}
-use Rattle.std.proofs.lemmas.Bool.{eqb-true}
-use Rattle.std.proofs.lemmas.Bool.Decides.{nat_tests}
 use Rattle.std.proofs.lemmas.Option.{option_and_then_some}
 use Rattle.std.specs.Str.{bytes_eq}
-use Rattle.slate_ids.specs.Numerals.{number_of}
 use Rattle.slate_ids.specs.UlidText.{ulid_text, ulid_of}
 use Rattle.slate_ids.specs.Twenty.{twenty}
 use Rattle.slate_ids.specs.PathKind.{strip_front, middle, twenty_of, numbered, table_of, single_of, or_else, kind_of}
@@ -13,37 +10,9 @@ use Rattle.slate_ids.specs.declared.folder.Folder.{Folder}
 use Rattle.slate_ids.specs.declared.folder.Folder.TheVariants.{Manifests, Records, Tables, Wals}
 use Rattle.slate_ids.specs.declared.path_kind.PathKind.{PathKind}
 use Rattle.slate_ids.specs.declared.path_kind.PathKind.TheVariants.{Manifest, Record, ManifestBoundary, RecordBoundary, Table, Wal, Marker}
-use Rattle.slate_ids.proofs.Digits.{twenty-numeral}
-use Rattle.slate_ids.proofs.Numerals.{length-numeral}
-use Rattle.slate_ids.proofs.Reading.{IsAlphabet, IsAlphabet-tested, number_read, number_letters}
 use Rattle.slate_ids.proofs.Strips.{same_bytes, middle_off, middle_on, middle_none, or_else_some, option_map_some}
-use Rattle.slate_ids.proofs.UlidTexts.{if_some, ulid_shown}
-
-abbrev tens : List ℕ
-tens = codes "0123456789"
-
-tens_alphabet : IsAlphabet tens
-tens_alphabet = IsAlphabet-tested tens (omega arith) refl
-
--- a number is read back from its twenty digits
-twenty_read : (n : ℕ) → n < 2 ^ 64 → twenty_of (twenty n) ≡ Some n
-unfolding twenty_of
-twenty_read n l =
-    let e = twenty-numeral n l in
-    let read = number_read tens tens_alphabet 20 n (omega arith) in
-    let t : nat_lt n (2 ^ 64) ≡ true = grind (arith, nat_tests) in
-    rw (e, length-numeral tens 20 n, read, t)
-
-twenty_shown : (text : List ℕ) (n : ℕ) → twenty_of text ≡ Some n → twenty n ≡ text
-unfolding twenty_of
-twenty_shown text n h =
-    let i = if_some (length text == 20) (option_and_then (λ k. if nat_lt k (2 ^ 64) then Some k else None) (number_of tens text)) n h in
-    let size : length text ≡ 20 = eqb-true _ _ i.0 in
-    option_and_then_some (λ k. if nat_lt k (2 ^ 64) then Some k else None) (number_of tens text) n i.1 (λ k e f.
-    let s = if_some (nat_lt k (2 ^ 64)) (Some k) n f in
-    let same : k ≡ n = cc (s.1) in
-    let less : k < 2 ^ 64 = let t = s.0 in grind (arith, nat_tests) in
-    rw (← same) (twenty-numeral k less ∙ number_letters tens text 20 k size e))
+use Rattle.slate_ids.proofs.TwentyDigits.{twenty_read, twenty_shown}
+use Rattle.slate_ids.proofs.UlidTexts.{ulid_shown}
 
 numbered_read : (folder : Folder) (n : ℕ) → n < 2 ^ 64 → numbered folder (in_folder folder (twenty n)) ≡ Some n
 unfolding numbered

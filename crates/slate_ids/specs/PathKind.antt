@@ -1,7 +1,7 @@
 -- The kind that a text is of, by what stands after a database and `/`.
-use Rattle.std.specs.Prelude.{ℕ, ◌-◌, ◌^◌, ◌&&◌, ◌==◌, nat_lt, Bool, not, List, length, take, drop, Option, Some, None, option_and_then, option_map, is_some, if◌then◌else◌, codes}
+use Rattle.std.specs.Prelude.{ℕ, ◌-◌, ◌^◌, ◌&&◌, ◌==◌, nat_lt, Bool, not, List, length, take, drop, Option, Some, None, option_and_then, option_map, is_some, if◌then◌else◌}
 use Rattle.std.specs.Str.{bytes_eq}
-use Rattle.slate_ids.specs.Numerals.{number_of}
+use Rattle.slate_ids.specs.Decimals.{number_below}
 use Rattle.slate_ids.specs.PathText.{front_of, suffix_of, kind_text}
 use Rattle.slate_ids.specs.UlidText.{ulid_of}
 use Rattle.slate_ids.specs.declared.folder.Folder.{Folder}
@@ -23,7 +23,7 @@ middle front end text = option_and_then (strip_end end) (strip_front front text)
 
 -- the number of twenty digits, below 2^64
 unfoldable pub twenty_of : List ℕ → Option ℕ
-twenty_of text = if length text == 20 then option_and_then (λ n. if nat_lt n (2 ^ 64) then Some n else None) (number_of (codes "0123456789") text) else None
+twenty_of text = if length text == 20 then number_below (2 ^ 64) text else None
 
 -- the number that names an object of a folder
 unfoldable pub numbered : Folder → List ℕ → Option ℕ

@@ -3,8 +3,8 @@ ghost use Rattle.std.specs.Prelude.{◌≡◌, option_map};
 ghost use Rattle.slate_ids.specs.PathText.{front_of, suffix_of};
 ghost use Rattle.slate_ids.specs.PathKind.{kind_of, middle, numbered, single_of, table_of, twenty_of};
 
+use crate::decimals::number_below;
 use crate::folder::{Folder, MANIFEST_BOUNDARY, MARKER, RECORD_BOUNDARY};
-use crate::numeral::read_numeral;
 use crate::ulid::Ulid;
 
 /// What a path of a kind with a name is, its database apart.
@@ -36,8 +36,8 @@ fn twenty_of(text: &[u8]) -> Option<u64>
     if text.len() != 20 {
         return None;
     }
-    let number = read_numeral(b"0123456789", text)?;
-    u64::try_from(number).ok()
+    let number = number_below(text, 1 << 64)?;
+    Some(number as u64)
 }
 
 // The number that names an object of a folder.
