@@ -1,5 +1,5 @@
 -- The kinds are read back from their texts.
-use Rattle.std.proofs.Common.{◌≡◌, ℕ, ◌^◌, ◌<◌, ◌==◌, nat_lt, Bool, true, false, List, ◌++◌, length, Some, None, option_and_then, option_map, codes, refl, sym, ap, ◌∙◌, arith, if◌then◌else◌}
+use Rattle.std.proofs.Common.{◌≡◌, ℕ, ◌^◌, ◌<◌, Bool, true, false, List, Some, None, option_and_then, option_map, refl, sym, ap, ◌∙◌, arith, if◌then◌else◌}
 use Rattle.std.proofs.lemmas.Option.{option_and_then_some}
 use Rattle.std.specs.Str.{bytes_eq}
 use Rattle.slate_ids.specs.UlidText.{ulid_text, ulid_of}

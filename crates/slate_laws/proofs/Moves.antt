@@ -1,5 +1,5 @@
 -- What a boundary that is moved, and a version that is deleted, leave of a log.
-use Rattle.std.proofs.Common.{◌≡◌, ◌≢◌, ℕ, ℤ, ◌+◌, ◌<◌, ◌≤◌, ◌^◌, true, List, Option, Some, None, refl, sym, ap, ◌∙◌, arith}
+use Rattle.std.proofs.Common.{◌≡◌, ◌≢◌, ℕ, ℤ, ◌+◌, ◌<◌, ◌≤◌, ◌^◌, true, List, Some, refl, sym, ap, ◌∙◌, arith}
 use Rattle.std.specs.Prelude.{decimal}
 use Rattle.slate_ids.proofs.DecimalTexts.{decimal_back}
 use Rattle.slate_ids.specs.Ids.{is_db_path}

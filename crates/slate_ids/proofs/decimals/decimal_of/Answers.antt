@@ -1,4 +1,4 @@
-use Rattle.std.proofs.Common.{rules, ◌≡◌, sym, subst, ℕ, Option, Some, None}
+use Rattle.std.proofs.Common.{rules, ◌≡◌, subst, ℕ, Option, Some, None}
 use Rattle.slate_ids.specs.Decimals.{decimal_of, ReadsDecimal}
 use Rattle.slate_ids.proofs.DecimalTexts.{reads_decimal}
 use Rattle.slate_ids.proofs.decimals.decimal_of.Goals as goal
