@@ -6,7 +6,8 @@ use Rattle.std.proofs.lemmas.Fmt.{decimal_by_steps, length-decimal-le}
 use Rattle.slate_ids.specs.Numerals.{numeral}
 use Rattle.slate_ids.specs.Twenty.{twenty}
 
-abbrev tens : List ℕ
+-- the decimal digits
+abbrev pub tens : List ℕ
 tens = codes "0123456789"
 
 pub digit : (d : ℕ) → d < 10 → get_or tens d 0 ≡ 48 + d

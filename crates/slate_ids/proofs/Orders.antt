@@ -1,5 +1,5 @@
 -- How texts order that begin with parts of one length, and numbers of one width.
-use Rattle.std.proofs.Common.{◌≡◌, ℕ, zero, suc, ◌+◌, ◌<◌, ◌^◌, ◌/◌, ◌%◌, List, [], ◌∷◌, ◌++◌, length, get_or, codes, refl, sym, ap, ◌∙◌, arith}
+use Rattle.std.proofs.Common.{◌≡◌, ℕ, zero, suc, ◌+◌, ◌<◌, ◌^◌, ◌/◌, ◌%◌, List, [], ◌∷◌, ◌++◌, length, get_or, refl, sym, ap, ◌∙◌, arith}
 use Rattle.std.proofs.lemmas.Bool.Decides.{nat_tests}
 use Rattle.std.proofs.lemmas.Cmp.{ranked}
 use Rattle.std.specs.Ordering.{MatchOrdering, nat_cmp, ordering_then}
@@ -13,7 +13,7 @@ use Rattle.slate_ids.specs.declared.folder.Folder.TheVariants.{Manifests, Record
 use Rattle.slate_ids.specs.declared.path_kind.PathKind.TheVariants as kind
 use Rattle.slate_ids.specs.declared.object_path.ObjectPath.{ObjectPath}
 use Rattle.slate_ids.specs.declared.object_path.ObjectPath.TheVariants.{Manifest, Record, ManifestBoundary, RecordBoundary, Table, Wal, Marker, Other}
-use Rattle.slate_ids.proofs.Digits.{twenty-numeral, digit}
+use Rattle.slate_ids.proofs.Digits.{tens, twenty-numeral, digit}
 use Rattle.slate_ids.proofs.Numerals.{length-numeral}
 
 less : (x y : ℕ) → x < y → nat_cmp x y ≡ Less
@@ -57,9 +57,6 @@ last_digits n m = by (nat_cmp (n / 10) (m / 10)) (ranked (n / 10) (m / 10) (nat_
     by Less h = sym (less n m (omega (arith, h)))
     by Equal h = last (nat_cmp (n % 10) (m % 10)) h refl (ranked (n % 10) (m % 10) (nat_cmp (n % 10) (m % 10)) refl)
     by Greater h = sym (more n m (omega (arith, h)))
-
-abbrev tens : List ℕ
-tens = codes "0123456789"
 
 -- numerals of one width order as their numbers
 numerals_order : (k n m : ℕ) → n < 10 ^ k → m < 10 ^ k → slice_cmp nat_cmp (numeral tens k n) (numeral tens k m) ≡ nat_cmp n m

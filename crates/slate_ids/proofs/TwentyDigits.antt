@@ -1,5 +1,5 @@
 -- Twenty digits are read back as their number.
-use Rattle.std.proofs.Common.{◌≡◌, ℕ, zero, suc, ◌+◌, ◌-◌, ◌*◌, ◌^◌, ◌<◌, ◌≤◌, ◌==◌, Bool, true, false, List, [], ◌∷◌, ◌++◌, length, replicate, Option, Some, None, option_and_then, codes, refl, sym, ap, subst, ◌∙◌, arith, if◌then◌else◌}
+use Rattle.std.proofs.Common.{◌≡◌, ℕ, zero, suc, ◌+◌, ◌-◌, ◌*◌, ◌^◌, ◌<◌, ◌≤◌, ◌==◌, Bool, true, false, List, [], ◌∷◌, ◌++◌, length, replicate, Option, Some, None, option_and_then, refl, sym, ap, subst, ◌∙◌, arith, if◌then◌else◌}
 use Rattle.std.specs.Prelude.{decimal}
 use Rattle.std.proofs.lemmas.Bool.{eqb-true}
 use Rattle.slate_ids.specs.Decimals.{digits_from}
@@ -7,13 +7,10 @@ use Rattle.slate_ids.specs.Numerals.{digit_of, number_after}
 use Rattle.slate_ids.specs.PathKind.{twenty_of}
 use Rattle.slate_ids.specs.Twenty.{twenty}
 use Rattle.slate_ids.proofs.DecimalTexts.{good, good_is, reads, decimal_digits}
-use Rattle.slate_ids.proofs.Digits.{twenty-numeral, digit}
+use Rattle.slate_ids.proofs.Digits.{tens, twenty-numeral, digit}
 use Rattle.slate_ids.proofs.Numerals.{length-numeral}
 use Rattle.slate_ids.proofs.Reading.{IsAlphabet, IsAlphabet-tested, number_letters, read_none_yet}
 use Rattle.slate_ids.proofs.UlidTexts.{if_some}
-
-abbrev tens : List ℕ
-tens = codes "0123456789"
 
 tens_alphabet : IsAlphabet tens
 tens_alphabet = IsAlphabet-tested tens (omega arith) refl
