@@ -14,9 +14,13 @@ pub(crate) const MARKER: &str = ".deleting";
 /// A folder of a database, in which the objects have names of one form.
 #[derive(Clone, Copy)]
 pub enum Folder {
+    /// The versions of the manifest, named by their numbers.
     Manifests,
+    /// The versions of the compaction record, named by their numbers.
     Records,
+    /// The tables, named by their ids.
     Tables,
+    /// The files of the write-ahead log, named by their numbers.
     Wals,
 }
 
