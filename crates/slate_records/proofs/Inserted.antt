@@ -6,12 +6,13 @@ use Rattle.std.specs.Ordering.{match_ordering}
 use Rattle.std.specs.declared.cmp.Ordering.{Ordering}
 use Rattle.std.specs.declared.cmp.Ordering.TheVariants.{Less, Equal, Greater}
 use Rattle.std.proofs.Common.{◌≡◌, refl, sym, ap, ◌∙◌, append_assoc}
+use Rattle.std.proofs.lemmas.Bool.{and_from, and_parts}
 use Rattle.slate_records.specs.declared.compaction.Compaction.{Compaction}
 use Rattle.slate_records.specs.Records.{are_ascending, inserted}
 use Rattle.slate_ids.specs.Ulids.{id_lt, id_cmp}
 use Rattle.slate_records.specs.Entries.{compactions_of, UnderOwnIds}
 use Rattle.slate_ids.proofs.IdOrder.{less, greater, equal, one_way, chained, not_before_itself}
-use Rattle.slate_records.proofs.Ordered.{Entry, both, parts}
+use Rattle.slate_records.proofs.Ordered.{Entry}
 
 -- those after an id
 abbrev pub after : ℕ × ℕ → Compaction → Bool
@@ -25,21 +26,21 @@ before id d = id_lt d.id id
 all_pass : (id : ℕ × ℕ) (cs : List Compaction) → list_all (after id) cs ≡ true → filter (after id) cs ≡ cs
 all_pass id [] h = refl
 all_pass id (d ∷ cs) h =
-    let p : (after id d ≡ true) × (list_all (after id) cs ≡ true) = parts (after id d) (list_all (after id) cs) h in
+    let p : (after id d ≡ true) × (list_all (after id) cs ≡ true) = and_parts (after id d) (list_all (after id) cs) h in
     ap (λ b. if b then d ∷ filter (after id) cs else filter (after id) cs) p.0 ∙ ap (λ l. d ∷ l) (all_pass id cs p.1)
 
 none_passes : (id : ℕ × ℕ) (cs : List Compaction) → list_all (after id) cs ≡ true → filter (before id) cs ≡ []
 none_passes id [] h = refl
 none_passes id (d ∷ cs) h =
-    let p : (after id d ≡ true) × (list_all (after id) cs ≡ true) = parts (after id d) (list_all (after id) cs) h in
+    let p : (after id d ≡ true) × (list_all (after id) cs ≡ true) = and_parts (after id d) (list_all (after id) cs) h in
     ap (λ b. if b then d ∷ filter (before id) cs else filter (before id) cs) (one_way id d.id p.0) ∙ none_passes id cs p.1
 
 -- what stands after a later id stands after an earlier one
 pub all_later : (a b : ℕ × ℕ) (cs : List Compaction) → id_lt a b ≡ true → list_all (after b) cs ≡ true → list_all (after a) cs ≡ true
 all_later a b [] h k = refl
 all_later a b (d ∷ cs) h k =
-    let p : (after b d ≡ true) × (list_all (after b) cs ≡ true) = parts (after b d) (list_all (after b) cs) k in
-    both (after a d) (list_all (after a) cs) (chained a b d.id h p.0) (all_later a b cs h p.1)
+    let p : (after b d ≡ true) × (list_all (after b) cs ≡ true) = and_parts (after b d) (list_all (after b) cs) k in
+    and_from (after a d) (list_all (after a) cs) (chained a b d.id h p.0) (all_later a b cs h p.1)
 
 -- a compaction before all others
 at_the_front : (c : Compaction) (cs : List Compaction) → list_all (after c.id) cs ≡ true → inserted c cs ≡ c ∷ cs
@@ -66,12 +67,12 @@ inserted_is c [] own a = refl
 inserted_is c (e ∷ es) own a = step (id_cmp c.id e.0) refl (inserted_is c es own.1 p.1)
   where
     p : (list_all (after e.1.id) (compactions_of es) ≡ true) × (are_ascending (compactions_of es) ≡ true)
-    p = parts (list_all (after e.1.id) (compactions_of es)) (are_ascending (compactions_of es)) a
+    p = and_parts (list_all (after e.1.id) (compactions_of es)) (are_ascending (compactions_of es)) a
 
     step : (o : Ordering) → id_cmp c.id e.0 ≡ o → compactions_of (insert_entry id_cmp es c.id c) ≡ inserted c (compactions_of es) → compactions_of (match_ordering o ((c.id, c) ∷ e ∷ es) ((e.0, c) ∷ es) (e ∷ insert_entry id_cmp es c.id c)) ≡ inserted c (e.1 ∷ compactions_of es)
     step Less is rest =
         let first : id_lt c.id e.1.id ≡ true = ap (id_lt c.id) (sym own.0) ∙ less c.id e.0 is in
-        sym (at_the_front c (e.1 ∷ compactions_of es) (both (after c.id e.1) (list_all (after c.id) (compactions_of es)) first (all_later c.id e.1.id (compactions_of es) first p.0)))
+        sym (at_the_front c (e.1 ∷ compactions_of es) (and_from (after c.id e.1) (list_all (after c.id) (compactions_of es)) first (all_later c.id e.1.id (compactions_of es) first p.0)))
     step Equal is rest = sym (in_place c e.1 (compactions_of es) (equal c.id e.0 is ∙ own.0) p.0)
     step Greater is rest = ap (λ l. e.1 ∷ l) rest ∙ sym (past c e.1 (compactions_of es) (ap (λ k. id_lt k c.id) (sym own.0) ∙ greater c.id e.0 is))
 
@@ -87,13 +88,13 @@ still_own c (e ∷ es) own = step (id_cmp c.id e.0) refl (still_own c es own.1)
 
 -- what stands after all others goes to their end
 last_of_all : (id : ℕ × ℕ) (cs rest : List Compaction) (c : Compaction) → list_all (after id) (cs ++ c ∷ rest) ≡ true → after id c ≡ true
-last_of_all id [] rest c h = (parts (after id c) (list_all (after id) rest) h).0
-last_of_all id (d ∷ cs) rest c h = last_of_all id cs rest c (parts (after id d) (list_all (after id) (cs ++ c ∷ rest)) h).1
+last_of_all id [] rest c h = (and_parts (after id c) (list_all (after id) rest) h).0
+last_of_all id (d ∷ cs) rest c h = last_of_all id cs rest c (and_parts (after id d) (list_all (after id) (cs ++ c ∷ rest)) h).1
 
 appended : (cs rest : List Compaction) (c : Compaction) → are_ascending (cs ++ c ∷ rest) ≡ true → inserted c cs ≡ cs ++ c ∷ []
 appended [] rest c a = refl
 appended (d ∷ cs) rest c a =
-    let p : (list_all (after d.id) (cs ++ c ∷ rest) ≡ true) × (are_ascending (cs ++ c ∷ rest) ≡ true) = parts (list_all (after d.id) (cs ++ c ∷ rest)) (are_ascending (cs ++ c ∷ rest)) a in
+    let p : (list_all (after d.id) (cs ++ c ∷ rest) ≡ true) × (are_ascending (cs ++ c ∷ rest) ≡ true) = and_parts (list_all (after d.id) (cs ++ c ∷ rest)) (are_ascending (cs ++ c ∷ rest)) a in
     past c d cs (last_of_all d.id cs rest c p.0) ∙ ap (λ l. d ∷ l) (appended cs rest c p.1)
 
 -- one more compaction is copied

@@ -2,6 +2,7 @@
 use Rattle.std.specs.Prelude.{ℕ, ◌&&◌, ◌||◌, Bool, true, false, List, [], ◌∷◌, Option, Some, None, is_some, if◌then◌else◌}
 use Rattle.std.specs.List.{filter, list_all, AllByRecursion}
 use Rattle.std.proofs.Common.{◌≡◌, refl, sym, ap, ◌∙◌}
+use Rattle.std.proofs.lemmas.Bool.{and_parts}
 use Rattle.slate_records.specs.declared.compaction.Compaction.{Compaction}
 use Rattle.slate_records.specs.Compactions.{is_terminal}
 use Rattle.slate_records.specs.Records.{are_ascending}
@@ -10,7 +11,7 @@ use Rattle.slate_records.specs.Entries.{compactions_of, UnderOwnIds}
 use Rattle.slate_records.specs.Retaining.{has_id, is_passed, is_kept, retained}
 use Rattle.slate_records.specs.LastFinished.{last_finished, finished_or, is_one, is_kept_by}
 use Rattle.slate_ids.proofs.IdOrder.{one_way, is_itself, not_before_itself, apart}
-use Rattle.slate_records.proofs.Ordered.{Entry, clash, parts}
+use Rattle.slate_records.proofs.Ordered.{Entry, clash}
 use Rattle.slate_records.proofs.Inserted.{after}
 
 -- the other answer
@@ -62,7 +63,7 @@ right false b h = refl
 passed_by : (id : ℕ × ℕ) (cs : List Compaction) → list_all (after id) cs ≡ true → is_passed cs id ≡ is_some (last_finished cs)
 passed_by id [] h = refl
 passed_by id (c ∷ cs) h =
-    let p : (after id c ≡ true) × (list_all (after id) cs ≡ true) = parts (after id c) (list_all (after id) cs) h in
+    let p : (after id c ≡ true) × (list_all (after id) cs ≡ true) = and_parts (after id c) (list_all (after id) cs) h in
     ap (λ b. b || is_passed cs id) (right (is_terminal c.status) (id_lt id c.id) p.0)
     ∙ ap (λ b. is_terminal c.status || b) (passed_by id cs p.1)
     ∙ sym (last_is_over c (last_finished cs))
@@ -73,7 +74,7 @@ not_one id [] h = refl
 not_one id (c ∷ cs) h = step (last_finished cs) (not_one id cs p.1)
   where
     p : (after id c ≡ true) × (list_all (after id) cs ≡ true)
-    p = parts (after id c) (list_all (after id) cs) h
+    p = and_parts (after id c) (list_all (after id) cs) h
 
     by : (b : Bool) → is_one (if b then Some c.id else None) id ≡ false
     by true = apart id c.id p.0
@@ -110,7 +111,7 @@ kept_one c None id h = clash false h refl
 others_agree : (c : Compaction) (cs ds : List Compaction) → list_all (after c.id) ds ≡ true → AllByRecursion (IsFollowed cs) ds → AllByRecursion (Agrees cs) ds → AllByRecursion (Agrees (c ∷ cs)) ds
 others_agree c cs [] h f a = tt
 others_agree c cs (d ∷ ds) h f a =
-    let p : (after c.id d ≡ true) × (list_all (after c.id) ds ≡ true) = parts (after c.id d) (list_all (after c.id) ds) h in (
+    let p : (after c.id d ≡ true) × (list_all (after c.id) ds ≡ true) = and_parts (after c.id d) (list_all (after c.id) ds) h in (
       λ t. kept_one c (last_finished cs) d.id (f.0 t) ∙ a.0 t ∙ ap other (sym (not_passed_by d.id c (is_passed cs d.id) (one_way c.id d.id p.0))),
       others_agree c cs ds p.1 f.1 a.1,
     )
@@ -118,7 +119,7 @@ others_agree c cs (d ∷ ds) h f a =
 pub agree : (cs : List Compaction) → are_ascending cs ≡ true → AllByRecursion (Agrees cs) cs
 agree [] a = tt
 agree (c ∷ cs) a =
-    let p : (list_all (after c.id) cs ≡ true) × (are_ascending cs ≡ true) = parts (list_all (after c.id) cs) (are_ascending cs) a in (
+    let p : (list_all (after c.id) cs ≡ true) × (are_ascending cs ≡ true) = and_parts (list_all (after c.id) cs) (are_ascending cs) a in (
       λ t. first_agrees c (last_finished cs) (not_one c.id cs p.0) t ∙ ap other (sym (not_passed_here c (is_passed cs c.id) ∙ passed_by c.id cs p.0)),
       others_agree c cs cs p.0 (followed cs) (agree cs p.1),
     )

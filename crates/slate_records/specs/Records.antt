@@ -1,5 +1,5 @@
 -- Records: the compactions of a database, ascending by id.
-use Rattle.std.specs.Prelude.{ℕ, ◌&&◌, ◌++◌, Bool, true, List, [], ◌∷◌, Option, Some, None}
+use Rattle.std.specs.Prelude.{ℕ, ◌&&◌, ◌++◌, Bool, true, List, [], ◌∷◌, Option, Some, None, if◌then◌else◌}
 use Rattle.std.specs.List.{find, filter, list_all}
 use Rattle.slate_ids.specs.Ulids.{same_id, id_lt}
 use Rattle.slate_records.specs.declared.compaction.Compaction.{Compaction}
@@ -22,6 +22,10 @@ are_ascending (c ∷ entries) = list_all (λ d. id_lt c.id d.id) entries && are_
 -- the compaction of an id
 abbrev pub entry_of : ℕ × ℕ → List Compaction → Option Compaction
 entry_of id entries = find (λ c. same_id c.id id) entries
+
+-- what a look-up finds once a compaction is put: under its own id the compaction, and under any other what it found before
+abbrev pub found_after : Compaction → List Compaction → ℕ × ℕ → Option Compaction
+found_after c entries id = if same_id c.id id then Some c else entry_of id entries
 
 -- the id of the first compaction
 abbrev pub first_id : List Compaction → Option (ℕ × ℕ)

@@ -1,8 +1,8 @@
 //! A record of compactions.
-ghost use Rattle.std.specs.Prelude.{◌≡◌, ℕ, [], length, true, false, None, Some, IfSome, IsTrue, ◌↔◌, OnOk, OnErr, option_copied, if◌then◌else◌};
+ghost use Rattle.std.specs.Prelude.{◌≡◌, ℕ, [], length, true, false, None, IfSome, IsTrue, ◌↔◌, OnOk, OnErr, option_copied};
 ghost use Rattle.std.specs.List.{list_any};
-ghost use Rattle.slate_records.specs.Records.{are_ascending, entry_of, first_id, inserted};
-ghost use Rattle.slate_ids.specs.Ulids.{id_lt, same_id};
+ghost use Rattle.slate_records.specs.Records.{are_ascending, entry_of, first_id, found_after, inserted};
+ghost use Rattle.slate_ids.specs.Ulids.{id_lt};
 ghost use Rattle.slate_records.specs.Retaining.{retained};
 
 use crate::compaction::Compaction;
@@ -28,7 +28,10 @@ impl Model for Compactions {
 
     ghost Value = { Record };
 
-    ghost view = { λ a. record { compactor_epoch = a.compactor_epoch; entries = compactions_of a.entries.entries } };
+    ghost view = { λ a. record {
+      compactor_epoch = a.compactor_epoch;
+      entries = compactions_of a.entries.entries;
+    } };
 
     ghost invariant = { λ a. UnderOwnIds a.entries.entries };
 }
@@ -84,9 +87,10 @@ impl Compactions {
     /// Makes this compaction the one of its id, in the place of one that was there. All others stay. Memory is asked for only where
     /// the id is new; want of memory changes nothing, and the compaction is let go.
     pub fn insert(&mut self, compaction: Compaction) -> Result<(), OutOfMemory>
-        ensures ok { OnOk result (self.new ≡ record { compactor_epoch = self.old.compactor_epoch; entries = inserted compaction self.old.entries }) }
+        ensures ok { OnOk result (self.new ≡ record self.old { entries = inserted compaction self.old.entries }) }
         ensures err { OnErr result (self.new ≡ self.old) }
-        ensures found { OnOk result ((id : ℕ × ℕ) → entry_of id self.new.entries ≡ (if same_id compaction.id id then Some compaction else entry_of id self.old.entries)) }
+        ensures found { OnOk result ((id : ℕ × ℕ)
+            → entry_of id self.new.entries ≡ found_after compaction self.old.entries id) }
         ensures absent { OnErr result (entry_of compaction.id self.old.entries ≡ None) }
     {
         keep(&mut self.entries, compaction)
@@ -96,7 +100,7 @@ impl Compactions {
     /// id of those that are over (completed or failed), and those whose id is in `pending`. The epoch stays. Takes no memory. For each
     /// compaction that is over, it looks through `pending`, which is to be short.
     pub fn retain_active_and_last_finished(&mut self, pending: &[Ulid])
-        ensures { self.new ≡ record { compactor_epoch = self.old.compactor_epoch; entries = retained pending.now self.old.entries } }
+        ensures { self.new ≡ record self.old { entries = retained pending.now self.old.entries } }
     {
         retain(&mut self.entries, pending);
     }

@@ -1,9 +1,9 @@
 //! Compactions by their ids.
-ghost use Rattle.std.specs.Prelude.{◌≡◌, ℕ, None, Some, true, false, IfOk, IfSome, OnOk, OnErr, option_copied, if◌then◌else◌};
+ghost use Rattle.std.specs.Prelude.{◌≡◌, ℕ, None, false, IfOk, IfSome, OnOk, OnErr, option_copied};
 ghost use Rattle.std.specs.List.{list_any};
 ghost use Rattle.slate_records.specs.Entries.{compactions_of, UnderOwnIds};
-ghost use Rattle.slate_records.specs.Records.{entry_of, first_id, inserted};
-ghost use Rattle.slate_ids.specs.Ulids.{id_lt, same_id};
+ghost use Rattle.slate_records.specs.Records.{entry_of, first_id, found_after, inserted};
+ghost use Rattle.slate_ids.specs.Ulids.{id_lt};
 
 use crate::compaction::Compaction;
 use slate_ids::{OutOfMemory, Ulid};
@@ -26,7 +26,8 @@ pub(crate) fn find(entries: &Entries, id: Ulid) -> Option<&Compaction>
 pub(crate) fn least(entries: &Entries) -> Option<Ulid>
     requires { UnderOwnIds entries.now.entries }
     ensures first { result ≡ first_id (compactions_of entries.now.entries) }
-    ensures least { IfSome result (λ id. list_any (λ c. id_lt c.id id) (compactions_of entries.now.entries) ≡ false) }
+    ensures least { IfSome result
+        (λ id. list_any (λ c. id_lt c.id id) (compactions_of entries.now.entries) ≡ false) }
 {
     match entries.first_key_value() {
         Some((id, _)) => Some(*id),
@@ -38,8 +39,10 @@ pub(crate) fn least(entries: &Entries) -> Option<Ulid>
 pub(crate) fn keep(entries: &mut Entries, compaction: Compaction) -> Result<(), OutOfMemory>
     requires { UnderOwnIds entries.old.entries }
     ensures own { UnderOwnIds entries.new.entries }
-    ensures ok { OnOk result (compactions_of entries.new.entries ≡ inserted compaction (compactions_of entries.old.entries)) }
-    ensures found { OnOk result ((id : ℕ × ℕ) → entry_of id (compactions_of entries.new.entries) ≡ (if same_id compaction.id id then Some compaction else entry_of id (compactions_of entries.old.entries))) }
+    ensures ok { OnOk result
+        (compactions_of entries.new.entries ≡ inserted compaction (compactions_of entries.old.entries)) }
+    ensures found { OnOk result ((id : ℕ × ℕ) → entry_of id (compactions_of entries.new.entries)
+        ≡ found_after compaction (compactions_of entries.old.entries) id) }
     ensures err { OnErr result (entries.new.entries ≡ entries.old.entries) }
     ensures absent { OnErr result (entry_of compaction.id (compactions_of entries.old.entries) ≡ None) }
 {
@@ -51,7 +54,8 @@ pub(crate) fn keep(entries: &mut Entries, compaction: Compaction) -> Result<(), 
 pub(crate) fn copies(alloc: Global, entries: &Entries) -> Result<Entries, OutOfMemory>
     requires { UnderOwnIds entries.now.entries }
     ensures own { IfOk result (λ copied. UnderOwnIds copied.entries) }
-    ensures same { IfOk result (λ copied. compactions_of copied.entries ≡ compactions_of entries.now.entries) }
+    ensures same { IfOk result
+        (λ copied. compactions_of copied.entries ≡ compactions_of entries.now.entries) }
 {
     let mut copied = BTreeMap::new(alloc);
     for compaction in entries.values() {

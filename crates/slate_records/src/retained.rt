@@ -46,7 +46,8 @@ fn stays(pending: &[Ulid], last: Option<Ulid>, compaction: &Compaction) -> bool
 pub(crate) fn retain(entries: &mut Entries, pending: &[Ulid])
     requires { UnderOwnIds entries.old.entries }
     ensures own { UnderOwnIds entries.new.entries }
-    ensures retained { compactions_of entries.new.entries ≡ retained pending.now (compactions_of entries.old.entries) }
+    ensures retained { compactions_of entries.new.entries
+        ≡ retained pending.now (compactions_of entries.old.entries) }
 {
     let last = last_finished(entries);
     entries.retain(|_, compaction| stays(pending, last, compaction));

@@ -66,7 +66,8 @@ fn first_reached(views: &[SsTableView], range: &KeySpan<'_>, none: &BytesRange) 
     requires none { none.now ≡ no_keys }
     ensures within { result ≤ length views.now }
     ensures passed { (i : ℕ) → i < result → is_ordered range.now.start (slot_at views.now i).end ≡ false }
-    ensures reached { (i : ℕ) → result ≤ i → i < length views.now → is_ordered range.now.start (slot_at views.now i).end ≡ true }
+    ensures reached { (i : ℕ) → result ≤ i → i < length views.now
+        → is_ordered range.now.start (slot_at views.now i).end ≡ true }
 {
     let mut low = 0;
     let mut high = views.len();

@@ -53,7 +53,8 @@ fn ends_by(end: Bound<&Bytes>, start: Bound<&Bytes>) -> bool
 // Whether the effective range of the view at a place ends at or before the first key of the next one's.
 fn ends_before_next(views: &[SsTableView], place: usize) -> bool
     requires { place < length views.now }
-    ensures { (d : View) → result ≡ runs.ends_before_next (get_or views.now place d) (drop (place + 1) views.now) }
+    ensures { (d : View)
+        → result ≡ runs.ends_before_next (get_or views.now place d) (drop (place + 1) views.now) }
 {
     let none = BytesRange::new_empty();
     let own = views[place].effective_span(&none);

@@ -122,9 +122,7 @@ impl SortedRun {
         let views = self.sst_views();
         Ok(&views[covering_part(views, &range)])
     }
-}
 
-impl SortedRun {
     /// An equal value. It shares the keys.
     pub fn clone(&self, alloc: Global) -> Result<SortedRun, OutOfMemory>
         ensures { IfOk result (λ copied. copied ≡ self.now) }

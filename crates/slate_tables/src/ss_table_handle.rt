@@ -26,17 +26,7 @@ impl SsTableHandle {
     {
         self.info.index_offset.saturating_add(self.info.index_len)
     }
-}
 
-impl AsRef<SsTableHandle> for SsTableHandle {
-    fn as_ref(&self) -> &SsTableHandle
-        ensures { result.now ≡ self.now }
-    {
-        self
-    }
-}
-
-impl SsTableHandle {
     /// An equal value. It shares the keys.
     pub fn clone(&self, alloc: Global) -> Result<SsTableHandle, OutOfMemory>
         ensures { IfOk result (λ copied. copied ≡ self.now) }
@@ -46,6 +36,14 @@ impl SsTableHandle {
             format_version: self.format_version,
             info: self.info.clone(alloc)?,
         })
+    }
+}
+
+impl AsRef<SsTableHandle> for SsTableHandle {
+    fn as_ref(&self) -> &SsTableHandle
+        ensures { result.now ≡ self.now }
+    {
+        self
     }
 }
 

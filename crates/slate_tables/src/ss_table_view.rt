@@ -120,7 +120,8 @@ impl SsTableView {
     pub fn shows_key(&self) -> bool
         ensures shows { result ≡ views.shows_key self.now }
         ensures some { views.shows_key self.now ≡ true → HasKey (effective_range self.now) }
-        ensures none { views.shows_key self.now ≡ false → (key : List ℕ) → has_key (effective_range self.now) key ≡ false }
+        ensures none { views.shows_key self.now ≡ false
+            → (key : List ℕ) → has_key (effective_range self.now) key ≡ false }
     {
         ranges_are_sets();
         let _shown = self.visible_range();
@@ -182,9 +183,7 @@ impl SsTableView {
     {
         self.sst.estimate_size()
     }
-}
 
-impl SsTableView {
     /// An equal value. It shares the keys.
     pub fn clone(&self, alloc: Global) -> Result<SsTableView, OutOfMemory>
         ensures { IfOk result (λ copied. copied ≡ self.now) }
