@@ -1,2 +1,3 @@
 mod Passing
 mod NormalSegments
+pub mod NormalLaws

@@ -1,3 +1,2 @@
 pub mod Unencodable
 pub mod Normal
-pub mod NormalLaws

@@ -7,7 +7,8 @@ use Rattle.slate_ids.specs.Limits.{last_number}
 use Rattle.slate_ids.specs.declared.error.SlateDBError.{SlateDBError}
 use Rattle.slate_ids.specs.declared.error.SlateDBError.TheVariants.{Exhausted}
 use Rattle.slate_ids.specs.declared.error.UpdateRule.TheVariants.{U1, U2}
-use Rattle.slate_layout.specs.Codec.{encoded, codec_round_trip}
+use Rattle.slate_layout.specs.Codec.{encoded}
+use Rattle.slate_layout.specs.laws.Codecs.{codec_round_trip}
 use Rattle.slate_updates.specs.Checkpoints.{is_named}
 use Rattle.slate_updates.specs.Rules.{falls, names_known, refused_by, manifest_refusal}
 use Rattle.slate_encodable.specs.Normal.{normal_manifest, normal_checkpoint}

@@ -11,9 +11,10 @@ use Rattle.slate_log.specs.Boundary.{boundary_got}
 use Rattle.slate_log.specs.LogPaths.{version_path, boundary_path}
 use Rattle.slate_log.specs.declared.log_kind.LogKind.TheVariants.{Manifest as ManifestLog}
 use Rattle.slate_updates.specs.Checkpoints.{is_named}
-use Rattle.slate_layout.specs.Codec.{encoded, codec_round_trip}
+use Rattle.slate_layout.specs.Codec.{encoded}
+use Rattle.slate_layout.specs.laws.Codecs.{codec_round_trip}
 use Rattle.slate_manifest_parts.specs.Decoding.{decoded_manifest}
-use Rattle.slate_encodable.specs.NormalLaws.{normal_only}
+use Rattle.slate_encodable.proofs.NormalLaws.{normal_only}
 use Rattle.slate_encodable.specs.Normal.{is_normal}
 use Rattle.slate_model.specs.declared.checkpoint.Checkpoint.{Checkpoint}
 use Rattle.slate_model.specs.declared.manifest.Manifest.{Manifest}

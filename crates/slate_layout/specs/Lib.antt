@@ -1,3 +1,4 @@
 pub mod Codec
 pub mod RecordCodec
 pub mod BoundaryCodec
+pub mod laws

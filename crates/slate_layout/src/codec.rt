@@ -1,6 +1,7 @@
 //! The codec of manifests.
 ghost use Rattle.slate_manifest_parts.specs.Decoding.{decoded_manifest};
-ghost use Rattle.slate_layout.specs.Codec.{encoded, codec_round_trip};
+ghost use Rattle.slate_layout.specs.Codec.{encoded};
+ghost use Rattle.slate_layout.specs.laws.Codecs.{codec_round_trip};
 ghost use Rattle.slate_encodable.specs.Normal.{normal_manifest};
 
 use slate_ids::{ObjectCodec, OutOfMemory, SlateDBError};

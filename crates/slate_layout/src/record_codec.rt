@@ -1,6 +1,7 @@
 //! The codec of records.
 ghost use Rattle.slate_record_bytes.specs.Records.{decoded_record};
-ghost use Rattle.slate_layout.specs.RecordCodec.{record_encoded, record_codec_trip};
+ghost use Rattle.slate_layout.specs.RecordCodec.{record_encoded};
+ghost use Rattle.slate_layout.specs.laws.Codecs.{record_codec_trip};
 ghost use Rattle.slate_record_bytes.specs.RecordNormal.{normal_record};
 
 use slate_ids::{ObjectCodec, OutOfMemory, SlateDBError};

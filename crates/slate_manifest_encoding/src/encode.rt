@@ -108,7 +108,7 @@ fn encode(alloc: Global, manifest: &Manifest) -> Result<Vec<u8>, SlateDBError>
 
 /// The bytes of a manifest, by version 2 of the layout. Unencodable names the first field that has none, in this order: ExpireTime,
 /// CreateTime, WalId, Handles, NoKeys, NextWal, Length. The bytes are read back as the normal form, which has the same bytes.
-#[tactic(auto, using(crate::specs::RoundTrip::round_trip, crate::specs::Kept::encoded_kept))]
+#[tactic(auto, using(crate::proofs::RoundTrip::round_trip, crate::proofs::Kept::encoded_kept))]
 pub fn encode_manifest(alloc: Global, manifest: &Manifest) -> Result<Vec<u8>, SlateDBError>
     ensures exact { GivesList result (encoded_manifest manifest.now) }
     ensures typed { OnOk result (typed.is_manifest manifest.now ≡ true) }

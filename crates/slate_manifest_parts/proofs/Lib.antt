@@ -1,2 +1,3 @@
 mod Used
 mod Gathering
+pub mod Bodies

@@ -6,3 +6,4 @@ pub mod ManifestParts
 pub mod OldManifests
 pub mod Decoding
 pub mod TypedManifests
+pub mod laws

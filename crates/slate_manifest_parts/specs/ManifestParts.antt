@@ -1,5 +1,5 @@
 -- The bytes of a manifest after its tables: version 2.
-use Rattle.std.specs.Prelude.{◌≡◌, ℕ, ℤ, ◌+◌, ◌-◌, ◌==◌, ◌&&◌, not, Bool, true, List, Option, Some, None, if◌then◌else◌}
+use Rattle.std.specs.Prelude.{ℕ, ℤ, ◌+◌, ◌-◌, ◌==◌, ◌&&◌, not, Bool, List, Option, Some, None, if◌then◌else◌}
 use Rattle.std.specs.List.{list_all}
 use Rattle.slate_ids.specs.Limits.{last_number}
 use Rattle.slate_tables.specs.declared.ss_table_handle.SsTableHandle.{SsTableHandle}
@@ -11,14 +11,12 @@ use Rattle.slate_model.specs.Segments.{Prefixed, are_ascending}
 use Rattle.slate_model.specs.Trees.{views_of}
 use Rattle.slate_parts.specs.Tables.{table_id, ascend}
 use Rattle.slate_manifest_parts.specs.UsedTables.{any_of}
-use Rattle.slate_parts.specs.Bytes.{is_u64, is_i64, u64_bytes, i64_bytes, flag_bytes, counted_bytes, option_bytes, list_bytes, pair_bytes}
+use Rattle.slate_parts.specs.Bytes.{u64_bytes, i64_bytes, flag_bytes, counted_bytes, option_bytes, list_bytes, pair_bytes}
 use Rattle.slate_parts.specs.Reading.{◌>>=◌, u64_in, i64_in, flag_in, option_in, list_in, pair_in, whole}
-use Rattle.slate_parts.specs.Reads.{Reads, OptionFits, ListFits, PairFits, option_reads, list_reads, pair_reads}
-use Rattle.slate_parts.specs.Atoms.{u64_reads, i64_reads, flag_reads}
-use Rattle.slate_parts.specs.Texts.{text_in, TextFits, text_reads}
+use Rattle.slate_parts.specs.Texts.{text_in}
 use Rattle.slate_parts.specs.InfoParts.{handle_in}
-use Rattle.slate_manifest_parts.specs.TreeParts.{tree_bytes, tree_in, TreeFits, tree_reads, segment_bytes, segment_in, SegmentFits, segment_reads}
-use Rattle.slate_manifest_parts.specs.CheckpointParts.{checkpoint_bytes, checkpoint_in, CheckpointFits, checkpoint_reads, entry_bytes, entry_in, EntryFits, entry_reads, tracker_bytes, tracker_in, TrackerFits, tracker_reads}
+use Rattle.slate_manifest_parts.specs.TreeParts.{tree_bytes, tree_in, segment_bytes, segment_in}
+use Rattle.slate_manifest_parts.specs.CheckpointParts.{checkpoint_bytes, checkpoint_in, entry_bytes, entry_in, tracker_bytes, tracker_in}
 
 -- ---- the parts
 
@@ -52,56 +50,29 @@ body_of m = ((m.core.initialized, ((m.writer_epoch, m.compactor_epoch), (m.core.
 
 -- ---- their bytes
 
-abbrev IsU64 : ℕ → Type 0
-IsU64 n = is_u64 n ≡ true
-
-abbrev two_in : List ℕ → Option ((ℕ × ℕ) × List ℕ)
+abbrev pub two_in : List ℕ → Option ((ℕ × ℕ) × List ℕ)
 two_in = pair_in u64_in u64_in
 
-abbrev two_bytes : ℕ × ℕ → List ℕ
+abbrev pub two_bytes : ℕ × ℕ → List ℕ
 two_bytes = pair_bytes u64_bytes u64_bytes
 
-abbrev TwoFit : ℕ × ℕ → Type 0
-TwoFit = PairFits IsU64 IsU64
-
-two_reads : Reads two_in two_bytes TwoFit 8
-two_reads = pair_reads _ _ _ 8 u64_reads _ _ _ 8 u64_reads
-
-abbrev head_in : List ℕ → Option (Head × List ℕ)
+abbrev pub head_in : List ℕ → Option (Head × List ℕ)
 head_in = pair_in flag_in (pair_in two_in two_in)
 
 abbrev pub head_bytes : Head → List ℕ
 head_bytes = pair_bytes flag_bytes (pair_bytes two_bytes two_bytes)
 
-abbrev HeadFits : Head → Type 0
-HeadFits = PairFits (λ flag. Unit {0}) (PairFits TwoFit TwoFit)
-
-head_reads : Reads head_in head_bytes HeadFits 1
-head_reads = pair_reads _ _ _ 1 flag_reads _ _ _ 8 (pair_reads _ _ _ 8 two_reads _ _ _ 8 two_reads)
-
-abbrev middle_in : List ℕ → Option (Middle × List ℕ)
+abbrev pub middle_in : List ℕ → Option (Middle × List ℕ)
 middle_in = pair_in (option_in text_in) (pair_in i64_in two_in)
 
 abbrev pub middle_bytes : Middle → List ℕ
 middle_bytes = pair_bytes (option_bytes counted_bytes) (pair_bytes i64_bytes two_bytes)
 
-abbrev MiddleFits : Middle → Type 0
-MiddleFits = PairFits (OptionFits TextFits) (PairFits (λ z. is_i64 z ≡ true) TwoFit)
-
-middle_reads : Reads middle_in middle_bytes MiddleFits 1
-middle_reads = pair_reads _ _ _ 1 (option_reads _ _ _ 4 text_reads) _ _ _ 8 (pair_reads _ _ _ 8 i64_reads _ _ _ 8 two_reads)
-
-abbrev tail_in : List ℕ → Option (Tail × List ℕ)
+abbrev pub tail_in : List ℕ → Option (Tail × List ℕ)
 tail_in = pair_in tracker_in (pair_in (list_in checkpoint_in 16) (pair_in (list_in entry_in 4) u64_in))
 
 abbrev pub tail_bytes : Tail → List ℕ
 tail_bytes = pair_bytes tracker_bytes (pair_bytes (list_bytes checkpoint_bytes) (pair_bytes (list_bytes entry_bytes) u64_bytes))
-
-abbrev TailFits : Tail → Type 0
-TailFits = PairFits TrackerFits (PairFits (ListFits CheckpointFits) (PairFits (ListFits EntryFits) IsU64))
-
-tail_reads : Reads tail_in tail_bytes TailFits 4
-tail_reads = pair_reads _ _ _ 4 tracker_reads _ _ _ 4 (pair_reads _ _ _ 4 (list_reads _ _ _ 16 checkpoint_reads) _ _ _ 4 (pair_reads _ _ _ 4 (list_reads _ _ _ 4 entry_reads) _ _ _ 8 u64_reads))
 
 -- the root tree and the segments
 abbrev pub trees_bytes : LsmTreeState × List Prefixed → List ℕ
@@ -112,12 +83,6 @@ body_in tables = pair_in head_in (pair_in (tree_in tables) (pair_in (list_in (se
 
 abbrev pub body_bytes : Body → List ℕ
 body_bytes = pair_bytes head_bytes (pair_bytes tree_bytes (pair_bytes (list_bytes segment_bytes) (pair_bytes middle_bytes tail_bytes)))
-
-abbrev pub BodyFits : List SsTableHandle → Body → Type 0
-BodyFits tables = PairFits HeadFits (PairFits (TreeFits tables) (PairFits (ListFits (SegmentFits tables)) (PairFits MiddleFits TailFits)))
-
-pub body_reads : (tables : List SsTableHandle) → Reads (body_in tables) body_bytes (BodyFits tables) 1
-body_reads tables = pair_reads _ _ _ 1 head_reads _ _ _ 1 (pair_reads _ _ _ 1 (tree_reads tables) _ _ _ 4 (pair_reads _ _ _ 4 (list_reads _ _ _ 4 (segment_reads tables)) _ _ _ 1 (pair_reads _ _ _ 1 middle_reads _ _ _ 4 tail_reads)))
 
 -- ---- the manifest
 

@@ -1,6 +1,5 @@
 -- The bytes of trees and segments, whose views are of the tables of their manifest.
-use Rattle.std.specs.Prelude.{◌≡◌, ℕ, List, Option, Some, None}
-use Rattle.std.proofs.Common.{ap, sym}
+use Rattle.std.specs.Prelude.{ℕ, List, Option, Some, None}
 use Rattle.slate_tables.specs.declared.ss_table_handle.SsTableHandle.{SsTableHandle}
 use Rattle.slate_tables.specs.Views.{View}
 use Rattle.slate_tables.specs.Runs.{Run}
@@ -8,10 +7,9 @@ use Rattle.slate_model.specs.declared.lsm_tree_state.LsmTreeState.{LsmTreeState}
 use Rattle.slate_model.specs.Segments.{Prefixed}
 use Rattle.slate_parts.specs.Bytes.{counted_bytes, option_bytes, list_bytes, pair_bytes}
 use Rattle.slate_parts.specs.Reading.{counted_in, option_in, list_in, pair_in, made_in}
-use Rattle.slate_parts.specs.Reads.{Reads, OptionFits, ListFits, PairFits, MadeFits, option_reads, list_reads, pair_reads, made_reads}
-use Rattle.slate_parts.specs.Atoms.{counted_reads}
-use Rattle.slate_parts.specs.Texts.{IsShort, id_bytes, id_in, IdFits, id_reads}
-use Rattle.slate_parts.specs.ViewParts.{RunFits, ViewFits, run_bytes, run_in, run_reads, view_bytes, view_in, view_reads}
+use Rattle.slate_parts.specs.Reads.{OptionFits, ListFits, PairFits, MadeFits}
+use Rattle.slate_parts.specs.Texts.{IsShort, id_bytes, id_in, IdFits}
+use Rattle.slate_parts.specs.ViewParts.{RunFits, ViewFits, run_bytes, run_in, view_bytes, view_in}
 
 -- ---- trees
 
@@ -34,14 +32,6 @@ tree_in tables = made_in tree_of (pair_in (option_in id_in) (pair_in (list_in (v
 abbrev pub TreeFits : List SsTableHandle → LsmTreeState → Type 0
 TreeFits tables = MadeFits tree_of tree_parts (PairFits (OptionFits IdFits) (PairFits (ListFits (ViewFits tables)) (ListFits (RunFits tables))))
 
-tree_apart : (p : TreeParts) (t : LsmTreeState) → tree_of p ≡ Some t → tree_parts t ≡ p
-tree_apart p t e =
-    let same : (let s : LsmTreeState = record { last_compacted_l0_sst_view_id = p.0; last_compacted_l0_sst_id = None; l0 = p.1.0; compacted = p.1.1 } in s) ≡ t = cc in
-    sym (ap tree_parts same)
-
-pub tree_reads : (tables : List SsTableHandle) → Reads (tree_in tables) tree_bytes (TreeFits tables) 1
-tree_reads tables = made_reads _ _ _ 1 (pair_reads _ _ _ 1 (option_reads id_in id_bytes IdFits 8 id_reads) _ _ _ 4 (pair_reads _ _ _ 4 (list_reads (view_in tables) view_bytes (ViewFits tables) 8 (view_reads tables)) _ _ _ 4 (list_reads (run_in tables) run_bytes (RunFits tables) 4 (run_reads tables)))) tree_of tree_parts (λ x y fits e. tree_apart x y e)
-
 -- ---- segments
 
 abbrev pub segment_of : List ℕ × LsmTreeState → Option Prefixed
@@ -58,9 +48,3 @@ segment_in tables = made_in segment_of (pair_in counted_in (tree_in tables))
 
 abbrev pub SegmentFits : List SsTableHandle → Prefixed → Type 0
 SegmentFits tables = MadeFits segment_of segment_parts (PairFits IsShort (TreeFits tables))
-
-segment_apart : (p : List ℕ × LsmTreeState) (s : Prefixed) → segment_of p ≡ Some s → segment_parts s ≡ p
-segment_apart p s e = let same : (let t : Prefixed = record { prefix = p.0; tree = p.1 } in t) ≡ s = cc in sym (ap segment_parts same)
-
-pub segment_reads : (tables : List SsTableHandle) → Reads (segment_in tables) segment_bytes (SegmentFits tables) 4
-segment_reads tables = made_reads _ _ _ 4 (pair_reads counted_in counted_bytes IsShort 4 counted_reads _ _ _ 1 (tree_reads tables)) segment_of segment_parts (λ x y fits e. segment_apart x y e)

@@ -4,6 +4,7 @@ ghost use Rattle.std.proofs.Common.{arith};
 ghost use Rattle.slate_parts.specs.Bytes.{option_bytes, u32_bytes};
 ghost use Rattle.slate_manifest_parts.specs.CheckpointParts as parts;
 ghost use Rattle.slate_manifest_parts.specs.TypedManifests as typed;
+ghost use Rattle.slate_manifest_parts.specs.laws.Checkpoints as laws;
 
 use slate_ids::{CheckpointId, DbPath, Listed, Millis, OutOfMemory, Text};
 use slate_model::{Checkpoint, ExternalDb, SequenceTracker, SsTableId};
@@ -77,7 +78,7 @@ impl Form<Checkpoint> for CheckpointForm {
 
     ghost few = { omega arith };
 
-    ghost reads = { λ tables. parts.checkpoint_reads };
+    ghost reads = { λ tables. laws.checkpoint_reads };
 
     fn write(checkpoint: &Checkpoint, out: &mut Vec<u8>) -> Result<(), OutOfMemory> {
         checkpoint.id.write(out)?;
@@ -126,7 +127,7 @@ impl Form<ExternalDb> for EntryForm {
 
     ghost few = { omega arith };
 
-    ghost reads = { λ tables. parts.entry_reads };
+    ghost reads = { λ tables. laws.entry_reads };
 
     fn write(entry: &ExternalDb, out: &mut Vec<u8>) -> Result<(), OutOfMemory> {
         entry.path.write(out)?;
@@ -173,7 +174,7 @@ impl Form<SequenceTracker> for TrackerForm {
 
     ghost few = { omega arith };
 
-    ghost reads = { λ tables. parts.tracker_reads };
+    ghost reads = { λ tables. laws.tracker_reads };
 
     fn write(tracker: &SequenceTracker, out: &mut Vec<u8>) -> Result<(), OutOfMemory> {
         let pairs = tracker.pairs();

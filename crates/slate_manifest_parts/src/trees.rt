@@ -7,6 +7,7 @@ ghost use Rattle.slate_parts.specs.Typed.{is_view};
 ghost use Rattle.slate_parts.specs.ViewParts.{view_bytes};
 ghost use Rattle.slate_manifest_parts.specs.TreeParts as trees;
 ghost use Rattle.slate_manifest_parts.specs.TypedManifests as typed;
+ghost use Rattle.slate_manifest_parts.specs.laws.Trees as laws;
 
 use bytes::Bytes;
 use slate_ids::{Listed, OutOfMemory, Ulid};
@@ -46,7 +47,7 @@ impl Form<LsmTreeState> for TreeForm {
 
     ghost few = { omega arith };
 
-    ghost reads = { trees.tree_reads };
+    ghost reads = { laws.tree_reads };
 
     fn write(tree: &LsmTreeState, out: &mut Vec<u8>) -> Result<(), OutOfMemory> {
         tree.last_compacted_l0_sst_view_id.write(out)?;
@@ -92,7 +93,7 @@ impl Form<Segment> for SegmentForm {
 
     ghost few = { omega arith };
 
-    ghost reads = { trees.segment_reads };
+    ghost reads = { laws.segment_reads };
 
     fn write(segment: &Segment, out: &mut Vec<u8>) -> Result<(), OutOfMemory> {
         segment.prefix().write(out)?;

@@ -1,3 +1,5 @@
 pub mod Items
-mod Lookups
+pub mod Fitting
+pub mod InfoTrip
+pub mod Lookups
 mod Shown

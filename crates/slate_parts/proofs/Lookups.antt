@@ -46,7 +46,7 @@ pub place_is : (id : ℕ × ℕ) (tables : List SsTableHandle) (d : SsTableHandl
 place_is id tables d i h point = sym (prefix_len_is (is_before id) tables i d h (λ k l. point.0 k d (omega arith) l) (λ l. point.1 i d (omega arith) l))
 
 -- none of the tables above one that isn't before an id is of the id
-none_above : (id : ℕ × ℕ) (h : SsTableHandle) (tables : List SsTableHandle) → After h tables → is_before id h ≡ false → table_at id tables ≡ None
+pub none_above : (id : ℕ × ℕ) (h : SsTableHandle) (tables : List SsTableHandle) → After h tables → is_before id h ≡ false → table_at id tables ≡ None
 none_above id h [] a n = refl
 none_above id h (k ∷ tables) a n =
     ap (λ b. if b then Some k else table_at id tables) (not_same_above (table_id h.id) (table_id k.id) id a.first n) ∙ none_above id k tables (after k tables a.rest) (stays_above (table_id h.id) (table_id k.id) id a.first n)

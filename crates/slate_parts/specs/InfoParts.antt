@@ -1,7 +1,5 @@
 -- The bytes of what is known of a table, and of its handle.
-use Rattle.std.specs.Prelude.{◌≡◌, ℕ, ◌<◌, ◌^◌, ◌==◌, Bool, true, false, List, Option, Some, None, if◌then◌else◌, refl}
-use Rattle.std.proofs.Common.{ap, sym, ◌∙◌, arith}
-use Rattle.std.proofs.lemmas.Bool.Decides.{nat_tests}
+use Rattle.std.specs.Prelude.{◌≡◌, ℕ, ◌<◌, ◌^◌, ◌==◌, Bool, true, false, List, Option, Some, None, if◌then◌else◌}
 use Rattle.slate_ids.specs.Keys.{key_le}
 use Rattle.slate_tables.specs.declared.ss_table_id.SsTableId.{SsTableId}
 use Rattle.slate_tables.specs.declared.ss_table_id.SsTableId.TheVariants.{Compacted}
@@ -16,9 +14,8 @@ use Rattle.slate_tables.specs.declared.table_tags.FilterFormat.TheVariants as fo
 use Rattle.slate_parts.specs.Tables.{table_id}
 use Rattle.slate_parts.specs.Bytes.{is_u64, byte_bytes, u16_bytes, u64_bytes, counted_bytes, option_bytes, pair_bytes}
 use Rattle.slate_parts.specs.Reading.{byte_in, u16_in, u64_in, counted_in, option_in, pair_in, made_in}
-use Rattle.slate_parts.specs.Reads.{Reads, OptionFits, PairFits, MadeFits, option_reads, pair_reads, made_reads}
-use Rattle.slate_parts.specs.Atoms.{byte_reads, u16_reads, u64_reads, counted_reads}
-use Rattle.slate_parts.specs.Texts.{IsShort, id_bytes, id_in, IdFits, id_reads}
+use Rattle.slate_parts.specs.Reads.{OptionFits, PairFits, MadeFits}
+use Rattle.slate_parts.specs.Texts.{IsShort, id_bytes, id_in, IdFits}
 
 -- ---- tags, of one byte each
 
@@ -49,45 +46,12 @@ abbrev pub format_number : FilterFormat → ℕ
 format_number format.Legacy = 0
 format_number format.Composite = 1
 
--- one number more of a tag
-pub numbered : {C : Type 0} (number : C → ℕ) (k : ℕ) (x : C) (n : ℕ) (t : Bool) (rest : Option C) (c : C) → number x ≡ k → n == k ≡ t → (rest ≡ Some c → number c ≡ n) → (if t then Some x else rest) ≡ Some c → number c ≡ n
-numbered number k x n true rest c is e more h =
-    let same : x ≡ c = cc in
-    let there : n ≡ k = grind (arith, nat_tests) in
-    sym (ap number same) ∙ is ∙ sym there
-numbered number k x n false rest c is e more h = more h
-
-pub no_number : {C : Type 0} (number : C → ℕ) (n : ℕ) (c : C) → (let o : Option C = None in o) ≡ Some c → number c ≡ n
-no_number number n c h = absurd cc
-
-codec_back : (n : ℕ) (c : CompressionTag) → codec_of n ≡ Some c → codec_number c ≡ n
-codec_back n c h =
-    numbered codec_number 0 compressed.None n (n == 0) _ c refl refl (λ h. numbered codec_number 1 compressed.Snappy n (n == 1) _ c refl refl (λ h. numbered codec_number 2 compressed.Lz4 n (n == 2) _ c refl refl (λ h. numbered codec_number 3 compressed.Zlib n (n == 3) _ c refl refl (λ h. numbered codec_number 4 compressed.Zstd n (n == 4) _ c refl refl (λ h. no_number codec_number n c h) h) h) h) h) h
-
-type_back : (n : ℕ) (c : SstType) → type_of n ≡ Some c → type_number c ≡ n
-type_back n c h = numbered type_number 0 type.Compacted n (n == 0) _ c refl refl (λ h. numbered type_number 1 type.Wal n (n == 1) _ c refl refl (λ h. no_number type_number n c h) h) h
-
-format_back : (n : ℕ) (c : FilterFormat) → format_of n ≡ Some c → format_number c ≡ n
-format_back n c h = numbered format_number 0 format.Legacy n (n == 0) _ c refl refl (λ h. numbered format_number 1 format.Composite n (n == 1) _ c refl refl (λ h. no_number format_number n c h) h) h
-
 -- a tag by its number
 abbrev pub tag_in : {C : Type 0} → (ℕ → Option C) → List ℕ → Option (C × List ℕ)
 tag_in tag = made_in tag byte_in
 
 abbrev pub TagFits : {C : Type 0} → (ℕ → Option C) → (C → ℕ) → C → Type 0
 TagFits tag number = MadeFits tag number (λ n. Unit {0})
-
-pub tag_reads : {C : Type 0} (tag : ℕ → Option C) (number : C → ℕ) → ((n : ℕ) (c : C) → tag n ≡ Some c → number c ≡ n) → Reads (tag_in tag) (λ c. byte_bytes (number c)) (TagFits tag number) 1
-tag_reads tag number back = made_reads byte_in byte_bytes (λ n. Unit {0}) 1 byte_reads tag number (λ x y fits e. back x y e)
-
-pub codec_reads : Reads (tag_in codec_of) (λ c. byte_bytes (codec_number c)) (TagFits codec_of codec_number) 1
-codec_reads = tag_reads codec_of codec_number codec_back
-
-pub type_reads : Reads (tag_in type_of) (λ c. byte_bytes (type_number c)) (TagFits type_of type_number) 1
-type_reads = tag_reads type_of type_number type_back
-
-pub format_reads : Reads (tag_in format_of) (λ c. byte_bytes (format_number c)) (TagFits format_of format_number) 1
-format_reads = tag_reads format_of format_number format_back
 
 -- ---- what is known of a table
 
@@ -127,47 +91,35 @@ parts_of i = ((i.first_entry, i.last_entry), (((i.index_offset, i.index_len), (i
 
 -- ---- the bytes of the parts
 
-abbrev entries_in : List ℕ → Option (Entries × List ℕ)
+abbrev pub entries_in : List ℕ → Option (Entries × List ℕ)
 entries_in = pair_in (option_in counted_in) (option_in counted_in)
 
-abbrev entries_bytes : Entries → List ℕ
+abbrev pub entries_bytes : Entries → List ℕ
 entries_bytes = pair_bytes (option_bytes counted_bytes) (option_bytes counted_bytes)
 
-abbrev EntriesFit : Entries → Type 0
+abbrev pub EntriesFit : Entries → Type 0
 EntriesFit = PairFits (OptionFits IsShort) (OptionFits IsShort)
-
-entry_reads : Reads (option_in counted_in) (option_bytes counted_bytes) (OptionFits IsShort) 1
-entry_reads = option_reads counted_in counted_bytes IsShort 4 counted_reads
-
-entries_reads : Reads entries_in entries_bytes EntriesFit 1
-entries_reads = pair_reads _ _ _ 1 entry_reads _ _ _ 1 entry_reads
 
 abbrev IsU64 : ℕ → Type 0
 IsU64 n = is_u64 n ≡ true
 
-abbrev two_in : List ℕ → Option (Two × List ℕ)
+abbrev pub two_in : List ℕ → Option (Two × List ℕ)
 two_in = pair_in u64_in u64_in
 
-abbrev two_bytes : Two → List ℕ
+abbrev pub two_bytes : Two → List ℕ
 two_bytes = pair_bytes u64_bytes u64_bytes
 
-abbrev TwoFit : Two → Type 0
+abbrev pub TwoFit : Two → Type 0
 TwoFit = PairFits IsU64 IsU64
 
-two_reads : Reads two_in two_bytes TwoFit 8
-two_reads = pair_reads _ _ _ 8 u64_reads _ _ _ 8 u64_reads
-
-abbrev tags_in : List ℕ → Option ((CompressionTag × SstType) × List ℕ)
+abbrev pub tags_in : List ℕ → Option ((CompressionTag × SstType) × List ℕ)
 tags_in = pair_in (tag_in codec_of) (tag_in type_of)
 
-abbrev tags_bytes : CompressionTag × SstType → List ℕ
+abbrev pub tags_bytes : CompressionTag × SstType → List ℕ
 tags_bytes = pair_bytes (λ c. byte_bytes (codec_number c)) (λ t. byte_bytes (type_number t))
 
-abbrev TagsFit : CompressionTag × SstType → Type 0
+abbrev pub TagsFit : CompressionTag × SstType → Type 0
 TagsFit = PairFits (TagFits codec_of codec_number) (TagFits type_of type_number)
-
-tags_reads : Reads tags_in tags_bytes TagsFit 1
-tags_reads = pair_reads _ _ _ 1 codec_reads _ _ _ 1 type_reads
 
 abbrev pub parts_in : List ℕ → Option (Parts × List ℕ)
 parts_in = pair_in entries_in (pair_in (pair_in two_in two_in) (pair_in tags_in (pair_in two_in (tag_in format_of))))
@@ -177,9 +129,6 @@ parts_bytes = pair_bytes entries_bytes (pair_bytes (pair_bytes two_bytes two_byt
 
 abbrev pub PartsFit : Parts → Type 0
 PartsFit = PairFits EntriesFit (PairFits (PairFits TwoFit TwoFit) (PairFits TagsFit (PairFits TwoFit (TagFits format_of format_number))))
-
-pub parts_reads : Reads parts_in parts_bytes PartsFit 1
-parts_reads = pair_reads _ _ _ 1 entries_reads _ _ _ 8 (pair_reads _ _ _ 8 (pair_reads _ _ _ 8 two_reads _ _ _ 8 two_reads) _ _ _ 1 (pair_reads _ _ _ 1 tags_reads _ _ _ 8 (pair_reads _ _ _ 8 two_reads _ _ _ 1 format_reads)))
 
 -- ---- the bytes of what is known
 
@@ -191,13 +140,6 @@ info_in = made_in info_of parts_in
 
 abbrev pub InfoFits : SsTableInfo → Type 0
 InfoFits = MadeFits info_of parts_of PartsFit
-
-apart : (b : Bool) (p : Parts) (i : SsTableInfo) → (if b then Some (joined p) else None) ≡ Some i → parts_of i ≡ p
-apart true p i h = let same : joined p ≡ i = cc in sym (ap parts_of same)
-apart false p i h = absurd cc
-
-pub info_reads : Reads info_in info_bytes InfoFits 1
-info_reads = made_reads parts_in parts_bytes PartsFit 1 parts_reads info_of parts_of (λ x y fits e. apart (are_entries x.0.0 x.0.1) x y e)
 
 -- ---- a table's handle
 
@@ -220,14 +162,6 @@ handle_in = made_in handle_of (pair_in id_in (pair_in u16_in info_in))
 abbrev pub HandleFits : SsTableHandle → Type 0
 HandleFits = MadeFits handle_of handle_parts (PairFits IdFits (PairFits (λ n. n < 2 ^ 16) InfoFits))
 
-handle_apart : (p : HandleParts) (h : SsTableHandle) → handle_of p ≡ Some h → handle_parts h ≡ p
-handle_apart p h e =
-    let same : (let k : SsTableHandle = record { id = Compacted p.0; format_version = p.1.0; info = p.1.1 } in k) ≡ h = cc in
-    sym (ap handle_parts same)
-
-pub handle_reads : Reads handle_in handle_bytes HandleFits 8
-handle_reads = made_reads _ _ _ 8 (pair_reads id_in id_bytes IdFits 8 id_reads _ _ _ 2 (pair_reads u16_in u16_bytes (λ n. n < 2 ^ 16) 2 u16_reads info_in info_bytes InfoFits 1 info_reads)) handle_of handle_parts (λ x y fits e. handle_apart x y e)
-
 -- ---- ids of tables
 
 -- the compacted table of an id
@@ -242,9 +176,3 @@ table_in = made_in table_of id_in
 
 abbrev pub TableFits : SsTableId → Type 0
 TableFits = MadeFits table_of table_id IdFits
-
-table_apart : (x : ℕ × ℕ) (y : SsTableId) → table_of x ≡ Some y → table_id y ≡ x
-table_apart x y e = let same : Compacted x ≡ y = cc in sym (ap table_id same)
-
-pub table_reads : Reads table_in table_bytes TableFits 8
-table_reads = made_reads id_in id_bytes IdFits 8 id_reads table_of table_id (λ x y fits e. table_apart x y e)

@@ -1,9 +1,7 @@
 pub mod Tables
 pub mod Bytes
 pub mod Reading
-pub mod Parts
 pub mod Reads
-pub mod Atoms
 pub mod Texts
 pub mod RangeParts
 pub mod InfoParts
@@ -13,4 +11,4 @@ pub mod RecordParts
 pub mod Lengths
 pub mod Typed
 pub mod TypedCompactions
-pub mod Fitting
+pub mod laws

@@ -6,6 +6,7 @@ ghost use Rattle.slate_parts.specs.InfoParts.{tag_in, TagFits};
 ghost use Rattle.slate_parts.specs.RecordParts as records;
 ghost use Rattle.slate_parts.specs.TypedCompactions as fields;
 ghost use Rattle.slate_parts.specs.Typed as typed;
+ghost use Rattle.slate_parts.specs.laws.Compacting as laws;
 
 use crate::part::Part;
 use crate::reader::Reader;
@@ -30,7 +31,7 @@ impl Part for CompactionStatus {
 
     ghost few = { omega arith };
 
-    ghost reads = { λ tables. records.status_reads };
+    ghost reads = { λ tables. laws.status_reads };
 
     fn write(&self, out: &mut Vec<u8>) -> Result<(), OutOfMemory> {
         match self {
@@ -79,7 +80,7 @@ impl Part for WorkerSpec {
 
     ghost few = { omega arith };
 
-    ghost reads = { λ tables. records.worker_reads };
+    ghost reads = { λ tables. laws.worker_reads };
 
     fn write(&self, out: &mut Vec<u8>) -> Result<(), OutOfMemory> {
         self.worker_id.write(out)?;
@@ -119,7 +120,7 @@ impl Part for Subcompaction {
 
     ghost few = { omega arith };
 
-    ghost reads = { λ tables. records.part_reads };
+    ghost reads = { λ tables. laws.part_reads };
 
     fn write(&self, out: &mut Vec<u8>) -> Result<(), OutOfMemory> {
         self.range.write(out)?;
@@ -155,7 +156,7 @@ impl Part for CompactionContext {
 
     ghost few = { omega arith };
 
-    ghost reads = { λ tables. records.context_reads };
+    ghost reads = { λ tables. laws.context_reads };
 
     fn write(&self, out: &mut Vec<u8>) -> Result<(), OutOfMemory> {
         self.subcompactions.write(out)?;

@@ -6,7 +6,8 @@ ghost use Rattle.std.proofs.Common.{arith};
 ghost use Rattle.slate_parts.specs.Bytes as bytes;
 ghost use Rattle.slate_parts.specs.Reading as reading;
 ghost use Rattle.slate_parts.specs.Reading.{items_in};
-ghost use Rattle.slate_parts.specs.Reads.{Reads, PairFits, ListFits, pair_reads, list_reads};
+ghost use Rattle.slate_parts.specs.Reads.{Reads, PairFits, ListFits};
+ghost use Rattle.slate_parts.specs.laws.Groups.{pair_reads, list_reads};
 ghost use Rattle.slate_parts.specs.Typed as typed;
 
 use crate::groups::has_room;

@@ -5,7 +5,8 @@ ghost use Rattle.std.proofs.Common.{arith};
 ghost use Rattle.slate_parts.specs.Bytes as bytes;
 ghost use Rattle.slate_parts.specs.Reading as reading;
 ghost use Rattle.slate_parts.specs.Reading.{items_in, room_in};
-ghost use Rattle.slate_parts.specs.Reads.{PairFits, OptionFits, ListFits, pair_reads, option_reads, list_reads};
+ghost use Rattle.slate_parts.specs.Reads.{PairFits, OptionFits, ListFits};
+ghost use Rattle.slate_parts.specs.laws.Groups.{pair_reads, option_reads, list_reads};
 ghost use Rattle.slate_parts.specs.Typed as typed;
 
 use crate::numbers::write_count;

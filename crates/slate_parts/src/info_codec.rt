@@ -58,7 +58,7 @@ fn are_numbers(info: &SsTableInfo)
 
 /// The bytes of what is known of a table: its keys, where its parts lie, and how it is written. Unencodable where the last key is there
 /// without a first one, or lies below it (NoKeys), or where a key has 2^32 bytes or more (Length). The bytes are read back.
-#[tactic(auto, using(crate::specs::InfoCodec::info_back))]
+#[tactic(auto, using(crate::proofs::InfoTrip::info_back))]
 pub fn encode_info(alloc: Global, info: &SsTableInfo) -> Result<Vec<u8>, SlateDBError>
     ensures exact { GivesList result (encoded_info info.now) }
     ensures read_back { info_field info.now ≡ None → decoded_info (info_bytes info.now) ≡ Ok info.now }

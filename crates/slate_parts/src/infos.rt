@@ -3,6 +3,7 @@ ghost use Rattle.std.specs.Prelude.{◌≡◌, ◌<◌, ◌^◌, IfOk, Some, if�
 ghost use Rattle.std.proofs.Common.{arith};
 ghost use Rattle.slate_parts.specs.InfoParts as infos;
 ghost use Rattle.slate_parts.specs.Typed as typed;
+ghost use Rattle.slate_parts.specs.laws.Infos as laws;
 
 use crate::part::Part;
 use crate::reader::Reader;
@@ -87,7 +88,7 @@ impl Part for SsTableInfo {
 
     ghost few = { omega arith };
 
-    ghost reads = { λ tables. infos.info_reads };
+    ghost reads = { λ tables. laws.info_reads };
 
     fn write(&self, out: &mut Vec<u8>) -> Result<(), OutOfMemory> {
         self.first_entry.write(out)?;
@@ -125,7 +126,7 @@ impl Part for SsTableHandle {
 
     ghost few = { omega arith };
 
-    ghost reads = { λ tables. infos.handle_reads };
+    ghost reads = { λ tables. laws.handle_reads };
 
     fn write(&self, out: &mut Vec<u8>) -> Result<(), OutOfMemory> {
         table_id(self.id).write(out)?;
@@ -167,7 +168,7 @@ impl Part for SsTableId {
 
     ghost few = { omega arith };
 
-    ghost reads = { λ tables. infos.table_reads };
+    ghost reads = { λ tables. laws.table_reads };
 
     fn write(&self, out: &mut Vec<u8>) -> Result<(), OutOfMemory> {
         table_id(*self).write(out)

@@ -3,7 +3,7 @@ ghost use Rattle.std.specs.Prelude.{◌≡◌, ◌<◌, ◌^◌, ◌++◌, OnOk,
 ghost use Rattle.std.proofs.Common.{arith};
 ghost use Rattle.slate_parts.specs.Bytes as bytes;
 ghost use Rattle.slate_parts.specs.Reading as reading;
-ghost use Rattle.slate_parts.specs.Atoms as atoms;
+ghost use Rattle.slate_parts.specs.laws.Atoms as atoms;
 ghost use Rattle.slate_parts.specs.Typed as typed;
 
 use crate::part::Part;

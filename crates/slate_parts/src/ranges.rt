@@ -4,6 +4,7 @@ ghost use Rattle.slate_ids.specs.Keys.{pointed};
 ghost use Rattle.std.proofs.Common.{arith};
 ghost use Rattle.slate_parts.specs.RangeParts as ranges;
 ghost use Rattle.slate_parts.specs.Typed as typed;
+ghost use Rattle.slate_parts.specs.laws.Ranges as laws;
 
 use crate::part::Part;
 use crate::reader::Reader;
@@ -45,7 +46,7 @@ impl Part for Bound<Bytes> {
 
     ghost few = { omega arith };
 
-    ghost reads = { λ tables. ranges.bound_reads };
+    ghost reads = { λ tables. laws.bound_reads };
 
     fn write(&self, out: &mut Vec<u8>) -> Result<(), OutOfMemory> {
         write_bound(self.as_ref(), out)
@@ -104,7 +105,7 @@ impl Part for BytesRange {
 
     ghost few = { omega arith };
 
-    ghost reads = { λ tables. ranges.range_reads };
+    ghost reads = { λ tables. laws.range_reads };
 
     fn write(&self, out: &mut Vec<u8>) -> Result<(), OutOfMemory> {
         write_bound(self.start_bound(), out)?;

@@ -9,6 +9,7 @@ ghost use Rattle.slate_parts.specs.Texts.{id_bytes};
 ghost use Rattle.slate_parts.specs.RecordParts as records;
 ghost use Rattle.slate_parts.specs.TypedCompactions as fields;
 ghost use Rattle.slate_parts.specs.Typed as typed;
+ghost use Rattle.slate_parts.specs.laws.Compacting as laws;
 
 use crate::numbers::write_count;
 use crate::part::Part;
@@ -174,7 +175,7 @@ impl Part for CompactionSpec {
 
     ghost few = { omega arith };
 
-    ghost reads = { λ tables. records.spec_reads };
+    ghost reads = { λ tables. laws.spec_reads };
 
     fn write(&self, out: &mut Vec<u8>) -> Result<(), OutOfMemory> {
         match self {

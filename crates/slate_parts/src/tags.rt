@@ -5,6 +5,7 @@ ghost use Rattle.slate_parts.specs.Bytes.{byte_bytes};
 ghost use Rattle.slate_parts.specs.InfoParts as infos;
 ghost use Rattle.slate_parts.specs.InfoParts.{tag_in, TagFits};
 ghost use Rattle.slate_parts.specs.Typed as typed;
+ghost use Rattle.slate_parts.specs.laws.Infos as laws;
 
 use crate::part::Part;
 use crate::reader::Reader;
@@ -28,7 +29,7 @@ impl Part for CompressionTag {
 
     ghost few = { omega arith };
 
-    ghost reads = { λ tables. infos.codec_reads };
+    ghost reads = { λ tables. laws.codec_reads };
 
     fn write(&self, out: &mut Vec<u8>) -> Result<(), OutOfMemory> {
         match self {
@@ -75,7 +76,7 @@ impl Part for SstType {
 
     ghost few = { omega arith };
 
-    ghost reads = { λ tables. infos.type_reads };
+    ghost reads = { λ tables. laws.type_reads };
 
     fn write(&self, out: &mut Vec<u8>) -> Result<(), OutOfMemory> {
         match self {
@@ -112,7 +113,7 @@ impl Part for FilterFormat {
 
     ghost few = { omega arith };
 
-    ghost reads = { λ tables. infos.format_reads };
+    ghost reads = { λ tables. laws.format_reads };
 
     fn write(&self, out: &mut Vec<u8>) -> Result<(), OutOfMemory> {
         match self {

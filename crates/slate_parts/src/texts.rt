@@ -6,7 +6,8 @@ ghost use Rattle.slate_ids.specs.Ulids as ulids;
 ghost use Rattle.std.proofs.Common.{arith};
 ghost use Rattle.slate_parts.specs.Bytes as bytes;
 ghost use Rattle.slate_parts.specs.Reading as reading;
-ghost use Rattle.slate_parts.specs.Atoms as atoms;
+ghost use Rattle.slate_parts.specs.laws.Atoms as atoms;
+ghost use Rattle.slate_parts.specs.laws.Texts as laws;
 ghost use Rattle.slate_parts.specs.Texts as texts;
 ghost use Rattle.slate_parts.specs.Typed as typed;
 
@@ -98,7 +99,7 @@ impl Part for Text {
 
     ghost few = { omega arith };
 
-    ghost reads = { λ tables. texts.text_reads };
+    ghost reads = { λ tables. laws.text_reads };
 
     fn write(&self, out: &mut Vec<u8>) -> Result<(), OutOfMemory> {
         write_text(self.as_str(), out)
@@ -138,7 +139,7 @@ impl Part for DbPath {
 
     ghost few = { omega arith };
 
-    ghost reads = { λ tables. texts.path_reads };
+    ghost reads = { λ tables. laws.path_reads };
 
     fn write(&self, out: &mut Vec<u8>) -> Result<(), OutOfMemory> {
         is_name(self);
@@ -183,7 +184,7 @@ impl Part for Ulid {
 
     ghost few = { omega arith };
 
-    ghost reads = { λ tables. texts.id_reads };
+    ghost reads = { λ tables. laws.id_reads };
 
     fn write(&self, out: &mut Vec<u8>) -> Result<(), OutOfMemory> {
         is_id(*self);

@@ -7,6 +7,7 @@ ghost use Rattle.slate_parts.specs.Bytes.{option_bytes};
 ghost use Rattle.slate_parts.specs.RangeParts.{range_bytes};
 ghost use Rattle.slate_parts.specs.ViewParts as views;
 ghost use Rattle.slate_parts.specs.Typed as typed;
+ghost use Rattle.slate_parts.specs.laws.Views as laws;
 
 use crate::groups::write_items;
 use crate::numbers::write_count;
@@ -116,7 +117,7 @@ impl Part for SsTableView {
 
     ghost few = { omega arith };
 
-    ghost reads = { views.view_reads };
+    ghost reads = { laws.view_reads };
 
     fn write(&self, out: &mut Vec<u8>) -> Result<(), OutOfMemory> {
         is_shown(self);
@@ -155,7 +156,7 @@ impl Part for SortedRun {
 
     ghost few = { omega arith };
 
-    ghost reads = { views.run_reads };
+    ghost reads = { laws.run_reads };
 
     fn write(&self, out: &mut Vec<u8>) -> Result<(), OutOfMemory> {
         let views = self.sst_views();

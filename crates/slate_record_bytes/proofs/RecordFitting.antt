@@ -18,14 +18,18 @@ use Rattle.slate_records.specs.declared.subcompaction.Subcompaction.{Subcompacti
 use Rattle.slate_records.specs.declared.compaction_context.CompactionContext.{CompactionContext}
 use Rattle.slate_records.specs.declared.compaction.Compaction.{Compaction}
 use Rattle.slate_parts.specs.Bytes.{is_u64, byte_bytes, u32_bytes, option_bytes, list_bytes}
-use Rattle.slate_parts.specs.Reads.{Reads, OptionFits, EachFits, ListFits, PairFits, option_reads, list_reads, pair_reads}
-use Rattle.slate_parts.specs.Texts.{IdFits, id_bytes, id_in, id_reads}
-use Rattle.slate_parts.specs.InfoParts.{TagFits, handle_bytes, handle_in, HandleFits, handle_reads}
+use Rattle.slate_parts.specs.Reads.{Reads, OptionFits, EachFits, ListFits, PairFits}
+use Rattle.slate_parts.specs.laws.Groups.{option_reads, list_reads, pair_reads}
+use Rattle.slate_parts.specs.Texts.{IdFits, id_bytes, id_in}
+use Rattle.slate_parts.specs.laws.Texts.{id_reads}
+use Rattle.slate_parts.specs.InfoParts.{TagFits, handle_bytes, handle_in, HandleFits}
+use Rattle.slate_parts.specs.laws.Infos.{handle_reads}
 use Rattle.slate_parts.specs.Typed.{none_or, is_u32, is_handle}
 use Rattle.slate_ids.specs.Ulids.{is_id}
-use Rattle.slate_parts.specs.Fitting.{each_fits, each_of_two, few_is, id_fits, text_fits, handle_fits, is_writable, range_fits}
+use Rattle.slate_parts.proofs.Fitting.{each_fits, each_of_two, few_is, id_fits, text_fits, handle_fits, is_writable, range_fits}
 use Rattle.slate_parts.specs.Lengths.{few, short_bound}
-use Rattle.slate_parts.specs.RecordParts.{Scope, views_in, runs_in, sources_of, views_back, runs_back, scope_of, scope_bytes, ScopeFits, status_of, status_number, status_reads, spec_in, spec_bytes, SpecFits, spec_reads, worker_in, worker_bytes, WorkerFits, worker_reads, PartFits, context_in, context_bytes, ContextFits, context_reads}
+use Rattle.slate_parts.specs.RecordParts.{Scope, views_in, runs_in, sources_of, scope_of, scope_bytes, ScopeFits, status_of, status_number, spec_in, spec_bytes, SpecFits, worker_in, worker_bytes, WorkerFits, PartFits, context_in, context_bytes, ContextFits}
+use Rattle.slate_parts.specs.laws.Compacting.{views_back, runs_back, status_reads, spec_reads, worker_reads, context_reads}
 use Rattle.slate_record_bytes.specs.Records.{has_outputs, kept_outputs, Progress, progress_in, progress_bytes, Raw, raw_in, raw_bytes, raw_of, compaction_of}
 use Rattle.slate_record_bytes.specs.RecordNormal.{normal_sources, normal_spec, normal_context, normal_compaction}
 use Rattle.slate_parts.specs.TypedCompactions.{is_scope, is_spec, is_worker, is_part, is_context}

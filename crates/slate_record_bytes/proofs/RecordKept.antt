@@ -18,7 +18,8 @@ use Rattle.slate_parts.specs.InfoCodec.{unless_field}
 use Rattle.slate_parts.specs.Lengths.{few}
 use Rattle.slate_parts.specs.Typed.{none_or}
 use Rattle.slate_parts.specs.Bytes.{u32_bytes, u64_bytes}
-use Rattle.slate_parts.specs.RecordParts.{views_in, runs_in, views_back, runs_back}
+use Rattle.slate_parts.specs.RecordParts.{views_in, runs_in}
+use Rattle.slate_parts.specs.laws.Compacting.{views_back, runs_back}
 use Rattle.slate_record_bytes.specs.Records.{has_outputs, raw_bytes, raw_of}
 use Rattle.slate_record_bytes.specs.RecordNormal.{normal_sources, normal_spec, normal_context, normal_compaction, normal_record}
 use Rattle.slate_record_bytes.specs.RecordFields.{of_context, of_outputs, has_entries, has_ranges, has_keys_of, short_handle, short_spec, short_worker, short_context, short_compaction, record_field, record_bytes, encoded_record}
@@ -68,7 +69,7 @@ all_pass : (test : Compaction → Bool) → ((c : Compaction) → test c ≡ tru
 all_pass test pass [] h = refl
 all_pass test pass (c ∷ cs) h = let p = and_parts (test c) (list_all test cs) h in and_from _ _ (pass c p.0) (all_pass test pass cs p.1)
 
-none_missing : (a b c : Bool) → a ≡ true → b ≡ true → c ≡ true → (if not a then Some WalId else if not b then Some NoKeys else if not c then Some Length else None) ≡ None
+pub none_missing : (a b c : Bool) → a ≡ true → b ≡ true → c ≡ true → (if not a then Some WalId else if not b then Some NoKeys else if not c then Some Length else None) ≡ None
 none_missing true true true h g f = refl
 none_missing true true false h g f = absurd cc
 none_missing true false c h g f = absurd cc

@@ -13,11 +13,13 @@ use Rattle.slate_records.specs.Records.{Record, are_ascending}
 use Rattle.slate_ids.specs.Ulids.{id_lt}
 use Rattle.slate_parts.specs.Bytes.{is_u64, u32_bytes, u64_bytes}
 use Rattle.slate_parts.specs.Reading.{◌>>=◌, u16_in, whole}
-use Rattle.slate_parts.specs.Parts.{bind_at}
-use Rattle.slate_parts.specs.Reads.{Reads, EachFits, ListFits, PairFits, list_reads, pair_reads}
-use Rattle.slate_parts.specs.Atoms.{u64_reads}
-use Rattle.slate_parts.specs.InfoCodec.{unless_field, whole_back}
-use Rattle.slate_parts.specs.Fitting.{few_is}
+use Rattle.slate_parts.specs.laws.Parts.{bind_at}
+use Rattle.slate_parts.specs.Reads.{Reads, EachFits, ListFits, PairFits}
+use Rattle.slate_parts.specs.laws.Groups.{list_reads, pair_reads}
+use Rattle.slate_parts.specs.laws.Atoms.{u64_reads}
+use Rattle.slate_parts.specs.InfoCodec.{unless_field}
+use Rattle.slate_parts.proofs.InfoTrip.{whole_back}
+use Rattle.slate_parts.proofs.Fitting.{few_is}
 use Rattle.slate_parts.specs.Lengths.{few}
 use Rattle.slate_record_bytes.specs.Records.{Raw, raw_in, raw_bytes, raw_of, compaction_of, leads, raws_ascend, record_of, entries_in, entries_bytes, second_record, record_or_corrupt, record_after_version, decoded_record}
 use Rattle.slate_record_bytes.specs.RecordNormal.{normal_compaction, normal_record}
@@ -88,10 +90,10 @@ compactions_back (c ∷ cs) = ap (λ (d : Compaction). d ∷ map compaction_of (
 
 -- ---- the record
 
-EntriesFit : ℕ × List Raw → Type 0
+unfoldable pub EntriesFit : ℕ × List Raw → Type 0
 EntriesFit = PairFits (λ n. is_u64 n ≡ true) (ListFits RawFits)
 
-entries_reads : Reads entries_in entries_bytes EntriesFit 8
+pub entries_reads : Reads entries_in entries_bytes EntriesFit 8
 unfolding EntriesFit
 entries_reads = pair_reads _ _ _ 8 u64_reads _ _ _ 4 (list_reads raw_in raw_bytes RawFits 8 raw_reads)
 
@@ -115,7 +117,7 @@ second_back r typed w =
 long : (m n : ℕ) → m ≤ n → nat_le m n ≡ true
 long m n h = grind (arith, nat_tests)
 
-version_of : (rest : List ℕ) → u16_in (0 ∷ 2 ∷ rest) ≡ Some (2, rest)
+pub version_of : (rest : List ℕ) → u16_in (0 ∷ 2 ∷ rest) ≡ Some (2, rest)
 unfolding u16_in
 version_of rest = ap (λ (t : Bool). if t then Some (2, rest) else None) (long 2 (length (0 ∷ 2 ∷ rest)) (omega arith))
 

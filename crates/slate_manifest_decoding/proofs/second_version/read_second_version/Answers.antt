@@ -2,7 +2,7 @@ use Rattle.std.specs.Prelude.{◌≡◌, Some, None, if◌then◌else◌}
 use Rattle.std.proofs.Common.{rules, sym, ◌∙◌}
 use Rattle.slate_parts.specs.Tables.{ascend}
 use Rattle.slate_parts.specs.Reading.{list_in}
-use Rattle.slate_parts.specs.Parts.{bind_at}
+use Rattle.slate_parts.specs.laws.Parts.{bind_at}
 use Rattle.slate_parts.specs.InfoParts.{handle_in}
 use Rattle.slate_manifest_parts.specs.ManifestParts as parts
 use Rattle.slate_manifest_decoding.proofs.second_version.read_second_version.Goals as goal

@@ -1,5 +1,6 @@
 use Rattle.std.proofs.Common.{◌≡◌, Ok, rules}
-use Rattle.slate_parts.specs.InfoCodec.{decoded_info, info_only}
+use Rattle.slate_parts.specs.InfoCodec.{decoded_info}
+use Rattle.slate_parts.proofs.InfoTrip.{info_only}
 use Rattle.slate_parts.proofs.info_codec.decode_info.Goals as goal
 
 pub returns-in-Some-clause-only : goal.returns-in-Some-clause-only

@@ -15,12 +15,13 @@ use Rattle.slate_tables.specs.declared.ss_table_handle.SsTableHandle.{SsTableHan
 use Rattle.slate_tables.specs.Tables.{is_compacted}
 use Rattle.slate_parts.specs.Tables.{table_id}
 use Rattle.slate_parts.specs.Bytes.{is_u64}
-use Rattle.slate_parts.specs.Parts.{u64_is}
+use Rattle.slate_parts.specs.laws.Parts.{u64_is}
 use Rattle.slate_parts.specs.Reads.{OptionFits, EachFits, PairFits}
 use Rattle.slate_parts.specs.Texts.{TextFits, IdFits}
 use Rattle.slate_parts.specs.RangeParts.{BoundFits, RangeFits}
 use Rattle.slate_parts.specs.InfoParts.{are_entries, InfoFits, HandleFits, TableFits}
-use Rattle.slate_parts.specs.InfoCodec.{IsTyped, is_short, first_field, info_fits}
+use Rattle.slate_parts.specs.InfoCodec.{IsTyped, is_short, first_field}
+use Rattle.slate_parts.proofs.InfoTrip.{info_fits}
 use Rattle.slate_parts.specs.Typed.{none_or, is_u16, is_sixteen, are_two, is_info, is_handle, is_table}
 use Rattle.slate_ids.specs.Ulids.{is_id}
 use Rattle.slate_parts.specs.Lengths.{few, short_bound, short_range}

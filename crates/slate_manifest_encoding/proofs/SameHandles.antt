@@ -13,7 +13,7 @@ use Rattle.slate_tables.specs.declared.table_tags.SstType.{SstType}
 use Rattle.slate_tables.specs.declared.table_tags.FilterFormat.{FilterFormat}
 use Rattle.slate_model.specs.Externals.{same_table}
 use Rattle.slate_parts.specs.InfoParts.{joined, parts_of, codec_of, codec_number, type_of, type_number, format_of, format_number}
-use Rattle.slate_parts.specs.InfoCodec.{codec_fits, type_fits, format_fits}
+use Rattle.slate_parts.proofs.InfoTrip.{codec_fits, type_fits, format_fits}
 use Rattle.slate_manifest_parts.specs.Gathered.{same_key, same_info, same_handle}
 
 number_is : (a b : ℕ) → a == b ≡ true → a ≡ b
@@ -76,3 +76,23 @@ handle_is h k e =
     let f = and_parts (same_table h.id k.id) (h.format_version == k.format_version) i.0 in
     let fields : (let a : HandleFields = (h.id, (h.format_version, h.info)) in a) ≡ (k.id, (k.format_version, k.info)) = rw (table_is h.id k.id f.0, number_is h.format_version k.format_version f.1, info_is h.info k.info i.1) refl in
     ap made fields
+
+-- ---- a handle is told equal to itself
+
+number_itself : (n : ℕ) → n == n ≡ true
+number_itself n = grind (arith, nat_tests)
+
+key_itself : (o : Option (List ℕ)) → same_key o o ≡ true
+key_itself None = refl
+key_itself (Some key) = (bytes_eq-Decides key key).1 refl
+
+table_itself : (t : SsTableId) → same_table t t ≡ true
+table_itself (Wal n) = number_itself n
+table_itself (Compacted id) = rw (number_itself id.0, number_itself id.1) refl
+
+info_itself : (i : SsTableInfo) → same_info i i ≡ true
+info_itself i =
+    rw (key_itself i.first_entry, key_itself i.last_entry, number_itself i.index_offset, number_itself i.index_len, number_itself i.filter_offset, number_itself i.filter_len, number_itself (codec_number i.compression_codec), number_itself (type_number i.sst_type), number_itself i.stats_offset, number_itself i.stats_len, number_itself (format_number i.filter_format)) refl
+
+pub handle_itself : (h : SsTableHandle) → same_handle h h ≡ true
+handle_itself h = rw (table_itself h.id, number_itself h.format_version, info_itself h.info) refl

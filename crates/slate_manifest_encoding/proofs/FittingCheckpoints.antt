@@ -21,7 +21,7 @@ use Rattle.slate_manifest_parts.specs.TypedManifests.{is_checkpoint, is_entry, i
 use Rattle.slate_encodable.specs.Unencodable.{has_second, has_later_second, has_expiry}
 use Rattle.slate_parts.specs.Lengths.{few}
 use Rattle.slate_encodable.specs.Normal.{whole_second, normal_checkpoint}
-use Rattle.slate_parts.specs.Fitting.{below, each_fits, each_of_two, few_is, name_fits, option_fits, sixteen, text_fits, table_fits}
+use Rattle.slate_parts.proofs.Fitting.{below, each_fits, each_of_two, few_is, name_fits, option_fits, sixteen, text_fits, table_fits}
 
 -- ---- checkpoints
 

@@ -13,8 +13,8 @@ use Rattle.slate_tables.specs.Views.{View}
 use Rattle.slate_parts.specs.Tables.{table_id, is_before, stands_before, ascend, table_at}
 use Rattle.slate_ids.specs.Ulids.{id_lt, same_id, id_cmp}
 use Rattle.slate_manifest_parts.specs.Gathered.{ById, with_table, with_view, gathered, same_handle}
-use Rattle.slate_manifest_encoding.specs.SameHandles.{handle_is}
-use Rattle.slate_parts.specs.Parts.{steps}
+use Rattle.slate_manifest_encoding.proofs.SameHandles.{handle_is}
+use Rattle.slate_parts.specs.laws.Parts.{steps}
 
 -- the tables, without their ids
 abbrev pub values : ById → List SsTableHandle
@@ -138,7 +138,7 @@ kept_put : (b : Bool) (h k : SsTableHandle) (found : Option SsTableHandle) → f
 kept_put true h k found e none = let gone : Some k ≡ None = sym e ∙ none refl in absurd cc
 kept_put false h k found e none = e
 
-same_at : (q k : ℕ × ℕ) → is_eq (id_cmp q k) ≡ true → q ≡ k
+pub same_at : (q k : ℕ × ℕ) → is_eq (id_cmp q k) ≡ true → q ≡ k
 same_at q k h =
     let first : q.0 ≡ k.0 = grind (arith, nat_tests) in
     let second : q.1 ≡ k.1 = grind (arith, nat_tests) in

@@ -1,4 +1,4 @@
--- The parts that no others are made of.
+-- Numbers, flags and bytes give back what was written, and find only that.
 use Rattle.std.specs.Prelude.{◌≡◌, ℕ, ◌<◌, ◌≤◌, ◌^◌, ◌++◌, nat_le, Bool, true, false, List, [], ◌∷◌, length, take, drop, get_or, Some, None, if◌then◌else◌, refl}
 use Rattle.std.specs.Int.{w16, from_be_bytes, to_be_bytes}
 use Rattle.std.proofs.Common.{arith, ap, sym, subst, ◌∙◌}
@@ -7,8 +7,8 @@ use Rattle.std.proofs.lemmas.List.{append_assoc, length-take-le, take-append-dro
 use Rattle.std.proofs.lemmas.Bool.Decides.{nat_tests}
 use Rattle.slate_parts.specs.Bytes.{is_u64, is_i64, byte_bytes, u16_bytes, u32_bytes, u64_bytes, i64_bytes, flag_bytes, counted_bytes}
 use Rattle.slate_parts.specs.Reading.{byte_in, u16_in, u32_in, u64_in, i64_in, flag_in, bytes_in, counted_in}
-use Rattle.slate_parts.specs.Parts.{AreBytes, AreBytes-rest, AreBytes-drop, IsFront, steps, bind_at, found, same_found, join_fronts, small_take, u32_back, u32_only, u32_small, u64_back, u64_only, i64_back, i64_only, flag_back, flag_only, bytes_back, bytes_only}
-use Rattle.slate_parts.specs.Reads.{Reads, IsRead}
+use Rattle.slate_parts.specs.Reads.{AreBytes, IsFront, Reads, IsRead}
+use Rattle.slate_parts.specs.laws.Parts.{AreBytes-rest, AreBytes-drop, steps, bind_at, found, same_found, join_fronts, small_take, u32_back, u32_only, u32_small, u64_back, u64_only, i64_back, i64_only, flag_back, flag_only, bytes_back, bytes_only}
 
 -- ---- bytes, flags and numbers
 

@@ -20,14 +20,18 @@ use Rattle.slate_parts.specs.Tables.{table_id, ascend}
 use Rattle.slate_manifest_parts.specs.UsedTables.{any_of}
 use Rattle.slate_parts.specs.Bytes.{is_u64, is_i64, list_bytes}
 use Rattle.slate_parts.specs.Reading.{◌>>=◌, u16_in, whole}
-use Rattle.slate_parts.specs.Parts.{bind_at}
-use Rattle.slate_parts.specs.Reads.{EachFits, ListFits, list_reads}
-use Rattle.slate_parts.specs.InfoParts.{handle_bytes, handle_in, handle_reads, HandleFits}
-use Rattle.slate_parts.specs.InfoCodec.{is_short, unless_field, whole_back}
+use Rattle.slate_parts.specs.laws.Parts.{bind_at}
+use Rattle.slate_parts.specs.Reads.{EachFits, ListFits}
+use Rattle.slate_parts.specs.laws.Groups.{list_reads}
+use Rattle.slate_parts.specs.InfoParts.{handle_bytes, handle_in, HandleFits}
+use Rattle.slate_parts.specs.laws.Infos.{handle_reads}
+use Rattle.slate_parts.specs.InfoCodec.{is_short, unless_field}
+use Rattle.slate_parts.proofs.InfoTrip.{whole_back}
 use Rattle.slate_manifest_parts.specs.CheckpointParts.{CheckpointFits, EntryFits}
-use Rattle.slate_manifest_parts.specs.ManifestParts.{joined, manifest_of, body_of, body_bytes, body_in, body_reads, BodyFits, all_used, using_all, made_of, manifest_among, second_version}
+use Rattle.slate_manifest_parts.specs.ManifestParts.{joined, manifest_of, body_of, body_bytes, body_in, all_used, using_all, made_of, manifest_among, second_version}
+use Rattle.slate_manifest_parts.proofs.Bodies.{body_reads, BodyFits}
 use Rattle.slate_manifest_parts.specs.Gathered.{ById, gathered}
-use Rattle.slate_manifest_encoding.specs.GatheredLaws.{values, AreGathered, gathered_well, each_has}
+use Rattle.slate_manifest_encoding.proofs.GatheredLaws.{values, AreGathered, gathered_well, each_has}
 use Rattle.slate_manifest_parts.specs.Decoding.{or_corrupt, after_version, decoded_manifest}
 use Rattle.slate_encodable.specs.Unencodable.{has_second, has_expiry, no_wal_ids, has_keys, short_tree, short_segment, are_short, early_field, late_field}
 use Rattle.slate_parts.specs.Lengths.{few}
@@ -35,11 +39,11 @@ use Rattle.slate_manifest_encoding.specs.Encoding.{manifest_bytes, encoded_with,
 use Rattle.slate_encodable.specs.Normal.{normal_checkpoint, normal_segment, normal_core, normal_manifest}
 use Rattle.slate_manifest_parts.specs.TypedManifests as types
 use Rattle.slate_parts.specs.Typed as plain
-use Rattle.slate_parts.specs.Fitting.{each_of_two, few_is, two_fit, name_fits, is_writable, handle_fits}
-use Rattle.slate_manifest_encoding.specs.FittingCheckpoints.{checkpoint_fits, entry_fits, tracker_fits}
-use Rattle.slate_manifest_encoding.specs.FittingTrees.{each_append, IsHad, each_had, tree_fits, segments_fit}
-use Rattle.slate_manifest_encoding.specs.GatheredTests.{gathered_used, short_views, gathered_writable}
-use Rattle.slate_manifest_encoding.specs.Kept.{of_three, ascending_kept, views_kept, body_kept}
+use Rattle.slate_parts.proofs.Fitting.{each_of_two, few_is, two_fit, name_fits, is_writable, handle_fits}
+use Rattle.slate_manifest_encoding.proofs.FittingCheckpoints.{checkpoint_fits, entry_fits, tracker_fits}
+use Rattle.slate_manifest_encoding.proofs.FittingTrees.{each_append, IsHad, each_had, tree_fits, segments_fit}
+use Rattle.slate_manifest_encoding.proofs.GatheredTests.{gathered_used, short_views, gathered_writable}
+use Rattle.slate_manifest_encoding.proofs.Kept.{of_three, ascending_kept, views_kept, body_kept}
 
 -- ---- what was encoded
 
@@ -242,7 +246,7 @@ second_back m tables t among =
 long : (m n : ℕ) → m ≤ n → nat_le m n ≡ true
 long m n h = grind (arith, nat_tests)
 
-version_of : (rest : List ℕ) → u16_in (0 ∷ 2 ∷ rest) ≡ Some (2, rest)
+pub version_of : (rest : List ℕ) → u16_in (0 ∷ 2 ∷ rest) ≡ Some (2, rest)
 unfolding u16_in
 version_of rest = ap (λ (t : Bool). if t then Some (2, rest) else None) (long 2 (length (0 ∷ 2 ∷ rest)) (omega arith))
 

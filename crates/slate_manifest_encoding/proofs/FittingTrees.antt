@@ -26,8 +26,8 @@ use Rattle.slate_encodable.specs.Unencodable.{has_keys, short_view, short_run, s
 use Rattle.slate_parts.specs.Lengths.{few, short_range}
 use Rattle.slate_encodable.specs.Normal.{normal_tree, normal_segment}
 use Rattle.slate_manifest_parts.specs.Gathered.{ById}
-use Rattle.slate_manifest_encoding.specs.GatheredLaws.{values, Keyed, At, EachHas, at_id}
-use Rattle.slate_parts.specs.Fitting.{option_fits, few_is, id_fits, range_fits}
+use Rattle.slate_manifest_encoding.proofs.GatheredLaws.{values, Keyed, At, EachHas, at_id}
+use Rattle.slate_parts.proofs.Fitting.{option_fits, few_is, id_fits, range_fits}
 
 -- ---- each of a list
 

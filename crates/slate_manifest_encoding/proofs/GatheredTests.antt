@@ -21,12 +21,12 @@ use Rattle.slate_model.specs.Trees.{views_of_tree, views_of}
 use Rattle.slate_parts.specs.Tables.{table_id}
 use Rattle.slate_ids.specs.Ulids.{same_id, id_cmp}
 use Rattle.slate_manifest_parts.specs.UsedTables.{any_of}
-use Rattle.slate_parts.specs.Parts.{steps}
+use Rattle.slate_parts.specs.laws.Parts.{steps}
 use Rattle.slate_parts.specs.InfoParts.{are_entries}
 use Rattle.slate_parts.specs.InfoCodec.{is_short}
 use Rattle.slate_manifest_parts.specs.Gathered.{ById, with_table, with_view, gathered, same_handle}
-use Rattle.slate_manifest_encoding.specs.GatheredLaws.{values}
-use Rattle.slate_parts.specs.Fitting.{is_writable}
+use Rattle.slate_manifest_encoding.proofs.GatheredLaws.{values}
+use Rattle.slate_parts.proofs.Fitting.{is_writable}
 use Rattle.slate_encodable.specs.Unencodable.{has_keys, short_view, short_run, short_tree, short_segment}
 use Rattle.slate_parts.specs.Lengths.{few, short_range}
 

@@ -9,10 +9,7 @@ use Rattle.std.proofs.lemmas.Int.{to_z-of_z, of_z-to_z}
 use Rattle.std.proofs.lemmas.Bool.Decides.{nat_tests}
 use Rattle.slate_parts.specs.Bytes.{is_u64, is_i64, u32_bytes, u64_bytes, i64_bytes, flag_bytes}
 use Rattle.slate_parts.specs.Reading.{◌>>=◌, flag_in, u32_in, u64_in, i64_in, bytes_in}
-
--- each is below 256
-pub record AreBytes (bytes : List ℕ) : Type 0 where
-  pub small : (i : ℕ) → get_or bytes i 0 < 256
+use Rattle.slate_parts.specs.Reads.{AreBytes, IsFront}
 
 pub small_take : (n : ℕ) (bytes : List ℕ) → ((i : ℕ) → get_or bytes i 0 < 256) → (i : ℕ) → get_or (take n bytes) i 0 < 256
 small_take zero bytes h i = omega arith
@@ -39,11 +36,6 @@ steps None next found h = absurd (cc)
 -- a reading of two steps, where the first found a value
 pub bind_at : {A B : Type 0} (next : A → Option B) {first : Option A} {value : A} → first ≡ Some value → (first >>= next) ≡ next value
 bind_at {A} {B} next {first} {value} h = ap (λ (o : Option A). o >>= next) h
-
--- the bytes are those of a value, and the rest
-pub record IsFront (front bytes rest : List ℕ) : Type 0 where
-  pub is : front ++ rest ≡ bytes
-  pub rest_small : AreBytes rest
 
 pub join_fronts : {a b bytes mid rest : List ℕ} → IsFront a bytes mid → IsFront b mid rest → IsFront (a ++ b) bytes rest
 join_fronts {a} {b} {bytes} {mid} {rest} h g = record { is = append_assoc a b rest ∙ ap (λ (l : List ℕ). a ++ l) g.is ∙ h.is; rest_small = g.rest_small }
@@ -87,7 +79,7 @@ flag_only (b ∷ bytes) flag rest small h = flag_by_test (b == 0) (b == 1) b byt
 
 -- ---- numbers
 
-long : (m n : ℕ) → m ≤ n → nat_le m n ≡ true
+pub long : (m n : ℕ) → m ≤ n → nat_le m n ≡ true
 long m n h = grind (arith, nat_tests)
 
 -- a number that fits passes the test

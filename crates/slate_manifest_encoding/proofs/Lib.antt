@@ -1,0 +1,7 @@
+mod SameHandles
+mod GatheredLaws
+mod GatheredTests
+mod FittingCheckpoints
+mod FittingTrees
+pub mod Kept
+pub mod RoundTrip
