@@ -4,14 +4,15 @@
 mod boundary;
 mod codec;
 mod laws;
+mod manifests;
 mod record_codec;
 
 pub use boundary::{decode_boundary, encode_boundary};
 pub use codec::ManifestCodec;
 pub use laws::normal_laws;
+pub use manifests::decode_manifest;
 pub use record_codec::CompactionsCodec;
 pub use slate_encodable::{is_normal, normal_form_manifest};
-pub use slate_manifest_decoding::decode_manifest;
 pub use slate_manifest_encoding::encode_manifest;
 pub use slate_parts::{decode_info, encode_info};
 pub use slate_record_bytes::{decode_compactions, encode_compactions, normal_form_compactions};

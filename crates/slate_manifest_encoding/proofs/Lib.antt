@@ -1,7 +1,9 @@
 mod SameHandles
 mod GatheredLaws
 mod GatheredTests
+mod GatheredAgain
 mod FittingCheckpoints
 mod FittingTrees
 pub mod Kept
 pub mod RoundTrip
+pub mod Written

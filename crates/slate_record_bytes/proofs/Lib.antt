@@ -2,3 +2,4 @@ mod RecordOrder
 mod RecordFitting
 pub mod RecordTrip
 mod RecordKept
+pub mod RecordOnly

@@ -1,3 +1,4 @@
 pub mod Records
 pub mod RecordNormal
 pub mod RecordFields
+pub mod RecordWritten

@@ -5,6 +5,7 @@ ghost use Rattle.slate_records.specs.Records.{are_ascending};
 ghost use Rattle.slate_ids.specs.Ulids.{id_lt};
 ghost use Rattle.slate_record_bytes.specs.Records as records;
 ghost use Rattle.slate_record_bytes.specs.Records.{decoded_record};
+ghost use Rattle.slate_record_bytes.specs.RecordWritten.{OnlyWritten};
 
 use slate_ids::{FormatName, Listed, OutOfMemory, SlateDBError, Ulid};
 use slate_parts::{Part, Reader, Scope, Tables, sources_of};
@@ -198,10 +199,8 @@ fn or_corrupt(read: Option<Compactions>) -> Result<Compactions, SlateDBError>
     }
 }
 
-/// The record that bytes stand for, by version 1 or 2 of the layout. InvalidCompaction of fewer than two bytes; InvalidVersion of another
-/// version; Corrupt of all other bytes that stand for no record. Outputs of compactions that are Submitted, Scheduled or Running are let
-/// go.
-pub fn decode_compactions(alloc: Global, bytes: &[u8]) -> Result<Compactions, SlateDBError>
+// The record that bytes stand for, or why they stand for none.
+fn decode(alloc: Global, bytes: &[u8]) -> Result<Compactions, SlateDBError>
     ensures { Gives result (decoded_record bytes.now) }
 {
     let Some((version, from)) = Reader::new(bytes).u16() else {
@@ -215,4 +214,15 @@ pub fn decode_compactions(alloc: Global, bytes: &[u8]) -> Result<Compactions, Sl
             actual,
         }),
     }
+}
+
+/// The record that bytes stand for, by version 1 or 2 of the layout. InvalidCompaction of fewer than two bytes; InvalidVersion of another
+/// version; Corrupt of all other bytes that stand for no record. Outputs of compactions that are Submitted, Scheduled or Running are let
+/// go: but for those, bytes of version 2 are the ones that `encode_compactions` gives of the record.
+pub fn decode_compactions(alloc: Global, bytes: &[u8]) -> Result<Compactions, SlateDBError>
+    ensures exact { Gives result (decoded_record bytes.now) }
+    ensures only { IfOk result (λ read. OnlyWritten bytes.now read) }
+{
+    let read = decode(alloc, bytes)?;
+    Ok(read)
 }

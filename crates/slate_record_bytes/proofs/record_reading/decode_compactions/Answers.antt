@@ -1,0 +1,9 @@
+use Rattle.std.proofs.Common.{rules, ◌≡◌, Ok}
+use Rattle.slate_record_bytes.specs.Records.{decoded_record}
+use Rattle.slate_record_bytes.proofs.RecordOnly.{only_written}
+use Rattle.slate_record_bytes.proofs.record_reading.decode_compactions.Goals as goal
+
+pub returns-clause-only : goal.returns-clause-only
+returns-clause-only c =
+    let read : decoded_record c.args.bytes.now ≡ Ok c.in_ok-decode.field-0 = search rules in
+    only_written c.args.bytes.now c.in_ok-decode.field-0 (record { small = λ i. search rules }) read
