@@ -1,6 +1,10 @@
 //! What follows from the definitions of the layout alone.
-ghost use Rattle.std.specs.Prelude.{◌≡◌, ◌↔◌, true};
+ghost use Rattle.std.specs.Prelude.{◌≡◌, ◌↔◌, true, ℕ, List};
 ghost use Rattle.slate_model.specs.declared.manifest.Manifest.{Manifest as AnyManifest};
+ghost use Rattle.slate_parts.specs.Reading.{list_in};
+ghost use Rattle.slate_parts.specs.Reads.{AreBytes};
+ghost use Rattle.slate_parts.specs.Shortcut.{counted_items_in};
+ghost use Rattle.slate_manifest_parts.specs.OldManifests.{old_view_in, old_views_in, old_run_in};
 ghost use Rattle.slate_encodable.specs.Normal.{normal_manifest, is_normal};
 ghost use Rattle.slate_manifest_encoding.specs.Encoding.{encoded_manifest};
 
@@ -10,4 +14,11 @@ pub fn normal_laws()
     ensures again { (m : AnyManifest) → normal_manifest (normal_manifest m) ≡ normal_manifest m }
     ensures same { (m : AnyManifest) → encoded_manifest (normal_manifest m) ≡ encoded_manifest m }
     ensures test { (m : AnyManifest) → (is_normal m ≡ true) ↔ (normal_manifest m ≡ m) }
+{}
+
+/// A list of version 1 whose count is refused by the number of bytes that are left, before any item is read, has an item that can't be
+/// read: so the look at the bytes that are left loses none.
+pub fn first_version_lists()
+    ensures views { (bytes : List ℕ) → AreBytes bytes → old_views_in bytes ≡ counted_items_in old_view_in bytes }
+    ensures runs { (bytes : List ℕ) → AreBytes bytes → list_in old_run_in 4 bytes ≡ counted_items_in old_run_in bytes }
 {}

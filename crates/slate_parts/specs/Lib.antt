@@ -2,6 +2,7 @@ pub mod Tables
 pub mod Bytes
 pub mod Reading
 pub mod Reads
+pub mod Shortcut
 pub mod Texts
 pub mod RangeParts
 pub mod InfoParts
