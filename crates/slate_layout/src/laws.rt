@@ -1,10 +1,13 @@
 //! What follows from the definitions of the layout alone.
-ghost use Rattle.std.specs.Prelude.{◌≡◌, ◌↔◌, true, ℕ, List};
+ghost use Rattle.std.specs.Prelude.{◌≡◌, ◌↔◌, true, ℕ, List, [], None};
+ghost use Rattle.slate_tables.specs.Views.{View};
 ghost use Rattle.slate_model.specs.declared.manifest.Manifest.{Manifest as AnyManifest};
 ghost use Rattle.slate_parts.specs.Reading.{list_in};
 ghost use Rattle.slate_parts.specs.Reads.{AreBytes};
 ghost use Rattle.slate_parts.specs.Shortcut.{counted_items_in};
+ghost use Rattle.slate_manifest_parts.specs.Gathered.{gathered};
 ghost use Rattle.slate_manifest_parts.specs.OldManifests.{old_view_in, old_views_in, old_run_in};
+ghost use Rattle.slate_manifest_parts.specs.Unequal.{HaveUnequal};
 ghost use Rattle.slate_encodable.specs.Normal.{normal_manifest, is_normal};
 ghost use Rattle.slate_manifest_encoding.specs.Encoding.{encoded_manifest};
 
@@ -14,6 +17,12 @@ pub fn normal_laws()
     ensures again { (m : AnyManifest) → normal_manifest (normal_manifest m) ≡ normal_manifest m }
     ensures same { (m : AnyManifest) → encoded_manifest (normal_manifest m) ≡ encoded_manifest m }
     ensures test { (m : AnyManifest) → (is_normal m ≡ true) ↔ (normal_manifest m ≡ m) }
+{}
+
+/// The tables of views are gathered, each once, but for one case: nothing is gathered exactly where two views of one table have unequal
+/// handles. Then a manifest has no bytes (Handles), and bytes of version 1 stand for no manifest.
+pub fn unequal_handles()
+    ensures { (views : List View) → (gathered views [] ≡ None) ↔ HaveUnequal views }
 {}
 
 /// A list of version 1 whose count is refused by the number of bytes that are left, before any item is read, has an item that can't be

@@ -9,7 +9,7 @@ mod record_codec;
 
 pub use boundary::{decode_boundary, encode_boundary};
 pub use codec::ManifestCodec;
-pub use laws::{first_version_lists, normal_laws};
+pub use laws::{first_version_lists, normal_laws, unequal_handles};
 pub use manifests::decode_manifest;
 pub use record_codec::CompactionsCodec;
 pub use slate_encodable::{is_normal, normal_form_manifest};

@@ -7,3 +7,4 @@ mod FittingTrees
 pub mod Kept
 pub mod RoundTrip
 pub mod Written
+pub mod UnequalHandles

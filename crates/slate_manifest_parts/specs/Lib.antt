@@ -2,6 +2,7 @@ pub mod TreeParts
 pub mod CheckpointParts
 pub mod UsedTables
 pub mod Gathered
+pub mod Unequal
 pub mod ManifestParts
 pub mod OldManifests
 pub mod Decoding
