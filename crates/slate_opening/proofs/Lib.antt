@@ -2,3 +2,4 @@ mod Carrying
 mod Openings
 mod Seen
 mod Absent
+mod Differing

@@ -5,12 +5,14 @@
 mod carried;
 mod causes;
 mod ids;
+mod laws;
 mod new_error;
 mod objects;
 mod opening;
 mod tallies;
 
 pub use carried::{Carried, carry, is_stale};
+pub use laws::nothing_comes_twice;
 pub use new_error::NewError;
 pub use opening::{Opening, names, opened};
 pub use tallies::{Tallies, count, tally};
