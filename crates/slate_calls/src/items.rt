@@ -1,7 +1,7 @@
 //! The events that an item of a script stands for.
 ghost use Rattle.serde_json.specs.View.{view};
 ghost use Rattle.slate_json.specs.Fields.{Gives};
-ghost use Rattle.slate_calls.specs.Events.{open_in, start_in, step_in, stop_in, written_in};
+ghost use Rattle.slate_calls.specs.Events.{open_in, start_in, step_in, stop_in, event_item_in};
 
 use crate::read_call::read_call;
 use serde_json::Value;
@@ -13,7 +13,7 @@ use std::alloc::Global;
 
 /// An item of a script: a step may stand for several.
 #[derive(Debug, Drop)]
-pub enum Written {
+pub enum EventItem {
     /// One event.
     Once(Event),
     /// As many equal steps as `times` says, from 1 to 1,000.
@@ -26,27 +26,27 @@ pub enum Written {
 }
 
 #[tactic(auto, unfolding(crate::specs::Events::open_in))]
-fn open(alloc: Global, d: &Value) -> Result<Written, JsonError>
+fn open(alloc: Global, d: &Value) -> Result<EventItem, JsonError>
     ensures { Gives result (open_in (view d.now)) }
 {
     only(d, &["open", "kind", "db"])?;
     let party = required(alloc, d, "open")?;
     let kind = required(alloc, d, "kind")?;
     let db = required(alloc, d, "db")?;
-    Ok(Written::Once(Event::Open { party, kind, db }))
+    Ok(EventItem::Once(Event::Open { party, kind, db }))
 }
 
 #[tactic(auto, unfolding(crate::specs::Events::start_in))]
-fn start(alloc: Global, d: &Value) -> Result<Written, JsonError>
+fn start(alloc: Global, d: &Value) -> Result<EventItem, JsonError>
     ensures { Gives result (start_in (view d.now)) }
 {
     let party = required(alloc, d, "start")?;
     let call = read_call(alloc, d)?;
-    Ok(Written::Once(Event::Start { party, call }))
+    Ok(EventItem::Once(Event::Start { party, call }))
 }
 
 #[tactic(auto, unfolding(crate::specs::Events::step_in))]
-fn step(alloc: Global, d: &Value) -> Result<Written, JsonError>
+fn step(alloc: Global, d: &Value) -> Result<EventItem, JsonError>
     ensures { Gives result (step_in (view d.now)) }
 {
     only(d, &["step", "at", "mark", "times"])?;
@@ -57,7 +57,7 @@ fn step(alloc: Global, d: &Value) -> Result<Written, JsonError>
     if times < 1 || times > 1000 {
         return Err(JsonError::Malformed);
     }
-    Ok(Written::Steps {
+    Ok(EventItem::Steps {
         party,
         moment,
         mark,
@@ -66,18 +66,18 @@ fn step(alloc: Global, d: &Value) -> Result<Written, JsonError>
 }
 
 #[tactic(auto, unfolding(crate::specs::Events::stop_in))]
-fn stop(alloc: Global, d: &Value) -> Result<Written, JsonError>
+fn stop(alloc: Global, d: &Value) -> Result<EventItem, JsonError>
     ensures { Gives result (stop_in (view d.now)) }
 {
     only(d, &["stop"])?;
     let party = required(alloc, d, "stop")?;
-    Ok(Written::Once(Event::Stop { party }))
+    Ok(EventItem::Once(Event::Stop { party }))
 }
 
 /// The events that an item of a script stands for.
-#[tactic(auto, unfolding(crate::specs::Events::written_in))]
-pub fn read_event(alloc: Global, d: &Value) -> Result<Written, JsonError>
-    ensures { Gives result (written_in (view d.now)) }
+#[tactic(auto, unfolding(crate::specs::Events::event_item_in))]
+pub fn read_event(alloc: Global, d: &Value) -> Result<EventItem, JsonError>
+    ensures { Gives result (event_item_in (view d.now)) }
 {
     if d.get("open").is_some() {
         open(alloc, d)

@@ -6,4 +6,4 @@ mod items;
 mod read_call;
 mod read_pass;
 
-pub use items::{Written, read_event};
+pub use items::{EventItem, read_event};

@@ -7,12 +7,12 @@ use Rattle.slate_tables.specs.declared.ss_table_id.SsTableId.{SsTableId}
 use Rattle.slate_tables.specs.declared.ss_table_id.SsTableId.TheVariants.{Compacted}
 use Rattle.slate_model.specs.declared.external_db.ExternalDb.{ExternalDb}
 use Rattle.slate_events.specs.declared.db_spec.DbSpec.{DbSpec}
-use Rattle.slate_protocol.specs.Specs.{First, place_of, is_there, is_absent}
+use Rattle.slate_protocol.specs.Specs.{First, home_of, is_there, is_absent}
 
 pub absent_told : (objects : List (ObjectPath × First)) (spec : DbSpec) (id : SsTableId) (ulid : ℕ × ℕ) (entries : List ExternalDb) (place : List ℕ) (there : Bool)
-    → id ≡ Compacted ulid → entries ≡ spec.manifest.external_dbs → place ≡ place_of spec.path id entries → there ≡ is_there (paths.Table place ulid) objects → not there ≡ is_absent objects spec id
+    → id ≡ Compacted ulid → entries ≡ spec.manifest.external_dbs → place ≡ home_of spec.path id entries → there ≡ is_there (paths.Table place ulid) objects → not there ≡ is_absent objects spec id
 absent_told objects spec id ulid entries place there at own placed told =
     ap not told
-    ∙ (ap (λ (p : List ℕ). not (is_there (paths.Table p ulid) objects)) (placed ∙ ap (place_of spec.path id) own)
-    ∙ (ap (λ (x : SsTableId). not (is_there (paths.Table (place_of spec.path x spec.manifest.external_dbs) ulid) objects)) at
+    ∙ (ap (λ (p : List ℕ). not (is_there (paths.Table p ulid) objects)) (placed ∙ ap (home_of spec.path id) own)
+    ∙ (ap (λ (x : SsTableId). not (is_there (paths.Table (home_of spec.path x spec.manifest.external_dbs) ulid) objects)) at
     ∙ sym (ap (is_absent objects spec) at)))

@@ -39,8 +39,8 @@ fn one_names_other(specs: &[DbSpec]) -> bool
 }
 
 // The database at whose path a table stands.
-fn place_of(own: DbPath, id: &SsTableId, entries: &[ExternalDb]) -> DbPath
-    ensures { result ≡ opens.place_of own id.now entries.now }
+fn home_of(own: DbPath, id: &SsTableId, entries: &[ExternalDb]) -> DbPath
+    ensures { result ≡ opens.home_of own id.now entries.now }
 {
     for entry in entries {
         if entry.lists(id) {
@@ -64,7 +64,7 @@ fn is_absent(objects: &Objects, spec: &DbSpec, id: &SsTableId) -> bool
     match id {
         SsTableId::Wal(_) => false,
         SsTableId::Compacted(ulid) => {
-            let place = place_of(spec.path, id, spec.manifest.external_dbs.as_slice());
+            let place = home_of(spec.path, id, spec.manifest.external_dbs.as_slice());
             !is_there(objects, &ObjectPath::Table(place, *ulid))
         }
     }

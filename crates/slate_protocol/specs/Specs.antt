@@ -168,9 +168,9 @@ names_other spec = list_any (λ c. not (c.manifest_id == 1)) spec.manifest.core.
 -- ---- tables of trees
 
 -- the database at whose path a table stands: that of the first entry which lists it, or else this one
-abbrev pub place_of : List ℕ → SsTableId → List ExternalDb → List ℕ
-place_of own id [] = own
-place_of own id (entry ∷ entries) = if lists id entry then entry.path else place_of own id entries
+abbrev pub home_of : List ℕ → SsTableId → List ExternalDb → List ℕ
+home_of own id [] = own
+home_of own id (entry ∷ entries) = if lists id entry then entry.path else home_of own id entries
 
 -- whether one of these objects is at a path
 abbrev pub is_there : ObjectPath → List (ObjectPath × First) → Bool
@@ -178,7 +178,7 @@ is_there path objects = is_some (lookup (is_at (path_cmp path)) objects)
 
 -- whether a table of a tree of a database isn't among these objects; a file of the write-ahead log is no such table
 abbrev pub is_absent : List (ObjectPath × First) → DbSpec → SsTableId → Bool
-is_absent objects spec (Compacted id) = not (is_there (paths.Table (place_of spec.path (Compacted id) spec.manifest.external_dbs) id) objects)
+is_absent objects spec (Compacted id) = not (is_there (paths.Table (home_of spec.path (Compacted id) spec.manifest.external_dbs) id) objects)
 is_absent objects spec (Wal number) = false
 
 -- whether some table of a database's trees is absent

@@ -6,14 +6,14 @@ use Rattle.serde_json.specs.Read.{read}
 use Rattle.slate_json.specs.Fields.{◌>>=◌, only, array_in}
 use Rattle.slate_databases.specs.DatabaseFields.{database_in}
 use Rattle.slate_events.specs.declared.event.Event.{Event}
-use Rattle.slate_calls.specs.declared.items.Written.{Written}
+use Rattle.slate_calls.specs.declared.items.EventItem.{EventItem}
 use Rattle.slate_events.specs.declared.db_spec.DbSpec.{DbSpec}
 use Rattle.slate_events.specs.declared.script.Script.{Script}
 use Rattle.slate_events.specs.declared.script.ScriptPlace.{ScriptPlace}
 use Rattle.slate_events.specs.declared.script.ScriptPlace.TheVariants as place
 use Rattle.slate_events.specs.declared.script.ScriptError.{ScriptError}
 use Rattle.slate_events.specs.declared.script.ScriptError.TheVariants as errors
-use Rattle.slate_calls.specs.Events.{written_in, expand, count_of}
+use Rattle.slate_calls.specs.Events.{event_item_in, expand, count_of}
 
 -- A reader answers what the bytes stand for, or the first place, unless memory runs out.
 abbrev pub Fails : {Y : Type 0} → ScriptError → Result Y ScriptPlace → Type 0
@@ -53,17 +53,17 @@ abbrev pub event_limit : ℕ
 event_limit = 1000000
 
 -- An item's events, unless they go past the limit: then the event at the limit is no script.
-abbrev pub fitting : ℕ → Written → Result Written ScriptPlace
+abbrev pub fitting : ℕ → EventItem → Result EventItem ScriptPlace
 fitting i w = if nat_lt event_limit (i + count_of w) then Err (place.Event event_limit) else Ok w
 
 -- an item whose first event is at place i
-abbrev pub written_at : ℕ → Data → Result Written ScriptPlace
-written_at i d = and_then (at_place (place.Event i) (written_in d)) (fitting i)
+abbrev pub event_item_at : ℕ → Data → Result EventItem ScriptPlace
+event_item_at i d = and_then (at_place (place.Event i) (event_item_in d)) (fitting i)
 
 -- the events of the items, of which the first is at place i
 abbrev pub events_from : ℕ → Items → Result (List Event) ScriptPlace
 events_from i no_items = Ok []
-events_from i (item d ds) = and_then (written_at i d) (λ w. with_front (expand w) (events_from (i + count_of w) ds))
+events_from i (item d ds) = and_then (event_item_at i d) (λ w. with_front (expand w) (events_from (i + count_of w) ds))
 
 -- ---- the whole
 

@@ -5,11 +5,11 @@ ghost use Rattle.serde_json.specs.View.{view, items_view};
 ghost use Rattle.slate_json.specs.Fields.{Gives};
 ghost use Rattle.slate_calls.specs.Events.{expand, count_of};
 ghost use Rattle.slate_databases.specs.DatabaseFields.{database_in};
-ghost use Rattle.slate_script.specs.Scripts.{Reads, at_place, databases_from, written_at, events_from, event_limit, top_in, parts_in, script_in, json_of, script_of};
+ghost use Rattle.slate_script.specs.Scripts.{Reads, at_place, databases_from, event_item_at, events_from, event_limit, top_in, parts_in, script_in, json_of, script_of};
 ghost use Rattle.slate_events.specs.declared.script.ScriptPlace.TheVariants.{Database};
 
 use serde_json::Value;
-use slate_calls::{Written, read_event};
+use slate_calls::{EventItem, read_event};
 use slate_databases::read_database;
 use slate_events::{DbSpec, Event, Script, ScriptError, ScriptPlace};
 use slate_ids::{Listed, OutOfMemory};
@@ -47,28 +47,28 @@ fn databases(alloc: Global, values: &[Value]) -> Result<Listed<DbSpec>, ScriptEr
     Ok(databases)
 }
 
-fn written_event(alloc: Global, i: u64, value: &Value) -> Result<Written, ScriptError>
+fn event_item(alloc: Global, i: u64, value: &Value) -> Result<EventItem, ScriptError>
     requires { i ≤ event_limit }
-    ensures value { Reads result (written_at i (view value.now)) }
+    ensures value { Reads result (event_item_at i (view value.now)) }
     ensures fits { IfOk result (λ w. i + count_of w ≤ event_limit) }
 {
-    let written = at(ScriptPlace::Event(i), read_event(alloc, value))?;
-    let count = match &written {
-        Written::Once(_) => 1,
-        Written::Steps { times, .. } => *times as u64,
+    let item = at(ScriptPlace::Event(i), read_event(alloc, value))?;
+    let count = match &item {
+        EventItem::Once(_) => 1,
+        EventItem::Steps { times, .. } => *times as u64,
     };
     if i + count > EVENT_LIMIT {
         return Err(ScriptError::BadScript(ScriptPlace::Event(EVENT_LIMIT)));
     }
-    Ok(written)
+    Ok(item)
 }
 
-fn push_written(events: &mut Listed<Event>, written: Written) -> Result<(), OutOfMemory>
-    ensures { OnOk result (events.new ≡ events.old ++ expand written) }
+fn push_events(events: &mut Listed<Event>, item: EventItem) -> Result<(), OutOfMemory>
+    ensures { OnOk result (events.new ≡ events.old ++ expand item) }
 {
-    match written {
-        Written::Once(event) => events.push(event),
-        Written::Steps {
+    match item {
+        EventItem::Once(event) => events.push(event),
+        EventItem::Steps {
             party,
             moment,
             mark,
@@ -92,8 +92,8 @@ fn events(alloc: Global, values: &[Value]) -> Result<Listed<Event>, ScriptError>
     let mut events = Listed::new(alloc);
     for value in values {
         let place = events.as_slice().len() as u64;
-        let written = written_event(alloc, place, value)?;
-        push_written(&mut events, written)?;
+        let item = event_item(alloc, place, value)?;
+        push_events(&mut events, item)?;
     }
     Ok(events)
 }

@@ -1,7 +1,7 @@
 use Rattle.std.proofs.Common.{◌≡◌, drop}
-use Rattle.slate_protocol.specs.Specs.{place_of}
-use Rattle.slate_opening.proofs.causes.place_of.Given as goal
+use Rattle.slate_protocol.specs.Specs.{home_of}
+use Rattle.slate_opening.proofs.causes.home_of.Given as goal
 
 -- the entries that are left decide
 abbrev pub invariant-loop-entry : goal.invariant-loop-entry
-invariant-loop-entry l = place_of l.own l.id (drop l.entry-index l.entries) ≡ place_of l.own l.id l.entries
+invariant-loop-entry l = home_of l.own l.id (drop l.entry-index l.entries) ≡ home_of l.own l.id l.entries
