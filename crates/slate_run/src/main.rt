@@ -1,10 +1,14 @@
 //! Makes the ends of the program and calls it, and says on standard error why it failed.
 #![tactic(auto)]
 
+#[cfg(test)]
+mod hint_tests;
+mod kept;
 mod why;
 #[cfg(test)]
 mod why_tests;
 
+use kept::Kept;
 use slate_cluster::{Status, program};
 use slate_store::{StdSink, StdSource};
 use std::io::ErrorKind;
@@ -28,17 +32,21 @@ fn words(rt: &HostRuntime) -> Result<Vec<String>, Status> {
     Ok(words)
 }
 
+// Runs the program on what standard input has, and answers how it ended and what it read.
+fn run(rt: &HostRuntime, words: &[String]) -> (Status, Vec<u8>) {
+    let mut source = Kept::new(rt.alloc(), StdSource::new(rt.reader()));
+    let mut sink = StdSink::new(io::writer(rt));
+    let status = program(rt.alloc(), words, &mut source, &mut sink);
+    (status, source.into_bytes(rt.alloc()))
+}
+
 fn main(rt: HostRuntime) -> ExitCode {
-    let status = match words(&rt) {
-        Ok(words) => {
-            let mut source = StdSource::new(rt.reader());
-            let mut sink = StdSink::new(io::writer(&rt));
-            program(rt.alloc(), words.as_slice(), &mut source, &mut sink)
-        }
-        Err(status) => status,
+    let (status, bytes) = match words(&rt) {
+        Ok(words) => run(&rt, words.as_slice()),
+        Err(status) => (status, Vec::new(rt.alloc())),
     };
     if status != Status::Ok {
-        let _ = rt.eprintln(Why(status));
+        let _ = rt.eprintln(Why::of(rt.alloc(), status, bytes.as_slice()));
     }
     ExitCode::from(status.exit_code())
 }

@@ -1,12 +1,36 @@
 //! The line that says why the program didn't end with 0.
 
 use slate_cluster::Status;
+use slate_hints::{Hint, Spot, cluster_hint, event_spot, script_hint};
 use slate_script::{ClusterCause, ScriptPlace};
+use std::alloc::Global;
 use std::fmt;
 
 /// Why a program ended with this status, in words and in one line: what is wrong, at which place, and where to read more.
 #[derive(Drop)]
-pub(crate) struct Why(pub Status);
+pub(crate) struct Why {
+    pub status: Status,
+    /// What a second look found wrong with the input.
+    pub hint: Option<Hint>,
+    /// Where a bad event is written.
+    pub spot: Option<Spot>,
+}
+
+impl Why {
+    /// Why a program ended with this status on an input, by a second look at it.
+    pub(crate) fn of(alloc: Global, status: Status, bytes: &[u8]) -> Why {
+        let hint = match status {
+            Status::BadScript(place) => script_hint(alloc, bytes, place),
+            Status::BadCluster(cause) => cluster_hint(alloc, bytes, cause),
+            _ => None,
+        };
+        let spot = match status {
+            Status::BadEvent(place) => event_spot(alloc, bytes, place),
+            _ => None,
+        };
+        Why { status, hint, spot }
+    }
+}
 
 // Where an input is no script.
 #[derive(Drop)]
@@ -60,13 +84,58 @@ fn cause(cause: ClusterCause) -> &'static str {
     }
 }
 
+// Writes why an input is no script.
+fn write_bad_script<W: fmt::Write>(
+    f: &mut fmt::Formatter<W>,
+    place: ScriptPlace,
+    hint: &Option<Hint>,
+) -> fmt::Result {
+    match hint {
+        Some(hint) => write!(f, "slate: no script: {hint}")?,
+        None => {
+            let place = Place(place);
+            write!(f, "slate: no script: {place}")?;
+        }
+    }
+    f.write_str("; slate run --help and docs/FORMAT.md say what one has")
+}
+
+// Writes why databases begin no run.
+fn write_bad_cluster<W: fmt::Write>(
+    f: &mut fmt::Formatter<W>,
+    refused: ClusterCause,
+    hint: &Option<Hint>,
+) -> fmt::Result {
+    match hint {
+        Some(hint) => write!(f, "slate: databases refused: {hint}")?,
+        None => {
+            let refused = cause(refused);
+            write!(f, "slate: databases refused: {refused}")?;
+        }
+    }
+    f.write_str("; see docs/FORMAT.md, \"Report\"")
+}
+
+// Writes which event is bad.
+fn write_bad_event<W: fmt::Write>(
+    f: &mut fmt::Formatter<W>,
+    place: u64,
+    spot: Option<Spot>,
+) -> fmt::Result {
+    write!(f, "slate: the event at place {place}")?;
+    if let Some(spot) = spot {
+        write!(f, ", written as {spot},")?;
+    }
+    f.write_str(" is bad, and those before it were done; see docs/FORMAT.md, \"Script\"")
+}
+
 impl fmt::Display for Why {
     ghost use Rattle.std.specs.Prelude.{None};
 
     ghost output = { λ _. None };
 
     fn fmt<W: fmt::Write>(&self, f: &mut fmt::Formatter<W>) -> fmt::Result {
-        match self.0 {
+        match self.status {
             Status::Ok => f.write_str("slate: done"),
             Status::BadWords => f.write_str("slate: no such command; slate --help lists them"),
             Status::ReadFault => f.write_str(
@@ -82,24 +151,9 @@ impl fmt::Display for Why {
                     "slate: the input has more than 64 MiB; slate run --help says what a script has",
                 )
             }
-            Status::BadScript(place) => {
-                let place = Place(place);
-                write!(
-                    f,
-                    "slate: no script: {place}; slate run --help and docs/FORMAT.md say what one has"
-                )
-            }
-            Status::BadCluster(refused) => {
-                let refused = cause(refused);
-                write!(
-                    f,
-                    "slate: databases refused: {refused}; see docs/FORMAT.md, \"Databases\""
-                )
-            }
-            Status::BadEvent(place) => write!(
-                f,
-                "slate: the event at place {place} is bad, and those before it were done; see docs/FORMAT.md, \"Script\""
-            ),
+            Status::BadScript(place) => write_bad_script(f, place, &self.hint),
+            Status::BadCluster(refused) => write_bad_cluster(f, refused, &self.hint),
+            Status::BadEvent(place) => write_bad_event(f, place, self.spot),
             Status::OutOfMemory => f.write_str("slate: memory ran out; nothing was written"),
         }
     }

@@ -34,7 +34,12 @@ fn words_of_statuses(rt: HostRuntime) -> Result<(), Fail> {
         ),
     ];
     for (status, line) in cases {
-        let text = format!(in rt.alloc(); "{}", Why(status))?;
+        let why = Why {
+            status,
+            hint: None,
+            spot: None,
+        };
+        let text = format!(in rt.alloc(); "{why}")?;
         assert_eq!(rt; text.as_str(), line);
     }
     Ok(())
@@ -61,15 +66,20 @@ fn places_and_causes(rt: HostRuntime) -> Result<(), Fail> {
         ),
         (
             Status::BadCluster(ClusterCause::Path),
-            "slate: databases refused: two databases have one path; see docs/FORMAT.md, \"Databases\"",
+            "slate: databases refused: two databases have one path; see docs/FORMAT.md, \"Report\"",
         ),
         (
             Status::BadCluster(ClusterCause::Checkpoints),
-            "slate: databases refused: a checkpoint names another version than the first; see docs/FORMAT.md, \"Databases\"",
+            "slate: databases refused: a checkpoint names another version than the first; see docs/FORMAT.md, \"Report\"",
         ),
     ];
     for (status, line) in cases {
-        let text = format!(in rt.alloc(); "{}", Why(status))?;
+        let why = Why {
+            status,
+            hint: None,
+            spot: None,
+        };
+        let text = format!(in rt.alloc(); "{why}")?;
         assert_eq!(rt; text.as_str(), line);
     }
     Ok(())

@@ -1,0 +1,200 @@
+//! The fields of a script, a table for each kind of object: a later field or object is a line here.
+
+use crate::fields::Holds::{Each, NoItems, Objects, One};
+use crate::fields::Presence::{Needed, Optional};
+use crate::name::Name;
+use crate::plain::Plain;
+
+/// What a field holds.
+#[derive(Clone, Copy, Debug, Drop)]
+pub(crate) enum Holds {
+    /// A plain value.
+    One(Plain),
+    /// An array of plain values.
+    Each(Plain),
+    /// An array without items.
+    NoItems,
+    /// An array of objects.
+    Objects(Object),
+}
+
+/// Whether a field has to be there.
+#[derive(Clone, Copy, Debug, Drop, PartialEq, Eq)]
+pub(crate) enum Presence {
+    Needed,
+    Optional,
+}
+
+/// A field of an object.
+#[derive(Clone, Copy, Debug, Drop)]
+pub(crate) struct Field(pub Name, pub Presence, pub Holds);
+
+/// The kinds of objects in a script.
+#[derive(Clone, Copy, Debug, Drop)]
+pub(crate) enum Object {
+    Whole,
+    Database,
+    L0,
+    Run,
+    Marker,
+    Checkpoint,
+    Open,
+    Step,
+    Stop,
+    OpenWriter,
+    Flush,
+    WriteCheckpoint,
+    ReplaceCheckpoint,
+    RefreshCheckpoint,
+    DeleteCheckpoint,
+    Pass,
+}
+
+static WHOLE: [Field; 2] = [
+    Field(Name::Databases, Needed, One(Plain::List)),
+    Field(Name::Events, Needed, One(Plain::List)),
+];
+
+static DATABASE: [Field; 13] = [
+    Field(Name::Path, Needed, One(Plain::Path)),
+    Field(Name::Modified, Optional, One(Plain::Moment)),
+    Field(Name::Initialized, Optional, One(Plain::Flag)),
+    Field(Name::WriterEpoch, Optional, One(Plain::Whole64)),
+    Field(Name::CompactorEpoch, Optional, One(Plain::Whole64)),
+    Field(Name::Floor, Optional, One(Plain::Whole64)),
+    Field(Name::ReplayAfter, Optional, One(Plain::Whole64)),
+    Field(Name::NextWal, Optional, One(Plain::Whole64)),
+    Field(Name::Extractor, Optional, One(Plain::Text)),
+    Field(Name::L0, Optional, Objects(Object::L0)),
+    Field(Name::Runs, Optional, Objects(Object::Run)),
+    Field(Name::Markers, Optional, Objects(Object::Marker)),
+    Field(Name::Checkpoints, Optional, Objects(Object::Checkpoint)),
+];
+
+static L0: [Field; 3] = [
+    Field(Name::Prefix, Optional, One(Plain::Text)),
+    Field(Name::View, Needed, One(Plain::Id)),
+    Field(Name::Table, Needed, One(Plain::Id)),
+];
+
+static RUN: [Field; 3] = [
+    Field(Name::Prefix, Optional, One(Plain::Text)),
+    Field(Name::Id, Needed, One(Plain::Whole32)),
+    Field(Name::Tables, Needed, Each(Plain::Id)),
+];
+
+static MARKER: [Field; 2] = [
+    Field(Name::Prefix, Optional, One(Plain::Text)),
+    Field(Name::View, Needed, One(Plain::Id)),
+];
+
+static CHECKPOINT: [Field; 3] = [
+    Field(Name::Id, Needed, One(Plain::Checkpoint)),
+    Field(Name::Expire, Optional, One(Plain::Moment)),
+    Field(Name::Name, Optional, One(Plain::Text)),
+];
+
+static OPEN: [Field; 3] = [
+    Field(Name::Open, Needed, One(Plain::Whole32)),
+    Field(Name::Kind, Needed, One(Plain::Kind)),
+    Field(Name::Db, Needed, One(Plain::Path)),
+];
+
+static STEP: [Field; 4] = [
+    Field(Name::Step, Needed, One(Plain::Whole32)),
+    Field(Name::At, Needed, One(Plain::Moment)),
+    Field(Name::Mark, Optional, One(Plain::Mark)),
+    Field(Name::Times, Optional, One(Plain::Times)),
+];
+
+static STOP: [Field; 1] = [Field(Name::Stop, Needed, One(Plain::Whole32))];
+
+static OPEN_WRITER: [Field; 2] = [
+    Field(Name::Start, Needed, One(Plain::Whole32)),
+    Field(Name::Call, Needed, One(Plain::CallName)),
+];
+
+static FLUSH: [Field; 3] = [
+    Field(Name::Start, Needed, One(Plain::Whole32)),
+    Field(Name::Call, Needed, One(Plain::CallName)),
+    Field(Name::Tables, Needed, NoItems),
+];
+
+static WRITE_CHECKPOINT: [Field; 6] = [
+    Field(Name::Start, Needed, One(Plain::Whole32)),
+    Field(Name::Call, Needed, One(Plain::CallName)),
+    Field(Name::Id, Needed, One(Plain::Checkpoint)),
+    Field(Name::Lifetime, Optional, One(Plain::Whole64)),
+    Field(Name::Source, Optional, One(Plain::Checkpoint)),
+    Field(Name::Name, Optional, One(Plain::Text)),
+];
+
+static REPLACE_CHECKPOINT: [Field; 7] = [
+    Field(Name::Start, Needed, One(Plain::Whole32)),
+    Field(Name::Call, Needed, One(Plain::CallName)),
+    Field(Name::Old, Needed, One(Plain::Checkpoint)),
+    Field(Name::Id, Needed, One(Plain::Checkpoint)),
+    Field(Name::Lifetime, Optional, One(Plain::Whole64)),
+    Field(Name::Source, Optional, One(Plain::Checkpoint)),
+    Field(Name::Name, Optional, One(Plain::Text)),
+];
+
+static REFRESH_CHECKPOINT: [Field; 4] = [
+    Field(Name::Start, Needed, One(Plain::Whole32)),
+    Field(Name::Call, Needed, One(Plain::CallName)),
+    Field(Name::Id, Needed, One(Plain::Checkpoint)),
+    Field(Name::Lifetime, Optional, One(Plain::Whole64)),
+];
+
+static DELETE_CHECKPOINT: [Field; 3] = [
+    Field(Name::Start, Needed, One(Plain::Whole32)),
+    Field(Name::Call, Needed, One(Plain::CallName)),
+    Field(Name::Id, Needed, One(Plain::Checkpoint)),
+];
+
+static PASS: [Field; 6] = [
+    Field(Name::Start, Needed, One(Plain::Whole32)),
+    Field(Name::Call, Needed, One(Plain::CallName)),
+    Field(Name::Pass, Needed, One(Plain::Pass)),
+    Field(Name::MinAge, Optional, One(Plain::Whole64)),
+    Field(Name::DryRun, Optional, One(Plain::Flag)),
+    Field(Name::Filter, Optional, One(Plain::Filter)),
+];
+
+impl Object {
+    /// The fields that it may have.
+    pub(crate) fn fields(self) -> &'static [Field] {
+        match self {
+            Object::Whole => &WHOLE,
+            Object::Database => &DATABASE,
+            Object::L0 => &L0,
+            Object::Run => &RUN,
+            Object::Marker => &MARKER,
+            Object::Checkpoint => &CHECKPOINT,
+            Object::Open => &OPEN,
+            Object::Step => &STEP,
+            Object::Stop => &STOP,
+            Object::OpenWriter => &OPEN_WRITER,
+            Object::Flush => &FLUSH,
+            Object::WriteCheckpoint => &WRITE_CHECKPOINT,
+            Object::ReplaceCheckpoint => &REPLACE_CHECKPOINT,
+            Object::RefreshCheckpoint => &REFRESH_CHECKPOINT,
+            Object::DeleteCheckpoint => &DELETE_CHECKPOINT,
+            Object::Pass => &PASS,
+        }
+    }
+
+    /// What a start of the call of a name stands as.
+    pub(crate) fn of_call(name: &str) -> Option<Object> {
+        match name {
+            "open_writer" => Some(Object::OpenWriter),
+            "flush" => Some(Object::Flush),
+            "write_checkpoint" => Some(Object::WriteCheckpoint),
+            "replace_checkpoint" => Some(Object::ReplaceCheckpoint),
+            "refresh_checkpoint" => Some(Object::RefreshCheckpoint),
+            "delete_checkpoint" => Some(Object::DeleteCheckpoint),
+            "pass" => Some(Object::Pass),
+            _ => None,
+        }
+    }
+}

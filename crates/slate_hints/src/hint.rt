@@ -1,0 +1,156 @@
+//! What is wrong with an input, in words and in one line.
+
+use crate::name::Name;
+use crate::spot::Spot;
+use slate_ids::{DbPath, Text};
+use std::fmt;
+
+/// What two places of a script share.
+#[derive(Debug, Drop)]
+pub(crate) enum Shared {
+    Path(DbPath),
+    Checkpoint(u64),
+    Id { ms: u64, tail: u128 },
+    /// The prefix of two markers.
+    Prefix,
+}
+
+/// What is wrong at a place.
+#[derive(Debug, Drop)]
+pub(crate) enum Fault {
+    /// It is no object.
+    NoObject,
+    /// It has a field that isn't known, with its name where that is short and plain.
+    Unknown(Option<Text>),
+    /// It lacks a field.
+    Lacks(Name),
+    /// It has to be something else.
+    HasToBe(&'static str),
+    /// It has none of the fields that say what an event is.
+    NoEvent,
+    /// With it there are more events than a script may have.
+    TooMany,
+    /// It is what stands at another place too.
+    Same(Shared, Spot),
+    /// The prefix begins with the one at another place.
+    BeginsWith(Spot),
+    /// The number has to be below the one at another place.
+    NotBelow(Spot),
+    /// The floor is below the watermark of the tables.
+    FloorBelow(u64),
+}
+
+/// What is wrong with an input.
+#[derive(Debug, Drop)]
+pub enum Hint {
+    /// It is no JSON from this line and column on, counted from 1, the columns in bytes.
+    NoJson {
+        line: usize,
+        column: usize,
+        ends: bool,
+    },
+    /// Something is wrong at a place.
+    At(At),
+}
+
+/// A place, and what is wrong there.
+#[derive(Debug, Drop)]
+pub struct At {
+    spot: Spot,
+    fault: Fault,
+}
+
+impl Hint {
+    /// This is wrong at a place.
+    pub(crate) fn at(spot: Spot, fault: Fault) -> Hint {
+        Hint::At(At { spot, fault })
+    }
+}
+
+// Writes what two places share.
+fn write_shared<W: fmt::Write>(f: &mut fmt::Formatter<W>, shared: &Shared) -> fmt::Result {
+    match shared {
+        Shared::Path(path) => write!(f, ": {path}"),
+        Shared::Checkpoint(id) => write!(f, ": {id}"),
+        Shared::Id { ms, tail } => write!(f, ": {ms}:{tail}"),
+        Shared::Prefix => Ok(()),
+    }
+}
+
+// Writes that two places have one value.
+fn write_same<W: fmt::Write>(
+    f: &mut fmt::Formatter<W>,
+    shared: &Shared,
+    other: &Spot,
+) -> fmt::Result {
+    write!(f, " is the same as {other}")?;
+    write_shared(f, shared)
+}
+
+// Writes the field of a name that isn't known.
+fn write_unknown<W: fmt::Write>(f: &mut fmt::Formatter<W>, name: &Option<Text>) -> fmt::Result {
+    match name {
+        None => f.write_str(" has a field that isn't known"),
+        Some(name) => {
+            let name = name.as_str();
+            write!(f, " has a field \"{name}\", which isn't known")
+        }
+    }
+}
+
+// Writes the name of a field that isn't there.
+fn write_lacks<W: fmt::Write>(f: &mut fmt::Formatter<W>, name: Name) -> fmt::Result {
+    let name = name.text();
+    write!(f, " lacks the field \"{name}\"")
+}
+
+impl fmt::Display for At {
+    ghost use Rattle.std.specs.Prelude.{None};
+
+    ghost output = { λ _. None };
+
+    fn fmt<W: fmt::Write>(&self, f: &mut fmt::Formatter<W>) -> fmt::Result {
+        let spot = self.spot;
+        write!(f, "{spot}")?;
+        match &self.fault {
+            Fault::NoObject => f.write_str(" has to be an object"),
+            Fault::Unknown(name) => write_unknown(f, name),
+            Fault::Lacks(name) => write_lacks(f, *name),
+            Fault::HasToBe(words) => write!(f, " has to be {words}"),
+            Fault::NoEvent => f.write_str(" has none of the fields open, start, step and stop"),
+            Fault::TooMany => f.write_str(" goes past 1000000 events, with times written out"),
+            Fault::Same(shared, other) => write_same(f, shared, other),
+            Fault::BeginsWith(other) => write!(f, " begins with {other}"),
+            Fault::NotBelow(other) => write!(f, " has to be below {other}"),
+            Fault::FloorBelow(mark) => write!(
+                f,
+                " has to be {mark} at least, which is the watermark"
+            ),
+        }
+    }
+}
+
+impl fmt::Display for Hint {
+    ghost use Rattle.std.specs.Prelude.{None};
+
+    ghost output = { λ _. None };
+
+    fn fmt<W: fmt::Write>(&self, f: &mut fmt::Formatter<W>) -> fmt::Result {
+        match self {
+            Hint::NoJson {
+                line,
+                column,
+                ends: true,
+            } => {
+                write!(
+                    f,
+                    "the input is no JSON: it ends too early, after line {line} column {column}"
+                )
+            }
+            Hint::NoJson { line, column, .. } => {
+                write!(f, "the input is no JSON at line {line} column {column}")
+            }
+            Hint::At(at) => write!(f, "{at}"),
+        }
+    }
+}
