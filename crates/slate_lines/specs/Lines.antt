@@ -139,6 +139,19 @@ entries_text i (e ∷ es) = entry_text i e ++ entries_text (i + 1) es
 abbrev pub left_line : ObjectPath → List ℕ
 left_line p = codes "left " ++ path_text p ++ 10 ∷ []
 
+-- the greatest committed numbers of a database's two logs
+abbrev pub commits_line : List ℕ → ℕ → ℕ → List ℕ
+commits_line db manifest compactions = codes "commits " ++ db ++ codes " manifest" ++ spaced manifest ++ codes " compactions" ++ spaced compactions ++ 10 ∷ []
+
+-- how many deletes removed an object
+abbrev pub deleted_line : ℕ → List ℕ
+deleted_line deleted = codes "deleted" ++ spaced deleted ++ 10 ∷ []
+
+-- how a run ended, with the place of its first bad event
+abbrev pub end_line : Option ℕ → List ℕ
+end_line None = codes "ok" ++ 10 ∷ []
+end_line (Some place) = codes "bad event" ++ spaced place ++ 10 ∷ []
+
 -- ---- what is no run
 
 -- where bytes are no script
@@ -157,3 +170,11 @@ cause_text cause.Segments = codes "segments"
 cause_text cause.Checkpoints = codes "checkpoints"
 cause_text cause.Tables = codes "tables"
 cause_text cause.Floor = codes "floor"
+
+-- the line of an input that is no script
+abbrev pub bad_script_line : ScriptPlace → List ℕ
+bad_script_line p = codes "bad script " ++ place_text p ++ 10 ∷ []
+
+-- the line of a script whose databases are refused
+abbrev pub bad_cluster_line : ClusterCause → List ℕ
+bad_cluster_line c = codes "bad cluster " ++ cause_text c ++ 10 ∷ []

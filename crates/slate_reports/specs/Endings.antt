@@ -1,12 +1,12 @@
 -- How the program ends: the text and the status that an input asks for, and what each status says.
-use Rattle.std.specs.Prelude.{◌≡◌, ◌⊎◌, ℕ, ◌+◌, ◌≤◌, List, [], ◌∷◌, ◌++◌, length, take, Option, Some, None, Result, Ok, Err, codes}
+use Rattle.std.specs.Prelude.{◌≡◌, ◌⊎◌, ℕ, ◌+◌, ◌≤◌, List, length, take, Option, Some, None, Result, Ok, Err}
 use Rattle.std.specs.Io.KnownBytes.{Keeps, Appends, Consumes, IsAtEnd}
 use Rattle.slate_store.specs.Counts.{Rose}
 use Rattle.slate_script.specs.Scripts.{script_of}
 use Rattle.slate_events.specs.declared.script.Script.{Script}
 use Rattle.slate_events.specs.declared.script.ScriptPlace.{ScriptPlace}
 use Rattle.slate_events.specs.declared.cluster_cause.ClusterCause.{ClusterCause}
-use Rattle.slate_lines.specs.Lines.{place_text, cause_text}
+use Rattle.slate_lines.specs.Lines.{bad_script_line, bad_cluster_line}
 use Rattle.slate_protocol.specs.Runs.{Ran, opening, run}
 use Rattle.slate_protocol.specs.Specs.{cause_of_specs}
 use Rattle.slate_protocol.specs.Lawful.{Lawful}
@@ -22,14 +22,6 @@ use Rattle.slate_reports.specs.declared.status.Status.TheVariants as status
 -- the run of a script
 abbrev pub ran_of : Script → Ran
 ran_of script = run script.events 0 (opening script.databases)
-
--- the line of an input that is no script
-abbrev pub bad_script_line : ScriptPlace → List ℕ
-bad_script_line p = codes "bad script " ++ place_text p ++ 10 ∷ []
-
--- the line of a script whose databases are refused
-abbrev pub bad_cluster_line : ClusterCause → List ℕ
-bad_cluster_line c = codes "bad cluster " ++ cause_text c ++ 10 ∷ []
 
 -- what is written for a script, by what refuses its databases
 abbrev pub script_text : Option ClusterCause → Script → List ℕ

@@ -7,6 +7,7 @@ mod status;
 mod texts;
 
 pub use command::{Command, command_in};
-pub use run_report::{bad_cluster, bad_script, report};
+pub use run_report::report;
+pub use slate_lines::{bad_cluster, bad_script};
 pub use status::Status;
 pub use texts::{deliver, help, run_help, version};

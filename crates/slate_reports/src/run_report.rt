@@ -1,36 +1,31 @@
-//! The text of a report, and the lines of inputs and databases that are refused.
+//! The text of a report.
 ghost use Rattle.std.specs.Prelude.{◌≡◌, ◌++◌, IfOk, OnOk, string_bytes};
 ghost use Rattle.std.specs.List.{flat_map};
-ghost use Rattle.slate_protocol.specs.Reports.{commits_line, state_text, end_line, report_text};
-ghost use Rattle.slate_reports.specs.Endings.{bad_cluster_line, bad_script_line};
+ghost use Rattle.slate_protocol.specs.Reports.{tally_line, state_text, report_text};
 ghost use Rattle.slate_reports.specs.Parts.{course_of, world_of};
 
-use slate_events::{ClusterCause, Entry, ScriptPlace};
+use slate_events::Entry;
 use slate_ids::{DbPath, OutOfMemory};
-use slate_lines::{push_cause, push_entries, push_left, push_place};
+use slate_lines::{push_commits, push_deleted, push_end, push_entries, push_left};
 use slate_protocol::Tally;
 use slate_store::MemoryStore;
 use std::alloc::{AllocError, Global};
 use std::collections::BTreeMap;
 
-fn push_commits(out: &mut String, db: &DbPath, tally: &Tally) -> Result<(), AllocError>
-    ensures { OnOk result (string_bytes out.new ≡ string_bytes out.old ++ commits_line (db.now, tally.now)) }
+// Adds the greatest committed numbers of a database.
+fn push_tally(out: &mut String, db: &DbPath, tally: &Tally) -> Result<(), AllocError>
+    ensures { OnOk result (string_bytes out.new ≡ string_bytes out.old ++ tally_line (db.now, tally.now)) }
 {
-    let manifest = tally.manifest;
-    let compactions = tally.compactions;
-    writeln!(
-        out,
-        "commits {db} manifest {manifest} compactions {compactions}"
-    )
+    push_commits(out, db, tally.manifest, tally.compactions)
 }
 
 // Adds the greatest committed numbers of each database.
 fn push_tallies(out: &mut String, tallies: &BTreeMap<DbPath, Tally>) -> Result<(), AllocError>
     ensures { OnOk result (string_bytes out.new
-        ≡ string_bytes out.old ++ flat_map commits_line tallies.now.entries) }
+        ≡ string_bytes out.old ++ flat_map tally_line tallies.now.entries) }
 {
     for (db, tally) in tallies {
-        push_commits(out, db, tally)?;
+        push_tally(out, db, tally)?;
     }
     Ok(())
 }
@@ -47,19 +42,9 @@ fn push_state(
 {
     let left = store.paths(alloc)?;
     push_tallies(out, tallies)?;
-    writeln!(out, "deleted {deleted}")?;
+    push_deleted(out, deleted)?;
     push_left(out, left.as_slice())?;
     Ok(())
-}
-
-// Adds how the run ended.
-fn push_end(out: &mut String, bad: Option<u64>) -> Result<(), AllocError>
-    ensures { OnOk result (string_bytes out.new ≡ string_bytes out.old ++ end_line bad) }
-{
-    match bad {
-        None => out.push_str("ok\n"),
-        Some(place) => writeln!(out, "bad event {place}"),
-    }
 }
 
 /// The report of a run: a line for each of its entries, then the greatest committed numbers of the databases, the count of
@@ -80,24 +65,4 @@ pub fn report(
     push_state(alloc, &mut text, tallies, deleted, store)?;
     push_end(&mut text, bad)?;
     Ok(text)
-}
-
-/// The line of databases that are refused.
-pub fn bad_cluster(alloc: Global, cause: ClusterCause) -> Result<String, OutOfMemory>
-    ensures { IfOk result (λ text. string_bytes text ≡ bad_cluster_line cause) }
-{
-    let mut line = String::from_str(alloc, "bad cluster ")?;
-    push_cause(&mut line, cause)?;
-    line.push_str("\n")?;
-    Ok(line)
-}
-
-/// The line of an input that is no script.
-pub fn bad_script(alloc: Global, place: ScriptPlace) -> Result<String, OutOfMemory>
-    ensures { IfOk result (λ text. string_bytes text ≡ bad_script_line place) }
-{
-    let mut line = String::from_str(alloc, "bad script ")?;
-    push_place(&mut line, place)?;
-    line.push_str("\n")?;
-    Ok(line)
 }
