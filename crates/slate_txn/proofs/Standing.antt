@@ -233,7 +233,7 @@ not_before x (Err e) P (inl same) = absurd cc
 not_before x (Err e) P (inr out) = absurd (let both : false ≡ true = out in cc)
 
 -- what the put of an update leaves
-pub update_leaves : {T C R : Type 0} (holder : Holder T C R) (moment : ℤ) (old new : Told) (commit : CommitPhase T) (start : Result (CommitPhase T) SlateDBError) (reply : Result (ℕ × T) SlateDBError) (result : Result (Unit {0}) SlateDBError)
+update_leaves : {T C R : Type 0} (holder : Holder T C R) (moment : ℤ) (old new : Told) (commit : CommitPhase T) (start : Result (CommitPhase T) SlateDBError) (reply : Result (ℕ × T) SlateDBError) (result : Result (Unit {0}) SlateDBError)
     → Gives (Ok commit) start → is_putting commit ≡ true → result ≡ done_of reply
     → OrMemory reply (CommitBegan holder.sequenced.db holder.sequenced.log moment old new commit) (Committed holder.sequenced.db holder.sequenced.log moment old new commit reply)
     → Leaves (SameContents old new) (UpdateStands holder moment old new start) result
@@ -242,3 +242,12 @@ update_leaves holder moment old new commit start reply result (inl same) putting
     subst (λ (s : Result (CommitPhase _) SlateDBError). Leaves (SameContents old new) (UpdateStands holder moment old new s) result) (sym same)
     (subst (λ (r : Result (Unit {0}) SlateDBError). Leaves (SameContents old new) (PutStands holder.sequenced.db holder.sequenced.log moment old new commit) r) (sym done)
     (done_leaves (SameContents old new) (PutStands holder.sequenced.db holder.sequenced.log moment old new commit) reply (put_leaves holder.sequenced.db holder.sequenced.log moment old new commit reply putting ran)))
+
+-- the same of a holder that was seen as what is within it
+pub update_left : {T C R : Type 0} (inside holder : Holder T C R) (moment : ℤ) (old new : Told) (commit : CommitPhase T) (start : Result (CommitPhase T) SlateDBError) (reply : Result (ℕ × T) SlateDBError) (result : Result (Unit {0}) SlateDBError)
+    → inside ≡ holder → Gives (Ok commit) start → is_putting commit ≡ true → result ≡ done_of reply
+    → OrMemory reply (CommitBegan inside.sequenced.db inside.sequenced.log moment old new commit) (Committed inside.sequenced.db inside.sequenced.log moment old new commit reply)
+    → Leaves (SameContents old new) (UpdateStands holder moment old new start) result
+update_left inside holder moment old new commit start reply result same gives putting done ran =
+    update_leaves holder moment old new commit start reply result gives putting done
+    (subst (λ (h : Holder _ _ _). OrMemory reply (CommitBegan h.sequenced.db h.sequenced.log moment old new commit) (Committed h.sequenced.db h.sequenced.log moment old new commit reply)) same ran)

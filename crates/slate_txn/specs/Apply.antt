@@ -41,6 +41,10 @@ pub record Ways (T C R : Type 0) : Type 0 where
   pub changed : ℕ → T → Result (Option T) SlateDBError
   pub right : Right
 
+-- the ways of a holder that commits by a change under a right
+abbrev pub ways_of : {T C R : Type 0} → (C → List ℕ → Result T SlateDBError) → (C → T → Result (List ℕ) SlateDBError) → (R → ℕ → T → T → Right → Option SlateDBError) → (ℕ → T → Result (Option T) SlateDBError) → Right → Ways T C R
+ways_of decoded encoded refusal changed right = record { decoded = decoded; encoded = encoded; refusal = refusal; changed = changed; right = right }
+
 -- the commit of what the change makes of a version of this holder's log
 abbrev pub renews : {T C R : Type 0} → Ways T C R → Holder T C R → ℕ → T → Result (Option (CommitPhase T)) SlateDBError
 renews ways holder = renewed ways.changed (ways.refusal holder.rules) (ways.encoded holder.sequenced.codec) ways.right

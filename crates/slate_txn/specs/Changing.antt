@@ -4,6 +4,10 @@ use denote.Ref.{Bor}
 use Rattle.slate_ids.specs.Answers.{Gives}
 use Rattle.slate_ids.specs.declared.error.SlateDBError.{SlateDBError}
 
+-- what a function makes of the number and the value of a version: a new value, nothing, or a refusal
+abbrev pub Making : Type 0 → Type 0
+Making T = ℕ → T → Result (Option T) SlateDBError
+
 -- a function whose answers these are computes made, of the number and the value of a version, unless memory runs out
 abbrev pub Computes : {T : Type 0} → (ℕ → Bor T → Result (Option T) SlateDBError → Type 0) → (ℕ → T → Result (Option T) SlateDBError) → Type 0
 Computes answers made = (id : ℕ) (value : Bor _) (reply : Result (Option _) SlateDBError) → answers id value reply → Gives reply (made id value.now)

@@ -2,7 +2,7 @@
 use Rattle.std.specs.Prelude.{◌≡◌, ℕ, ℤ, List, Option, Result, Ok, Err}
 use Rattle.slate_ids.specs.declared.error.SlateDBError.{SlateDBError}
 use Rattle.slate_store.specs.Calls.{Told}
-use Rattle.slate_txn.specs.Apply.{Ways, Applies}
+use Rattle.slate_txn.specs.Apply.{Ways, ways_of, Applies}
 use Rattle.slate_txn.specs.FencedHolder.{FencedHolder, fenced_at}
 use Rattle.slate_txn.specs.Holder.{Holder}
 use Rattle.slate_log.specs.Change.{next_epoch}
@@ -11,7 +11,7 @@ use Rattle.slate_log.specs.declared.right.Right.TheVariants.{Plain}
 
 -- the raise of the epoch, as the change of an apply
 abbrev pub raising : {T C R E : Type 0} → (C → List ℕ → Result T SlateDBError) → (C → T → Result (List ℕ) SlateDBError) → (R → ℕ → T → T → Right → Option SlateDBError) → (E → T → ℕ) → (E → T → ℕ → T) → E → Ways T C R
-raising decoded encoded refusal epoch with_epoch epochs = record { decoded = decoded; encoded = encoded; refusal = refusal; changed = next_epoch (epoch epochs) (with_epoch epochs); right = Plain }
+raising decoded encoded refusal epoch with_epoch epochs = ways_of decoded encoded refusal (next_epoch (epoch epochs) (with_epoch epochs)) Plain
 
 -- after Ok the fenced holder of the version held then
 abbrev pub fenced_of : {T C R E : Type 0} → (E → T → ℕ) → E → Holder T C R → Result (Unit {0}) SlateDBError → Result (FencedHolder T C R E) SlateDBError

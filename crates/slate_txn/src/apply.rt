@@ -1,12 +1,12 @@
 //! Committing what a function makes of the version held, after a conflict too.
-ghost use Rattle.std.specs.Prelude.{◌≡◌, ◌<◌, ℕ, Option, Result, IfOk, IfSome, true};
+ghost use Rattle.std.specs.Prelude.{◌≡◌, ◌<◌, IfOk, IfSome, true};
 ghost use Rattle.slate_ids.specs.Answers.{Gives, OrMemory};
-ghost use Rattle.slate_ids.specs.declared.error.SlateDBError.{SlateDBError as Refusal};
 ghost use Rattle.slate_store.specs.Machines.{Steps, GoesOn, IsAgain};
 ghost use Rattle.slate_log.specs.CommitPhase.{is_putting};
 ghost use Rattle.slate_log.specs.Due.{StillDue, WhereOut, FaultOf, FaultRose};
-ghost use Rattle.slate_txn.specs.Changing.{ComputesWith};
-ghost use Rattle.slate_txn.specs.Apply.{apply_goes, apply_asks, apply_due, ApplyFalls, is_start, is_reading_phase, Applied, ApplyBegan, Applies, FaultFree};
+ghost use Rattle.slate_txn.specs.Changing.{ComputesWith, Making};
+ghost use Rattle.slate_txn.specs.Apply.{apply_goes, apply_asks, apply_due, is_start, is_reading_phase};
+ghost use Rattle.slate_txn.specs.Apply.{ways_of, ApplyFalls, Applied, ApplyBegan, Applies, FaultFree};
 ghost use Rattle.slate_log.specs.Change.{renewed};
 
 use crate::stored::Stored;
@@ -40,7 +40,8 @@ fn renew<
     value: &T,
 ) -> Result<Option<CommitPhase<T>>, SlateDBError>
     requires callable { F.IsAlwaysCallable change.now }
-    ensures commit { (made : ℕ → T → Result (Option T) Refusal) → ComputesWith (F.post change.now) made → Gives result (renewed made (R.refusal rules.now) (C.encoded codec.now) right.now id value.now) }
+    ensures commit { (made : Making T) → ComputesWith (F.post change.now) made
+        → Gives result (renewed made (R.refusal rules.now) (C.encoded codec.now) right.now id value.now) }
     ensures putting { IfOk result (λ commit. IfSome commit (λ c. is_putting c ≡ true)) }
 {
     let changed = change(codec, id, value)?;
@@ -96,8 +97,9 @@ impl<T: Drop> ApplyPhase<T> {
         answer: &StoreAnswer,
     ) -> Step<()>
         requires callable { F.IsAlwaysCallable change.now }
-        ensures goes { (made : ℕ → T → Result (Option T) Refusal) → ComputesWith (F.post change.now) made → GoesOn (apply_goes (record { decoded = C.decoded; encoded = C.encoded; refusal = R.refusal; changed = made; right = right.now }) (self.old, holder.old) answer.now)
-            (self.old, holder.old) (self.new, holder.new) result }
+        ensures goes { (made : Making T) → ComputesWith (F.post change.now) made
+            → GoesOn (apply_goes (ways_of C.decoded C.encoded R.refusal made right.now)
+            (self.old, holder.old) answer.now) (self.old, holder.old) (self.new, holder.new) result }
         ensures falls { IsAgain result → ApplyFalls self.old self.new }
         ensures due { StillDue result (apply_due self.new) }
         ensures reading { WhereOut result (is_reading_phase self.old ≡ true) }
@@ -176,12 +178,15 @@ impl<T: Drop> ApplyPhase<T> {
     ) -> Step<()>
         requires callable { F.IsAlwaysCallable change.now }
         requires due { apply_due self.now ≡ true }
-        ensures steps { (made : ℕ → T → Result (Option T) Refusal) → ComputesWith (F.post change.now) made → Steps (S.told store.old) (S.told store.new) (apply_asks (self.old, holder.old)) moment
-            (apply_goes (record { decoded = C.decoded; encoded = C.encoded; refusal = R.refusal; changed = made; right = right.now }) (self.old, holder.old))
+        ensures steps { (made : Making T) → ComputesWith (F.post change.now) made
+            → Steps (S.told store.old) (S.told store.new) (apply_asks (self.old, holder.old)) moment
+            (apply_goes (ways_of C.decoded C.encoded R.refusal made right.now) (self.old, holder.old))
             (self.old, holder.old) (self.new, holder.new) result }
         ensures falls { IsAgain result → ApplyFalls self.old self.new }
         ensures due { StillDue result (apply_due self.new) }
-        ensures fault { (made : ℕ → T → Result (Option T) Refusal) → ComputesWith (F.post change.now) made → FaultFree (record { decoded = C.decoded; encoded = C.encoded; refusal = R.refusal; changed = made; right = right.now }) → FaultRose (S.told store.old) (S.told store.new) result }
+        ensures fault { (made : Making T) → ComputesWith (F.post change.now) made
+            → FaultFree (ways_of C.decoded C.encoded R.refusal made right.now)
+            → FaultRose (S.told store.old) (S.told store.new) result }
     {
         match self.asks(alloc, holder) {
             Ok(call) => match perform(alloc, store, &call, moment) {
@@ -208,10 +213,14 @@ impl<T: Drop, C: ObjectCodec<T> + Drop, R: Rules<T> + Drop> Stored<T, C, R> {
         requires callable { F.IsAlwaysCallable change.now }
         requires some { 0 < tries }
         requires putting { is_putting commit ≡ true }
-        ensures apply { (made : ℕ → T → Result (Option T) Refusal) → ComputesWith (F.post change.now) made → OrMemory result
-            (ApplyBegan (record { decoded = C.decoded; encoded = C.encoded; refusal = R.refusal; changed = made; right = right.now }) moment tries (S.told store.old) (S.told store.new) commit self.old self.new)
-            (Applied (record { decoded = C.decoded; encoded = C.encoded; refusal = R.refusal; changed = made; right = right.now }) moment tries (S.told store.old) (S.told store.new) commit self.old self.new result) }
-        ensures fault { (made : ℕ → T → Result (Option T) Refusal) → ComputesWith (F.post change.now) made → FaultFree (record { decoded = C.decoded; encoded = C.encoded; refusal = R.refusal; changed = made; right = right.now }) → FaultOf (S.told store.old) (S.told store.new) result }
+        ensures apply { (made : Making T) → ComputesWith (F.post change.now) made → OrMemory result
+            (ApplyBegan (ways_of C.decoded C.encoded R.refusal made right.now) moment tries
+            (S.told store.old) (S.told store.new) commit self.old self.new)
+            (Applied (ways_of C.decoded C.encoded R.refusal made right.now) moment tries
+            (S.told store.old) (S.told store.new) commit self.old self.new result) }
+        ensures fault { (made : Making T) → ComputesWith (F.post change.now) made
+            → FaultFree (ways_of C.decoded C.encoded R.refusal made right.now)
+            → FaultOf (S.told store.old) (S.told store.new) result }
     {
         let mut phase = ApplyPhase::Committing(commit);
         let mut left = tries;
@@ -237,7 +246,9 @@ impl<T: Drop, C: ObjectCodec<T> + Drop, R: Rules<T> + Drop> Stored<T, C, R> {
         right: &Right,
     ) -> Result<Option<CommitPhase<T>>, SlateDBError>
         requires callable { F.IsAlwaysCallable change.now }
-        ensures commit { (made : ℕ → T → Result (Option T) Refusal) → ComputesWith (F.post change.now) made → Gives result (renewed made (R.refusal self.now.rules) (C.encoded self.now.sequenced.codec) right.now self.now.id self.now.object) }
+        ensures commit { (made : Making T) → ComputesWith (F.post change.now) made
+            → Gives result (renewed made (R.refusal self.now.rules) (C.encoded self.now.sequenced.codec)
+            right.now self.now.id self.now.object) }
         ensures putting { IfOk result (λ commit. IfSome commit (λ c. is_putting c ≡ true)) }
     {
         renew(
@@ -265,8 +276,12 @@ impl<T: Drop, C: ObjectCodec<T> + Drop, R: Rules<T> + Drop> Stored<T, C, R> {
     ) -> Result<(), SlateDBError>
         requires callable { F.IsAlwaysCallable change.now }
         requires some { 0 < tries }
-        ensures apply { (made : ℕ → T → Result (Option T) Refusal) → ComputesWith (F.post change.now) made → Applies (record { decoded = C.decoded; encoded = C.encoded; refusal = R.refusal; changed = made; right = right.now }) moment tries (S.told store.old) (S.told store.new) self.old self.new result }
-        ensures fault { (made : ℕ → T → Result (Option T) Refusal) → ComputesWith (F.post change.now) made → FaultFree (record { decoded = C.decoded; encoded = C.encoded; refusal = R.refusal; changed = made; right = right.now }) → FaultOf (S.told store.old) (S.told store.new) result }
+        ensures apply { (made : Making T) → ComputesWith (F.post change.now) made
+            → Applies (ways_of C.decoded C.encoded R.refusal made right.now) moment tries
+            (S.told store.old) (S.told store.new) self.old self.new result }
+        ensures fault { (made : Making T) → ComputesWith (F.post change.now) made
+            → FaultFree (ways_of C.decoded C.encoded R.refusal made right.now)
+            → FaultOf (S.told store.old) (S.told store.new) result }
     {
         match self.renew_held(alloc, change, right) {
             Err(e) => Err(e),

@@ -48,8 +48,10 @@ impl<T: Drop, C: ObjectCodec<T> + Drop, R: Rules<T> + Drop, E: Epochs<T> + Drop>
         tries: u32,
     ) -> Result<Fenced<T, C, R, E>, SlateDBError>
         requires { 0 < tries }
-        ensures fenced { FencedBy E.epoch (raising C.decoded C.encoded R.refusal E.epoch E.with_epoch epochs) moment tries (S.told store.old) (S.told store.new) stored epochs result }
-        ensures fault { FaultFree (raising C.decoded C.encoded R.refusal E.epoch E.with_epoch epochs) → FaultOf (S.told store.old) (S.told store.new) result }
+        ensures fenced { FencedBy E.epoch (raising C.decoded C.encoded R.refusal E.epoch E.with_epoch epochs)
+            moment tries (S.told store.old) (S.told store.new) stored epochs result }
+        ensures fault { FaultFree (raising C.decoded C.encoded R.refusal E.epoch E.with_epoch epochs)
+            → FaultOf (S.told store.old) (S.told store.new) result }
     {
         let mut stored = stored;
         let raise = |codec: &C, id: u64, value: &T| raise_copy(alloc, codec, &epochs, id, value);

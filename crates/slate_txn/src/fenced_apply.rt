@@ -1,9 +1,8 @@
 //! Committing what a function makes of the version that a fenced holder holds.
-ghost use Rattle.std.specs.Prelude.{◌≡◌, ◌<◌, ℕ, Option, Result, IfOk, true};
-ghost use Rattle.slate_ids.specs.declared.error.SlateDBError.{SlateDBError as Refusal};
+ghost use Rattle.std.specs.Prelude.{◌≡◌, ◌<◌, IfOk, true};
 ghost use Rattle.slate_log.specs.Due.{FaultOf};
-ghost use Rattle.slate_txn.specs.Changing.{Computes};
-ghost use Rattle.slate_txn.specs.Apply.{Applies, FaultFree};
+ghost use Rattle.slate_txn.specs.Changing.{Computes, Making};
+ghost use Rattle.slate_txn.specs.Apply.{Applies, FaultFree, ways_of};
 ghost use Rattle.slate_log.specs.Change.{renewed};
 ghost use Rattle.slate_txn.specs.FencedApplying.{fenced_made, FenceFree};
 ghost use Rattle.slate_log.specs.Fence.{unless};
@@ -38,10 +37,18 @@ impl<T: Drop, C: ObjectCodec<T> + Drop, R: Rules<T> + Drop, E: Epochs<T> + Drop>
     ) -> Result<(), SlateDBError>
         requires callable { F.IsAlwaysCallable f }
         requires some { 0 < tries }
-        ensures apply { (made : ℕ → T → Result (Option T) Refusal) → Computes (F.post f) made → Applies (record { decoded = C.decoded; encoded = C.encoded; refusal = R.refusal; changed = fenced_made E.epoch self.old.epochs self.old.epoch made; right = right.now }) moment tries (S.told store.old) (S.told store.new) self.old.holder self.new.holder result }
+        ensures apply { (made : Making T) → Computes (F.post f) made → Applies
+            (ways_of C.decoded C.encoded R.refusal
+            (fenced_made E.epoch self.old.epochs self.old.epoch made) right.now)
+            moment tries (S.told store.old) (S.told store.new) self.old.holder self.new.holder result }
         ensures own { self.new ≡ record self.old { holder = self.new.holder } }
-        ensures fault { (made : ℕ → T → Result (Option T) Refusal) → Computes (F.post f) made → FaultFree (record { decoded = C.decoded; encoded = C.encoded; refusal = R.refusal; changed = fenced_made E.epoch self.old.epochs self.old.epoch made; right = right.now }) → FaultOf (S.told store.old) (S.told store.new) result }
-        ensures fenced { (made : ℕ → T → Result (Option T) Refusal) → Computes (F.post f) made → FenceFree (record { decoded = C.decoded; encoded = C.encoded; refusal = R.refusal; changed = made; right = right.now }) → FencedOnly (held_fence E.epoch self.new) result }
+        ensures fault { (made : Making T) → Computes (F.post f) made → FaultFree
+            (ways_of C.decoded C.encoded R.refusal
+            (fenced_made E.epoch self.old.epochs self.old.epoch made) right.now)
+            → FaultOf (S.told store.old) (S.told store.new) result }
+        ensures fenced { (made : Making T) → Computes (F.post f) made
+            → FenceFree (ways_of C.decoded C.encoded R.refusal made right.now)
+            → FencedOnly (held_fence E.epoch self.new) result }
     {
         let own = self.epoch;
         let epochs = &self.epochs;
@@ -63,8 +70,10 @@ impl<T: Drop, C: ObjectCodec<T> + Drop, R: Rules<T> + Drop, E: Epochs<T> + Drop>
     ) -> Result<FencedUpdateMachine<T>, OutOfMemory>
         requires callable { F.IsAlwaysCallable f }
         ensures open { IfOk result (λ machine. update_open machine ≡ true) }
-        ensures machine { (made : ℕ → T → Result (Option T) Refusal) → Computes (F.post f) made → IfOk result (λ machine. machine ≡ maybe_of (unless (held_fence E.epoch self.now)
-            (renewed made (R.refusal self.now.holder.rules) (C.encoded self.now.holder.sequenced.codec) right.now self.now.holder.id self.now.holder.object))) }
+        ensures machine { (made : Making T) → Computes (F.post f) made
+            → IfOk result (λ machine. machine ≡ maybe_of (unless (held_fence E.epoch self.now)
+            (renewed made (R.refusal self.now.holder.rules) (C.encoded self.now.holder.sequenced.codec)
+            right.now self.now.holder.id self.now.holder.object))) }
     {
         let update = match self.fence_held() {
             Some(e) => UpdateMachine::Refused(e),

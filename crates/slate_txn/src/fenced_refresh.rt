@@ -4,7 +4,8 @@ ghost use Rattle.slate_store.specs.Machines.{Steps};
 ghost use Rattle.slate_log.specs.Due.{FaultOf, FaultRose, NoFault, StillDue};
 ghost use Rattle.slate_log.specs.ReadPhase.{read_due};
 ghost use Rattle.slate_log.specs.declared.read_phase.ReadPhase.TheVariants.{Listing};
-ghost use Rattle.slate_txn.specs.FencedRefreshing.{FencedRefreshed, fence_after, fence_after_step, fenced_refresh_goes};
+ghost use Rattle.slate_txn.specs.FencedRefreshing.{FencedRefreshed, fence_after, fence_after_step};
+ghost use Rattle.slate_txn.specs.FencedRefreshing.{fenced_refresh_goes};
 ghost use Rattle.slate_txn.specs.Fencing.{held_fence, FencedOnly, FencedStep, NoFence};
 ghost use Rattle.slate_txn.specs.Refreshing.{refresh_asks};
 
@@ -70,11 +71,14 @@ impl<T: Drop, C: ObjectCodec<T> + Drop, R: Rules<T> + Drop, E: Epochs<T> + Drop>
         tries: u32,
     ) -> Result<(), SlateDBError>
         requires { 0 < tries }
-        ensures refresh { FencedRefreshed C.decoded E.epoch tries (S.told store.old) (S.told store.new) self.old self.new result }
+        ensures refresh { FencedRefreshed C.decoded E.epoch tries (S.told store.old) (S.told store.new)
+            self.old self.new result }
         ensures ok { OnOk result (held_fence E.epoch self.new ≡ None) }
         ensures epoch { self.new.epoch ≡ self.old.epoch }
-        ensures fault { NoFault (C.decoded self.old.holder.sequenced.codec) → FaultOf (S.told store.old) (S.told store.new) result }
-        ensures fenced { NoFence (C.decoded self.old.holder.sequenced.codec) → FencedOnly (held_fence E.epoch self.new) result }
+        ensures fault { NoFault (C.decoded self.old.holder.sequenced.codec)
+            → FaultOf (S.told store.old) (S.told store.new) result }
+        ensures fenced { NoFence (C.decoded self.old.holder.sequenced.codec)
+            → FencedOnly (held_fence E.epoch self.new) result }
     {
         let reply = self.stored.refresh(alloc, store, tries);
         fence_after(self.fence_held(), reply)
@@ -109,12 +113,16 @@ impl<T: Drop> FencedRefreshMachine<T> {
         moment: Millis,
     ) -> Step<()>
         requires due { read_due self.now ≡ true }
-        ensures steps { Steps (S.told store.old) (S.told store.new) (refresh_asks (self.old, holder.old.holder)) moment
-            (fenced_refresh_goes C.decoded E.epoch (self.old, holder.old)) (self.old, holder.old) (self.new, holder.new) result }
+        ensures steps { Steps (S.told store.old) (S.told store.new)
+            (refresh_asks (self.old, holder.old.holder)) moment
+            (fenced_refresh_goes C.decoded E.epoch (self.old, holder.old))
+            (self.old, holder.old) (self.new, holder.new) result }
         ensures due { StillDue result (read_due self.new) }
         ensures epoch { holder.new.epoch ≡ holder.old.epoch }
-        ensures fault { NoFault (C.decoded holder.old.holder.sequenced.codec) → FaultRose (S.told store.old) (S.told store.new) result }
-        ensures fenced { NoFence (C.decoded holder.old.holder.sequenced.codec) → FencedStep (held_fence E.epoch holder.new) result }
+        ensures fault { NoFault (C.decoded holder.old.holder.sequenced.codec)
+            → FaultRose (S.told store.old) (S.told store.new) result }
+        ensures fenced { NoFence (C.decoded holder.old.holder.sequenced.codec)
+            → FencedStep (held_fence E.epoch holder.new) result }
     {
         let step = self.refresh.next(alloc, &mut holder.stored, store, moment);
         fence_after_step(holder.fence_held(), step)

@@ -51,17 +51,27 @@ impl<T: Drop, C: ObjectCodec<T> + Drop, R: Rules<T> + Drop, E: Epochs<T> + Drop>
         right: &Right,
         moment: Millis,
     ) -> Result<(), SlateDBError>
-        ensures update { UnlessFenced (held_fence E.epoch self.old) (S.told store.old) (S.told store.new) result
-            (Updates R.refusal C.encoded moment (S.told store.old) (S.told store.new) self.old.holder dirty right.now result) }
+        ensures update { UnlessFenced (held_fence E.epoch self.old)
+            (S.told store.old) (S.told store.new) result
+            (Updates R.refusal C.encoded moment (S.told store.old) (S.told store.new)
+            self.old.holder dirty right.now result) }
         ensures held { OnOk result (self.new ≡ fenced_version self.old (self.old.holder.id + 1) dirty.value) }
         ensures kept { OnErr result (self.new ≡ self.old) }
-        ensures before { IfErr (unless (held_fence E.epoch self.old) (started R.refusal C.encoded self.old.holder dirty right.now)) (λ e. S.told store.new ≡ S.told store.old) }
-        ensures put { OnOk result (UpdateStands self.old.holder moment (S.told store.old) (S.told store.new) (started R.refusal C.encoded self.old.holder dirty right.now)) }
-        ensures left { IfErr result (λ e. may_stand e ≡ false → SameContents (S.told store.old) (S.told store.new)) }
-        ensures stands { OnErr result (SameContents (S.told store.old) (S.told store.new) ⊎ UpdateStands self.old.holder moment (S.told store.old) (S.told store.new) (started R.refusal C.encoded self.old.holder dirty right.now)) }
+        ensures before { IfErr (unless (held_fence E.epoch self.old)
+            (started R.refusal C.encoded self.old.holder dirty right.now))
+            (λ e. S.told store.new ≡ S.told store.old) }
+        ensures put { OnOk result (UpdateStands self.old.holder moment (S.told store.old) (S.told store.new)
+            (started R.refusal C.encoded self.old.holder dirty right.now)) }
+        ensures left { IfErr result (λ e. may_stand e ≡ false
+            → SameContents (S.told store.old) (S.told store.new)) }
+        ensures stands { OnErr result (SameContents (S.told store.old) (S.told store.new)
+            ⊎ UpdateStands self.old.holder moment (S.told store.old) (S.told store.new)
+            (started R.refusal C.encoded self.old.holder dirty right.now)) }
         ensures epoch { self.new.epoch ≡ self.old.epoch }
-        ensures fault { started R.refusal C.encoded self.old.holder dirty right.now ≢ Err StoreFault → FaultOf (S.told store.old) (S.told store.new) result }
-        ensures fenced { NotFenced (started R.refusal C.encoded self.old.holder dirty right.now) → FencedOnly (held_fence E.epoch self.old) result }
+        ensures fault { started R.refusal C.encoded self.old.holder dirty right.now ≢ Err StoreFault
+            → FaultOf (S.told store.old) (S.told store.new) result }
+        ensures fenced { NotFenced (started R.refusal C.encoded self.old.holder dirty right.now)
+            → FencedOnly (held_fence E.epoch self.old) result }
     {
         match self.fence_held() {
             Some(e) => Err(e),
@@ -77,7 +87,8 @@ impl<T: Drop, C: ObjectCodec<T> + Drop, R: Rules<T> + Drop, E: Epochs<T> + Drop>
         right: &Right,
     ) -> Result<FencedUpdateMachine<T>, OutOfMemory>
         ensures open { IfOk result (λ machine. update_open machine ≡ true) }
-        ensures machine { IfOk result (λ machine. machine ≡ update_of (unless (held_fence E.epoch self.now) (started R.refusal C.encoded self.now.holder dirty right.now))) }
+        ensures machine { IfOk result (λ machine. machine ≡ update_of (unless (held_fence E.epoch self.now)
+            (started R.refusal C.encoded self.now.holder dirty right.now))) }
     {
         let update = match self.fence_held() {
             Some(e) => UpdateMachine::Refused(e),
@@ -116,7 +127,8 @@ impl<T: Drop> FencedUpdateMachine<T> {
         moment: Millis,
     ) -> Step<()>
         requires open { update_open self.now ≡ true }
-        ensures steps { FencedUpdateSteps (S.told store.old) (S.told store.new) moment (self.old, holder.old) (self.new, holder.new) result }
+        ensures steps { FencedUpdateSteps (S.told store.old) (S.told store.new) moment
+            (self.old, holder.old) (self.new, holder.new) result }
         ensures open { update_due self.old ≡ true → StillDue result (update_open self.new) }
         ensures epoch { holder.new.epoch ≡ holder.old.epoch }
         ensures fault { update_due self.old ≡ true → FaultRose (S.told store.old) (S.told store.new) result }

@@ -61,7 +61,9 @@ impl<T: Drop, C: ObjectCodec<T> + Drop, R: Rules<T> + Drop, E: Epochs<T> + Drop>
         epochs: E,
     ) -> Result<InitMachine<T, C, R, E>, OutOfMemory>
         ensures open { IfOk result (λ machine. init_open machine ≡ true) }
-        ensures machine { IfOk result (λ machine. machine ≡ init_of (raised (R.refusal stored.rules) (C.encoded stored.sequenced.codec) (E.epoch epochs) (E.with_epoch epochs) stored.id stored.object) stored epochs) }
+        ensures machine { IfOk result (λ machine. machine ≡ init_of (raised (R.refusal stored.rules)
+            (C.encoded stored.sequenced.codec) (E.epoch epochs) (E.with_epoch epochs) stored.id stored.object)
+            stored epochs) }
     {
         let held = &stored;
         let raised = prepare_raise(
@@ -111,7 +113,8 @@ impl<T: Drop, C: ObjectCodec<T> + Drop, R: Rules<T> + Drop, E: Epochs<T> + Drop>
         moment: Millis,
     ) -> Step<Fenced<T, C, R, E>>
         requires open { init_open self.now ≡ true }
-        ensures steps { InitSteps E.epoch (S.told store.old) (S.told store.new) moment self.old self.new result }
+        ensures steps { InitSteps E.epoch (S.told store.old) (S.told store.new) moment
+            self.old self.new result }
         ensures open { init_due self.old ≡ true → StillDue result (init_open self.new) }
         ensures fault { init_due self.old ≡ true → FaultRose (S.told store.old) (S.told store.new) result }
     {

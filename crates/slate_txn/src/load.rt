@@ -55,9 +55,13 @@ impl<T: Drop, C: ObjectCodec<T> + Drop, R: Rules<T> + Drop> Stored<T, C, R> {
         tries: u32,
     ) -> Result<Stored<T, C, R>, SlateDBError>
         requires { 0 < tries }
-        ensures load { OrMemory result (ReadBegan C.decoded sequenced tries (S.told store.old) (S.told store.new))
-            ((reply : Result (Option (ℕ × T)) Refusal) × Read C.decoded sequenced tries (S.told store.old) (S.told store.new) reply × (loaded sequenced rules reply ≡ result)) }
-        ensures fault { NoFault (C.decoded sequenced.codec) → FaultOf (S.told store.old) (S.told store.new) result }
+        ensures load { OrMemory result
+            (ReadBegan C.decoded sequenced tries (S.told store.old) (S.told store.new))
+            ((reply : Result (Option (ℕ × T)) Refusal)
+            × Read C.decoded sequenced tries (S.told store.old) (S.told store.new) reply
+            × (loaded sequenced rules reply ≡ result)) }
+        ensures fault { NoFault (C.decoded sequenced.codec)
+            → FaultOf (S.told store.old) (S.told store.new) result }
     {
         let reply = sequenced.read_latest(alloc, store, tries);
         hold(sequenced, rules, reply)
@@ -90,9 +94,11 @@ impl<T: Drop, C: ObjectCodec<T> + Drop, R: Rules<T> + Drop> LoadMachine<T, C, R>
         moment: Millis,
     ) -> Step<Stored<T, C, R>>
         requires due { load_due self.now ≡ true }
-        ensures steps { LoadSteps C.decoded (S.told store.old) (S.told store.new) moment self.old self.new result }
+        ensures steps { LoadSteps C.decoded (S.told store.old) (S.told store.new) moment
+            self.old self.new result }
         ensures due { StillDue result (load_due self.new) }
-        ensures fault { ((codec : C) → NoFault (C.decoded codec)) → FaultRose (S.told store.old) (S.told store.new) result }
+        ensures fault { ((codec : C) → NoFault (C.decoded codec))
+            → FaultRose (S.told store.old) (S.told store.new) result }
     {
         match mem::replace(self, LoadMachine::Over) {
             LoadMachine::Over => unreachable!(),

@@ -1,9 +1,8 @@
 //! Committing what a function makes of the version held.
-ghost use Rattle.std.specs.Prelude.{◌≡◌, ◌<◌, ℕ, Option, Result, IfOk, true};
-ghost use Rattle.slate_ids.specs.declared.error.SlateDBError.{SlateDBError as Refusal};
+ghost use Rattle.std.specs.Prelude.{◌≡◌, ◌<◌, IfOk, true};
 ghost use Rattle.slate_log.specs.Due.{FaultOf};
-ghost use Rattle.slate_txn.specs.Changing.{Computes};
-ghost use Rattle.slate_txn.specs.Apply.{Applies, FaultFree};
+ghost use Rattle.slate_txn.specs.Changing.{Computes, Making};
+ghost use Rattle.slate_txn.specs.Apply.{Applies, FaultFree, ways_of};
 ghost use Rattle.slate_log.specs.Change.{renewed};
 ghost use Rattle.slate_txn.specs.Updating.{maybe_of, update_open};
 
@@ -30,8 +29,12 @@ impl<T: Drop, C: ObjectCodec<T> + Drop, R: Rules<T> + Drop> Stored<T, C, R> {
     ) -> Result<(), SlateDBError>
         requires callable { F.IsAlwaysCallable f }
         requires some { 0 < tries }
-        ensures apply { (made : ℕ → T → Result (Option T) Refusal) → Computes (F.post f) made → Applies (record { decoded = C.decoded; encoded = C.encoded; refusal = R.refusal; changed = made; right = right.now }) moment tries (S.told store.old) (S.told store.new) self.old self.new result }
-        ensures fault { (made : ℕ → T → Result (Option T) Refusal) → Computes (F.post f) made → FaultFree (record { decoded = C.decoded; encoded = C.encoded; refusal = R.refusal; changed = made; right = right.now }) → FaultOf (S.told store.old) (S.told store.new) result }
+        ensures apply { (made : Making T) → Computes (F.post f) made
+            → Applies (ways_of C.decoded C.encoded R.refusal made right.now) moment tries
+            (S.told store.old) (S.told store.new) self.old self.new result }
+        ensures fault { (made : Making T) → Computes (F.post f) made
+            → FaultFree (ways_of C.decoded C.encoded R.refusal made right.now)
+            → FaultOf (S.told store.old) (S.told store.new) result }
     {
         let change = |_codec: &C, id: u64, value: &T| f(id, value);
         self.apply(alloc, &change, right, store, moment, tries)
@@ -47,7 +50,10 @@ impl<T: Drop, C: ObjectCodec<T> + Drop, R: Rules<T> + Drop> Stored<T, C, R> {
     ) -> Result<UpdateMachine<T>, OutOfMemory>
         requires callable { F.IsAlwaysCallable f }
         ensures open { IfOk result (λ machine. update_open machine ≡ true) }
-        ensures machine { (made : ℕ → T → Result (Option T) Refusal) → Computes (F.post f) made → IfOk result (λ machine. machine ≡ maybe_of (renewed made (R.refusal self.now.rules) (C.encoded self.now.sequenced.codec) right.now self.now.id self.now.object)) }
+        ensures machine { (made : Making T) → Computes (F.post f) made
+            → IfOk result (λ machine. machine ≡ maybe_of
+            (renewed made (R.refusal self.now.rules) (C.encoded self.now.sequenced.codec) right.now
+            self.now.id self.now.object)) }
     {
         let change = |_codec: &C, id: u64, value: &T| f(id, value);
         match self.renew_held(alloc, &change, right) {

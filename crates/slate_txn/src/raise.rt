@@ -33,9 +33,11 @@ pub fn prepare_raise<T: Drop, C: ObjectCodec<T>, R: Rules<T>, E: Epochs<T>>(
     id: u64,
     value: &T,
 ) -> Result<CommitPhase<T>, SlateDBError>
-    ensures commit { Gives result (raised (R.refusal rules.now) (C.encoded codec.now) (E.epoch epochs.now) (E.with_epoch epochs.now) id value.now) }
+    ensures commit { Gives result (raised (R.refusal rules.now) (C.encoded codec.now)
+        (E.epoch epochs.now) (E.with_epoch epochs.now) id value.now) }
     ensures putting { IfOk result (λ commit. is_putting commit ≡ true) }
-    ensures version { IfOk result (λ commit. commit_version commit ≡ Some (id + 1, E.with_epoch epochs.now value.now (E.epoch epochs.now value.now + 1))) }
+    ensures version { IfOk result (λ commit. commit_version commit
+        ≡ Some (id + 1, E.with_epoch epochs.now value.now (E.epoch epochs.now value.now + 1))) }
 {
     let epoch = epochs.get(value);
     if epoch == u64::MAX {

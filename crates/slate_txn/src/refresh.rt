@@ -5,7 +5,8 @@ ghost use Rattle.slate_log.specs.Due.{FaultOf, FaultRose, NoFault, StillDue};
 ghost use Rattle.slate_log.specs.ReadPhase.{read_due};
 ghost use Rattle.slate_log.specs.declared.read_phase.ReadPhase.TheVariants.{Listing};
 ghost use Rattle.slate_txn.specs.Fencing.{NoFence, NotFenced, NotFencedStep};
-ghost use Rattle.slate_txn.specs.Refreshing.{Refreshes, refreshed, held_after, refreshed_step, held_after_step, refresh_asks, refresh_goes};
+ghost use Rattle.slate_txn.specs.Refreshing.{Refreshes, refreshed, held_after};
+ghost use Rattle.slate_txn.specs.Refreshing.{refreshed_step, held_after_step, refresh_asks, refresh_goes};
 
 use crate::stored::Stored;
 use slate_ids::{Millis, ObjectCodec, SlateDBError};
@@ -71,9 +72,11 @@ impl<T: Drop, C: ObjectCodec<T> + Drop, R: Rules<T> + Drop> Stored<T, C, R> {
         tries: u32,
     ) -> Result<(), SlateDBError>
         requires { 0 < tries }
-        ensures refresh { Refreshes C.decoded tries (S.told store.old) (S.told store.new) self.old self.new result }
+        ensures refresh { Refreshes C.decoded tries (S.told store.old) (S.told store.new)
+            self.old self.new result }
         ensures kept { OnErr result (self.new ≡ self.old) }
-        ensures fault { NoFault (C.decoded self.old.sequenced.codec) → FaultOf (S.told store.old) (S.told store.new) result }
+        ensures fault { NoFault (C.decoded self.old.sequenced.codec)
+            → FaultOf (S.told store.old) (S.told store.new) result }
         ensures unfenced { NoFence (C.decoded self.old.sequenced.codec) → NotFenced result }
     {
         let reply = self.sequenced.read_latest(alloc, store, tries);
@@ -108,10 +111,13 @@ impl<T: Drop> RefreshMachine<T> {
         moment: Millis,
     ) -> Step<()>
         requires due { read_due self.now ≡ true }
-        ensures steps { Steps (S.told store.old) (S.told store.new) (refresh_asks (self.old, holder.old)) moment
-            (refresh_goes C.decoded (self.old, holder.old)) (self.old, holder.old) (self.new, holder.new) result }
+        ensures steps { Steps (S.told store.old) (S.told store.new)
+            (refresh_asks (self.old, holder.old)) moment
+            (refresh_goes C.decoded (self.old, holder.old))
+            (self.old, holder.old) (self.new, holder.new) result }
         ensures due { StillDue result (read_due self.new) }
-        ensures fault { NoFault (C.decoded holder.old.sequenced.codec) → FaultRose (S.told store.old) (S.told store.new) result }
+        ensures fault { NoFault (C.decoded holder.old.sequenced.codec)
+            → FaultRose (S.told store.old) (S.told store.new) result }
         ensures unfenced { NoFence (C.decoded holder.old.sequenced.codec) → NotFencedStep result }
     {
         let step = self.read.next(alloc, &holder.sequenced, store, moment);

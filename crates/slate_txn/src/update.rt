@@ -6,7 +6,8 @@ ghost use Rattle.slate_log.specs.CommitPhase.{is_putting, commit_version};
 ghost use Rattle.slate_log.specs.Due.{FaultOf, FaultRose, StillDue};
 ghost use Rattle.slate_txn.specs.Holder.{at_version};
 ghost use Rattle.slate_txn.specs.Standing.{SameContents, UpdateStands, may_stand};
-ghost use Rattle.slate_txn.specs.Updating.{started, Updates, UpdateSteps, update_of, update_due, update_open, done_of, held_of, done_step, held_by};
+ghost use Rattle.slate_txn.specs.Updating.{started, Updates, UpdateSteps, update_of, update_due, update_open};
+ghost use Rattle.slate_txn.specs.Updating.{done_of, held_of, done_step, held_by};
 
 use crate::stored::{DirtyObject, Stored};
 use slate_ids::{Millis, ObjectCodec, OutOfMemory, SlateDBError};
@@ -68,14 +69,21 @@ impl<T: Drop, C: ObjectCodec<T> + Drop, R: Rules<T> + Drop> Stored<T, C, R> {
         right: &Right,
         moment: Millis,
     ) -> Result<(), SlateDBError>
-        ensures update { Updates R.refusal C.encoded moment (S.told store.old) (S.told store.new) self.old dirty right.now result }
+        ensures update { Updates R.refusal C.encoded moment (S.told store.old) (S.told store.new)
+            self.old dirty right.now result }
         ensures held { OnOk result (self.new ≡ at_version self.old (self.old.id + 1) dirty.value) }
         ensures kept { OnErr result (self.new ≡ self.old) }
-        ensures before { IfErr (started R.refusal C.encoded self.old dirty right.now) (λ e. S.told store.new ≡ S.told store.old) }
-        ensures put { OnOk result (UpdateStands self.old moment (S.told store.old) (S.told store.new) (started R.refusal C.encoded self.old dirty right.now)) }
-        ensures left { IfErr result (λ e. may_stand e ≡ false → SameContents (S.told store.old) (S.told store.new)) }
-        ensures stands { OnErr result (SameContents (S.told store.old) (S.told store.new) ⊎ UpdateStands self.old moment (S.told store.old) (S.told store.new) (started R.refusal C.encoded self.old dirty right.now)) }
-        ensures fault { started R.refusal C.encoded self.old dirty right.now ≢ Err StoreFault → FaultOf (S.told store.old) (S.told store.new) result }
+        ensures before { IfErr (started R.refusal C.encoded self.old dirty right.now)
+            (λ e. S.told store.new ≡ S.told store.old) }
+        ensures put { OnOk result (UpdateStands self.old moment (S.told store.old) (S.told store.new)
+            (started R.refusal C.encoded self.old dirty right.now)) }
+        ensures left { IfErr result (λ e. may_stand e ≡ false
+            → SameContents (S.told store.old) (S.told store.new)) }
+        ensures stands { OnErr result (SameContents (S.told store.old) (S.told store.new)
+            ⊎ UpdateStands self.old moment (S.told store.old) (S.told store.new)
+            (started R.refusal C.encoded self.old dirty right.now)) }
+        ensures fault { started R.refusal C.encoded self.old dirty right.now ≢ Err StoreFault
+            → FaultOf (S.told store.old) (S.told store.new) result }
     {
         let commit = self.start_commit(alloc, dirty, right)?;
         let reply = commit.run(alloc, &self.sequenced, store, moment);
@@ -90,7 +98,8 @@ impl<T: Drop, C: ObjectCodec<T> + Drop, R: Rules<T> + Drop> Stored<T, C, R> {
         right: &Right,
     ) -> Result<UpdateMachine<T>, OutOfMemory>
         ensures open { IfOk result (λ machine. update_open machine ≡ true) }
-        ensures machine { IfOk result (λ machine. machine ≡ update_of (started R.refusal C.encoded self.now dirty right.now)) }
+        ensures machine { IfOk result (λ machine. machine ≡ update_of
+            (started R.refusal C.encoded self.now dirty right.now)) }
     {
         match self.start_commit(alloc, dirty, right) {
             Ok(commit) => Ok(UpdateMachine::Committing(commit)),
@@ -161,7 +170,8 @@ impl<T: Drop> UpdateMachine<T> {
         moment: Millis,
     ) -> Step<()>
         requires open { update_open self.now ≡ true }
-        ensures steps { UpdateSteps (S.told store.old) (S.told store.new) moment (self.old, holder.old) (self.new, holder.new) result }
+        ensures steps { UpdateSteps (S.told store.old) (S.told store.new) moment
+            (self.old, holder.old) (self.new, holder.new) result }
         ensures open { update_due self.old ≡ true → StillDue result (update_open self.new) }
         ensures fault { update_due self.old ≡ true → FaultRose (S.told store.old) (S.told store.new) result }
     {
