@@ -117,10 +117,14 @@ bound_goes n numbers answer = End Over (Err StoreFault)
 abbrev pub deletes_next : List ℕ → PassCounts → PassGoes
 deletes_next left counts = if has_number left then Stay (Deleting left counts) else End Over (Ok counts)
 
+-- the picks are to be deleted
+abbrev pub picks_next : List ℕ → PassGoes
+picks_next picked = deletes_next picked (counts_of (length picked))
+
 -- after a step of the advance: where it ended well the picks are deleted
 abbrev pub advanced_goes : PassOptions → List ℕ → AdvanceGoes → PassGoes
 advanced_goes options numbers (Stay advance) = Stay (Advancing advance numbers)
-advanced_goes options numbers (End advance (Ok done)) = deletes_next (picks options numbers) (counts_of (length (picks options numbers)))
+advanced_goes options numbers (End advance (Ok done)) = picks_next (picks options numbers)
 advanced_goes options numbers (End advance (Err e)) = End Over (Err e)
 
 -- one more pick is deleted

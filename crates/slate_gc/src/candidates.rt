@@ -57,7 +57,8 @@ fn may_go(
     named: &BTreeSet<u64>,
     version: &(u64, Millis),
 ) -> bool
-    ensures { (cs : List AnyCheckpoint) → IsSetOf named.now cs → result ≡ picking.is_candidate min_age now greatest cs version.now }
+    ensures { (cs : List AnyCheckpoint) → IsSetOf named.now cs
+        → result ≡ picking.is_candidate min_age now greatest cs version.now }
 {
     let (n, modified) = *version;
     n < greatest && !named.contains(&n) && is_aged(min_age, now, modified)
@@ -79,7 +80,8 @@ pub fn candidates_of(
     checkpoints: &[Checkpoint],
     listed: &[(u64, Millis)],
 ) -> Result<Numbers, OutOfMemory>
-    ensures { IfOk result (λ numbers. numbers ≡ picking.candidates min_age now greatest checkpoints.now listed.now) }
+    ensures { IfOk result (λ numbers. numbers
+        ≡ picking.candidates min_age now greatest checkpoints.now listed.now) }
 {
     let named = named_versions(alloc, checkpoints)?;
     let mut numbers = Numbers::new(alloc);

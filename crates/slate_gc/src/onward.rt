@@ -1,5 +1,5 @@
 //! What follows the answer to each call of a pass: the next phase, and the step.
-ghost use Rattle.std.specs.Prelude.{◌≡◌, length, Err};
+ghost use Rattle.std.specs.Prelude.{◌≡◌, Err};
 ghost use Rattle.slate_gc.specs.Pass as pass;
 ghost use Rattle.slate_gc.specs.Picks as picking;
 ghost use Rattle.slate_gc.specs.declared.pass_phase.PassPhase.TheVariants as phases;
@@ -35,7 +35,8 @@ fn refused(e: SlateDBError) -> Onward
 
 // The greatest of the listed versions is to be got, where there is one.
 fn after_found(alloc: Global, now: Millis, found: &[ObjectMetadata]) -> Onward
-    ensures goes { GoesOn (pass.listed_goes now found.now (boundaries.greatest logs.Manifest found.now)) phases.Listing result.0 result.1 }
+    ensures goes { GoesOn (pass.listed_goes now found.now (boundaries.greatest logs.Manifest found.now))
+        phases.Listing result.0 result.1 }
     ensures due { StillDue result.1 (pass.pass_due result.0) }
     ensures memory { WhereOut result.1 (result.0 ≡ phases.Listing) }
 {
@@ -90,7 +91,8 @@ pub(crate) fn after_get<C: ObjectCodec<Manifest>>(
     listed: Listed<(u64, Millis)>,
     answer: &StoreAnswer,
 ) -> Onward
-    ensures goes { GoesOn (pass.get_goes (C.decoded codec.now) options.now now n listed answer.now) (phases.Getting now n listed) result.0 result.1 }
+    ensures goes { GoesOn (pass.get_goes (C.decoded codec.now) options.now now n listed answer.now)
+        (phases.Getting now n listed) result.0 result.1 }
     ensures due { StillDue result.1 (pass.pass_due result.0) }
     ensures memory { WhereOut result.1 (result.0 ≡ phases.Getting now n listed) }
 {
@@ -130,7 +132,8 @@ fn after_bounded(numbers: Numbers) -> Onward
 
 // After the boundary: a greatest manifest at or below it counts as gone.
 fn after_boundary(n: u64, numbers: Numbers, object: &Option<StoredObject>) -> Onward
-    ensures goes { GoesOnAlways (pass.bounded_goes n numbers (boundaries.boundary_got object.now)) result.0 result.1 }
+    ensures goes { GoesOnAlways (pass.bounded_goes n numbers (boundaries.boundary_got object.now))
+        result.0 result.1 }
     ensures due { StillDue result.1 (pass.pass_due result.0) }
     ensures memory { NeverOut result.1 }
 {
@@ -173,7 +176,7 @@ fn deletes_next(left: Numbers, counts: PassCounts) -> Onward
 
 // The picks are to be deleted.
 fn after_advanced(alloc: Global, options: &PassOptions, numbers: Numbers) -> Onward
-    ensures goes { GoesOnAlways (pass.deletes_next (picking.picks options.now numbers) (pass.counts_of (length (picking.picks options.now numbers)))) result.0 result.1 }
+    ensures goes { GoesOnAlways (pass.picks_next (picking.picks options.now numbers)) result.0 result.1 }
     ensures due { StillDue result.1 (pass.pass_due result.0) }
     ensures memory { NeverOut result.1 }
 {
@@ -190,7 +193,8 @@ pub(crate) fn after_advance(
     numbers: Numbers,
     answer: &StoreAnswer,
 ) -> Onward
-    ensures goes { GoesOnAlways (pass.advanced_goes options.now numbers (advance_goes advance answer.now)) result.0 result.1 }
+    ensures goes { GoesOnAlways (pass.advanced_goes options.now numbers (advance_goes advance answer.now))
+        result.0 result.1 }
     ensures due { StillDue result.1 (pass.pass_due result.0) }
     ensures memory { NeverOut result.1 }
 {

@@ -89,7 +89,8 @@ impl PassPhase {
         moment: Millis,
         answer: &StoreAnswer,
     ) -> (PassPhase, Step<PassCounts>)
-        ensures goes { GoesOn (pass_goes (C.decoded codec.now) options.now moment self answer.now) self result.0 result.1 }
+        ensures goes { GoesOn (pass_goes (C.decoded codec.now) options.now moment self answer.now)
+            self result.0 result.1 }
         ensures due { StillDue result.1 (pass_due result.0) }
         ensures memory { WhereOut result.1 (result.0 ≡ self) }
         ensures writes { WhereOut result.1 (is_reading_phase self ≡ true) }
@@ -118,7 +119,8 @@ impl PassPhase {
         moment: Millis,
         answer: &StoreAnswer,
     ) -> Step<PassCounts>
-        ensures goes { GoesOn (pass_goes (C.decoded codec.now) options.now moment self.old answer.now) self.old self.new result }
+        ensures goes { GoesOn (pass_goes (C.decoded codec.now) options.now moment self.old answer.now)
+            self.old self.new result }
         ensures due { StillDue result (pass_due self.new) }
         ensures memory { WhereOut result (self.new ≡ self.old) }
         ensures writes { WhereOut result (is_reading_phase self.old ≡ true) }
@@ -141,10 +143,12 @@ impl PassPhase {
         moment: Millis,
     ) -> Step<PassCounts>
         requires due { pass_due self.now ≡ true }
-        ensures steps { Steps (S.told store.old) (S.told store.new) (pass_asks sequenced.now.db self.old) moment
+        ensures steps { Steps (S.told store.old) (S.told store.new)
+            (pass_asks sequenced.now.db self.old) moment
             (pass_goes (C.decoded sequenced.now.codec) options.now moment self.old) self.old self.new result }
         ensures due { StillDue result (pass_due self.new) }
-        ensures fault { NoFault (C.decoded sequenced.now.codec) → FaultRose (S.told store.old) (S.told store.new) result }
+        ensures fault { NoFault (C.decoded sequenced.now.codec)
+            → FaultRose (S.told store.old) (S.told store.new) result }
     {
         match self.asks(alloc, sequenced) {
             Ok(call) => match perform(alloc, store, &call, moment) {

@@ -278,7 +278,8 @@ fn is_to_expire(now: Millis, manifest: &Manifest) -> bool
 
 // An equal manifest, without the checkpoints that are expired at a moment.
 fn unexpired(alloc: Global, now: Millis, manifest: &Manifest) -> Result<Manifest, OutOfMemory>
-    ensures { IfOk result (λ m. m ≡ made.with_checkpoints (filter (λ c. not (made.is_expired now c)) manifest.now.core.checkpoints) manifest.now) }
+    ensures { IfOk result (λ m. m ≡ made.with_checkpoints
+        (filter (λ c. not (made.is_expired now c)) manifest.now.core.checkpoints) manifest.now) }
 {
     let kept = without_expired(alloc, now, manifest.core.checkpoints.as_slice())?;
     with_checkpoints(alloc, kept, manifest)

@@ -1,6 +1,7 @@
 //! The rules on a new version.
 ghost use Rattle.std.specs.Prelude.{◌≡◌, ◌==◌, ◌+◌};
-ghost use Rattle.slate_updates.specs.Rules.{falls as fallen, names_known as all_known, refusal_of_update as refused_by, manifest_refusal};
+ghost use Rattle.slate_updates.specs.Rules.{falls as fallen, names_known as all_known};
+ghost use Rattle.slate_updates.specs.Rules.{refusal_of_update as refused_by, manifest_refusal};
 
 use crate::lookups::is_named;
 use slate_ids::{SlateDBError, UpdateRule};
