@@ -48,9 +48,9 @@ impl Name {
         ensures text { IsUtf8 (name_of path.now) }
     {
         match path {
-            ObjectPath::Manifest(_, n) => Name::Number(twenty_digits(*n)),
-            ObjectPath::Record(_, n) => Name::Number(twenty_digits(*n)),
-            ObjectPath::Wal(_, n) => Name::Number(twenty_digits(*n)),
+            ObjectPath::Manifest(_, n) | ObjectPath::Record(_, n) | ObjectPath::Wal(_, n) => {
+                Name::Number(twenty_digits(*n))
+            }
             ObjectPath::Table(_, id) => Name::Id(id.letters()),
             _ => Name::Nothing,
         }
