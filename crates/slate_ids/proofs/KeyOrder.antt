@@ -2,10 +2,12 @@
 use Rattle.std.specs.Prelude.{ℕ, Bool, true, false, not, bytes_eq, List, [], ◌∷◌}
 use Rattle.std.proofs.Common.{◌≡◌, refl, sym, ap, ◌∙◌}
 use Rattle.std.specs.Ordering.{MatchOrdering, nat_cmp, ordering_then, ordering_reverse, is_lt, is_le, is_eq, is_gt}
+use Rattle.std.specs.Cmp.{IsStrictWeakOrder}
 use Rattle.std.specs.Cmp.Lexicographic.{slice_cmp}
 use Rattle.std.specs.declared.cmp.Ordering.{Ordering}
 use Rattle.std.specs.declared.cmp.Ordering.TheVariants.{Less, Equal, Greater}
 use Rattle.std.proofs.lemmas.Cmp.{ranked, nat_list_cmp_total, tied_itself, alike_right, upto}
+use Rattle.std.proofs.lemmas.List.Sorted.{ranks_by}
 use Rattle.std.proofs.lemmas.Map.Text.{is_eq-slice_cmp}
 use Rattle.slate_ids.specs.Keys.{key_lt, key_le}
 
@@ -98,15 +100,17 @@ same_key a b h k = tied a b (le_not_lt (cmp a b) h k)
 
 -- ---- the order alone
 
-pub one_way : (a b : List ℕ) → key_lt a b ≡ true → key_lt b a ≡ false
-one_way a b h = by (key_lt b a) refl
-  where
-    by : (t : Bool) → key_lt b a ≡ t → t ≡ false
-    by true e = absurd (lt_irreflexive a (lt_le_trans a b a h (lt_le b a e)))
-    by false e = refl
+pub order : IsStrictWeakOrder key_lt
+order = ranks_by nat_list_cmp_total (λ k. k)
 
-pub lt_trans : (a b c : List ℕ) → key_lt a b ≡ true → key_lt b c ≡ true → key_lt a c ≡ true
-lt_trans a b c h k = lt_le_trans a b c h (lt_le b c k)
+pub one_way : (a b : List ℕ) → key_lt a b ≡ true → key_lt b a ≡ false
+one_way a b h = order.one_way a b h
+
+pub not_before_itself : (a : List ℕ) → key_lt a a ≡ false
+not_before_itself a = ap is_lt (tied_itself nat_list_cmp_total a)
+
+pub chained : (a b c : List ℕ) → key_lt a b ≡ true → key_lt b c ≡ true → key_lt a c ≡ true
+chained a b c h k = lt_le_trans a b c h (lt_le b c k)
 
 turned : (o r : Ordering) → o ≡ ordering_reverse r → is_le o ≡ not (is_lt r)
 turned Less Greater e = refl

@@ -2,21 +2,19 @@
 use Rattle.std.specs.Prelude.{ℕ, zero, suc, ◌+◌, ◌-◌, ◌<◌, ◌≤◌, ◌^◌, Option, Some, None, Bool, true, false, ◌&&◌, ◌||◌, not, List, [], ◌∷◌, length, get_or, drop, take, filter, slice_range, All, if◌then◌else◌}
 use Rattle.std.specs.List.{list_any, prefix_len}
 use Rattle.std.specs.List.Sorted.{IsPartitionedBy, IsPartitionPoint}
-use Rattle.std.specs.Ordering.{nat_cmp, is_lt, is_le, ordering_reverse}
-use Rattle.std.specs.Cmp.Lexicographic.{slice_cmp, nat_list_cmp_total}
-use Rattle.std.specs.declared.cmp.Ordering.{Ordering}
-use Rattle.std.specs.declared.cmp.Ordering.TheVariants.{Less, Equal, Greater}
 use Rattle.std.specs.declared.ops.Bound.{Bound}
 use Rattle.std.specs.declared.ops.Bound.TheVariants.{Included, Excluded, Unbounded}
 use Rattle.std.proofs.Common.{◌≡◌, refl, sym, ◌∙◌, ap, arith}
+use Rattle.std.proofs.lemmas.Bool.{and_parts, or_parts, true_from_ne_false, false_from_ne_true}
 use Rattle.std.proofs.lemmas.List.Sums.{prefix_len_is}
 use Rattle.std.proofs.lemmas.List.Elements.{filter_agree}
 use Rattle.slate_ids.specs.Keys.{key_lt, key_le, is_ordered, is_up_to, is_past, begins_with, successor, end_before}
+use Rattle.slate_ids.proofs.KeyOrder.{chained, lt_le, le_trans, le_is}
 use Rattle.slate_ids.specs.KeyRange.{KeyRange, has_key, is_proper, ranges_meet, prefix_range}
 use Rattle.slate_model.specs.Segments.{Prefixed, ascend_from}
 use Rattle.slate_model.specs.Selection.{none_begins, are_apart, meets}
 use Rattle.slate_model.specs.Reach.{starts_by, stands_before, is_over, StartsWithBytes}
-use Rattle.slate_model.proofs.Ascending.{clash, by_cases, by_denial, both, chained, one_more}
+use Rattle.slate_model.proofs.Ascending.{clash, one_more}
 use Rattle.slate_model.proofs.Placing.{from_below}
 use Rattle.slate_model.proofs.Apart.{between}
 
@@ -31,8 +29,8 @@ not_false false h = refl
 falls_after : (test : Prefixed → Bool) → Falls test → (s : Prefixed) (ts : List Prefixed) → ascend_from s.prefix ts ≡ true → none_begins s.prefix ts ≡ true → test s ≡ false → list_any test ts ≡ false
 falls_after test falls s [] a n h = refl
 falls_after test falls s (t ∷ ts) a n h =
-    let up = both (key_lt s.prefix t.prefix) (ascend_from t.prefix ts) a in
-    let apart = both (not (begins_with s.prefix t.prefix)) (none_begins s.prefix ts) n in
+    let up = and_parts (key_lt s.prefix t.prefix) (ascend_from t.prefix ts) a in
+    let apart = and_parts (not (begins_with s.prefix t.prefix)) (none_begins s.prefix ts) n in
     rw (falls s t up.0 (not_false (begins_with s.prefix t.prefix) apart.0) h) (falls_after test falls s ts (from_below s.prefix t.prefix ts up.0 up.1) apart.1 h)
 
 -- a test that falls once stays so
@@ -43,23 +41,19 @@ StaysFallen test (s ∷ ss) = (test s ≡ false → list_any test ss ≡ false) 
 pub stays_fallen : (test : Prefixed → Bool) → Falls test → (last : List ℕ) (ss : List Prefixed) → ascend_from last ss ≡ true → are_apart ss ≡ true → StaysFallen test ss
 stays_fallen test falls last [] a p = tt
 stays_fallen test falls last (s ∷ ss) a p =
-    let up = both (key_lt last s.prefix) (ascend_from s.prefix ss) a in
-    let apart = both (none_begins s.prefix ss) (are_apart ss) p in
+    let up = and_parts (key_lt last s.prefix) (ascend_from s.prefix ss) a in
+    let apart = and_parts (none_begins s.prefix ss) (are_apart ss) p in
     (λ h. falls_after test falls s ss up.1 apart.0 h, stays_fallen test falls s.prefix ss up.1 apart.1)
-
-first_fails : (a b : Bool) → (a || b) ≡ false → (a ≡ false) × (b ≡ false)
-first_fails true b h = absurd cc
-first_fails false b h = (refl, h)
 
 fails_at : (test : Prefixed → Bool) (ss : List Prefixed) → list_any test ss ≡ false → (j : ℕ) (d : Prefixed) → j < length ss → test (get_or ss j d) ≡ false
 fails_at test [] h j d l = absurd (omega arith)
-fails_at test (s ∷ ss) h zero d l = (first_fails (test s) (list_any test ss) h).0
-fails_at test (s ∷ ss) h (suc j) d l = fails_at test ss (first_fails (test s) (list_any test ss) h).1 j d (omega arith)
+fails_at test (s ∷ ss) h zero d l = (or_parts (test s) (list_any test ss) h).0
+fails_at test (s ∷ ss) h (suc j) d l = fails_at test ss (or_parts (test s) (list_any test ss) h).1 j d (omega arith)
 
 pub partitioned : (test : Prefixed → Bool) (ss : List Prefixed) → StaysFallen test ss → IsPartitionedBy test ss
 partitioned test [] f i j d o l h = absurd (omega arith)
 partitioned test (s ∷ ss) f zero zero d o l h = h
-partitioned test (s ∷ ss) f zero (suc j) d o l h = by_cases (test s) (λ n. clash (test (get_or ss j d)) h (fails_at test ss (f.0 n) j d (omega arith)))
+partitioned test (s ∷ ss) f zero (suc j) d o l h = true_from_ne_false (test s) (λ n. clash (test (get_or ss j d)) h (fails_at test ss (f.0 n) j d (omega arith)))
 partitioned test (s ∷ ss) f (suc i) zero d o l h = absurd (omega arith)
 partitioned test (s ∷ ss) f (suc i) (suc j) d o l h = partitioned test ss f.1 i j d (omega arith) (omega arith) h
 
@@ -69,7 +63,7 @@ point_is test ss d i h point = sym (prefix_len_is test ss i d h (λ k l. point.0
 none_pass : (test other : Prefixed → Bool) (ss : List Prefixed) → list_any test ss ≡ false → filter (λ s. not (other s) && test s) ss ≡ []
 none_pass test other [] h = refl
 none_pass test other (s ∷ ss) h =
-    let parts = first_fails (test s) (list_any test ss) h in
+    let parts = or_parts (test s) (list_any test ss) h in
     rw (parts.0, never (not (other s))) (none_pass test other ss parts.1)
   where
     never : (b : Bool) → (b && false) ≡ false
@@ -78,7 +72,7 @@ none_pass test other (s ∷ ss) h =
 
 none_first : (test : Prefixed → Bool) (ss : List Prefixed) → list_any test ss ≡ false → prefix_len test ss ≡ 0
 none_first test [] h = refl
-none_first test (s ∷ ss) h = rw (first_fails (test s) (list_any test ss) h).0 refl
+none_first test (s ∷ ss) h = rw (or_parts (test s) (list_any test ss) h).0 refl
 
 both_longer : (s : Prefixed) (ss : List Prefixed) (m n : ℕ) → slice_range ss m n ≡ slice_range (s ∷ ss) (1 + m) (1 + n)
 both_longer s ss m n =
@@ -109,34 +103,10 @@ together over starts (s ∷ ss) o f = by (together over starts ss o.1 f.1) (over
         ap (λ (l : List Prefixed). s ∷ l) (more ∙ first) ∙ all
     by more false false e h = none_pass starts over ss (f.0 h)
 
-turned : (o r : Ordering) → o ≡ ordering_reverse r → is_le o ≡ not (is_lt r)
-turned Less Greater e = refl
-turned Equal Equal e = refl
-turned Greater Less e = refl
-turned Less Less e = absurd cc
-turned Less Equal e = absurd cc
-turned Equal Less e = absurd cc
-turned Equal Greater e = absurd cc
-turned Greater Equal e = absurd cc
-turned Greater Greater e = absurd cc
-
-le_is : (a b : List ℕ) → key_le a b ≡ not (key_lt b a)
-le_is a b = turned (slice_cmp nat_cmp a b) (slice_cmp nat_cmp b a) (nat_list_cmp_total.antisymm a b)
-
-from_not : (b : Bool) → not b ≡ true → b ≡ false
-from_not true h = absurd cc
-from_not false h = refl
-
--- what stands below a key that isn't above another isn't either
-below_le : (p q e : List ℕ) → key_lt p q ≡ true → key_le q e ≡ true → key_le p e ≡ true
-below_le p q e l h =
-    let high : key_lt e q ≡ false = from_not (key_lt e q) (sym (le_is q e) ∙ h) in
-    le_is p e ∙ ap not (by_denial (key_lt e p) (λ k. clash (key_lt e q) (chained e p q k l) high))
-
 pub starts_falls : (end : Bound (List ℕ)) → Falls (starts_by end)
 unfolding is_ordered
-starts_falls (Included e) s t l n h = by_denial (key_le t.prefix e) (λ k. clash (key_le s.prefix e) (below_le s.prefix t.prefix e l k) h)
-starts_falls (Excluded e) s t l n h = by_denial (key_lt t.prefix e) (λ k. clash (key_lt s.prefix e) (chained s.prefix t.prefix e l k) h)
+starts_falls (Included e) s t l n h = false_from_ne_true (key_le t.prefix e) (λ k. clash (key_le s.prefix e) (le_trans s.prefix t.prefix e (lt_le s.prefix t.prefix l) k) h)
+starts_falls (Excluded e) s t l n h = false_from_ne_true (key_lt t.prefix e) (λ k. clash (key_lt s.prefix e) (chained s.prefix t.prefix e l k) h)
 starts_falls Unbounded s t l n h = absurd (clash true refl h)
 
 one_of : (a b : Bool) (P : Type 0) → not (a || b) ≡ false → (a ≡ true → P) → (b ≡ true → P) → P

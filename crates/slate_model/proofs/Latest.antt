@@ -2,6 +2,7 @@
 use Rattle.std.specs.Prelude.{ℕ, max, ◌||◌, Bool, true, false, List, [], ◌∷◌, ◌++◌, map, Option, Some, None, if◌then◌else◌}
 use Rattle.std.specs.List.{list_any}
 use Rattle.std.proofs.Common.{◌≡◌, refl, ◌∙◌, ap, sym, arith}
+use Rattle.std.proofs.lemmas.Bool.{or_parts, or_from, or_left, or_right}
 use Rattle.std.proofs.lemmas.Bool.Decides.{nat_tests}
 use Rattle.slate_ids.specs.Ulids.{id_lt, same_id}
 use Rattle.slate_ids.proofs.IdOrder.{is_itself, not_before_itself, one_way, chained, not_before}
@@ -58,41 +59,23 @@ moment-latest (id ∷ ids) = moment-later id (latest ids) ∙ ap (max id.0) (mom
 
 -- ---- it is one of the ids, and none is above it
 
-neither : (a b : Bool) → a ≡ false → b ≡ false → (a || b) ≡ false
-neither a b h k = ap (λ x. x || b) h ∙ k
-
-first_is : (a b : Bool) → a ≡ true → (a || b) ≡ true
-first_is a b h = ap (λ x. x || b) h
-
-second_is : (a b : Bool) → b ≡ true → (a || b) ≡ true
-second_is true b h = refl
-second_is false b h = h
-
-first_not : (a b : Bool) → (a || b) ≡ false → a ≡ false
-first_not true b h = h
-first_not false b h = refl
-
-second_not : (a b : Bool) → (a || b) ≡ false → b ≡ false
-second_not true b h = absurd cc
-second_not false b h = h
-
 -- where none is above an id that isn't above another, none is above the other
 none_above : (a b : ℕ × ℕ) (ids : List (ℕ × ℕ)) → id_lt a b ≡ false → list_any (id_lt b) ids ≡ false → list_any (id_lt a) ids ≡ false
 none_above a b [] h k = refl
 none_above a b (id ∷ ids) h k =
-    neither (id_lt a id) (list_any (id_lt a) ids)
-    (not_before a b id h (first_not (id_lt b id) (list_any (id_lt b) ids) k))
-    (none_above a b ids h (second_not (id_lt b id) (list_any (id_lt b) ids) k))
+    or_from (id_lt a id) (list_any (id_lt a) ids)
+    (not_before a b id h (or_parts (id_lt b id) (list_any (id_lt b) ids) k).0)
+    (none_above a b ids h (or_parts (id_lt b id) (list_any (id_lt b) ids) k).1)
 
 one_more : (id : ℕ × ℕ) (ids : List (ℕ × ℕ)) (o : Option (ℕ × ℕ)) → IsGreatestOf ids o → IsGreatestOf (id ∷ ids) (later (Some id) o)
 one_more id ids None h =
     let alone : list_any (id_lt id) ids ≡ false = ap (list_any (id_lt id)) h in
-    (first_is (same_id id id) (list_any (same_id id) ids) (is_itself id), neither (id_lt id id) (list_any (id_lt id) ids) (not_before_itself id) alone)
+    (or_left (same_id id id) (list_any (same_id id) ids) (is_itself id), or_from (id_lt id id) (list_any (id_lt id) ids) (not_before_itself id) alone)
 one_more id ids (Some b) h = by (id_lt id b) refl
   where
     by : (t : Bool) → id_lt id b ≡ t → IsGreatestOf (id ∷ ids) (Some (if t then b else id))
-    by true e = (second_is (same_id b id) (list_any (same_id b) ids) h.0, neither (id_lt b id) (list_any (id_lt b) ids) (one_way id b e) h.1)
-    by false e = (first_is (same_id id id) (list_any (same_id id) ids) (is_itself id), neither (id_lt id id) (list_any (id_lt id) ids) (not_before_itself id) (none_above id b ids e h.1))
+    by true e = (or_right (same_id b id) (list_any (same_id b) ids) h.0, or_from (id_lt b id) (list_any (id_lt b) ids) (one_way id b e) h.1)
+    by false e = (or_left (same_id id id) (list_any (same_id id) ids) (is_itself id), or_from (id_lt id id) (list_any (id_lt id) ids) (not_before_itself id) (none_above id b ids e h.1))
 
 pub latest-greatest : (ids : List (ℕ × ℕ)) → IsGreatestOf ids (latest ids)
 latest-greatest [] = refl

@@ -1,56 +1,39 @@
 -- A segment put at its place: where it stands, and that the segments ascend as before.
 use Rattle.std.specs.Prelude.{ℕ, zero, suc, ◌<◌, ◌≤◌, ◌+◌, ◌&&◌, Bool, true, false, List, [], ◌∷◌, length, slice_set, get_or, Option, Some, None, option_map, is_some, bytes_eq, if◌then◌else◌}
-use Rattle.std.specs.Ordering.{nat_cmp, is_lt, is_eq, ordering_reverse}
-use Rattle.std.specs.Cmp.Lexicographic.{slice_cmp, nat_list_cmp_total}
 use Rattle.std.specs.List.{insert}
-use Rattle.std.specs.declared.cmp.Ordering.{Ordering}
-use Rattle.std.specs.declared.cmp.Ordering.TheVariants.{Less, Equal, Greater}
 use Rattle.std.proofs.Common.{◌≡◌, refl, sym, ◌∙◌, ap, arith}
-use Rattle.std.proofs.lemmas.Map.Text.{is_eq-slice_cmp}
+use Rattle.std.proofs.lemmas.Bool.{and_parts, and_from}
 use Rattle.std.proofs.lemmas.Slice.Eq.{bytes_eq-Decides}
 use Rattle.slate_ids.specs.Keys.{key_lt}
+use Rattle.slate_ids.proofs.KeyOrder.{chained, not_before_itself, other_way}
 use Rattle.slate_model.specs.declared.lsm_tree_state.LsmTreeState.{LsmTreeState}
 use Rattle.slate_model.specs.Cores.{empty_tree}
 use Rattle.slate_model.specs.Segments.{Prefixed, ascend_from, segment_at, place_of}
 use Rattle.slate_model.specs.Insertion.{placed, tree_in, or_empty, tree_at, with_tree_at}
-use Rattle.slate_model.proofs.Ascending.{one_more, clash, both, chained, none_above, none_below}
+use Rattle.slate_model.proofs.Ascending.{one_more, clash, none_above}
 
 -- the segment of a prefix with this tree
 abbrev pub made : List ℕ → LsmTreeState → Prefixed
 made p t = record { prefix = p; tree = t }
 
-decided : (o r : Ordering) → o ≡ ordering_reverse r → is_lt o ≡ false → is_eq o ≡ false → is_lt r ≡ true
-decided Less r e l q = absurd cc
-decided Equal r e l q = absurd cc
-decided Greater Less e l q = refl
-decided Greater Equal e l q = absurd cc
-decided Greater Greater e l q = absurd cc
-
--- of two keys that differ, one stands before the other
-other_way : (a b : List ℕ) → key_lt a b ≡ false → bytes_eq a b ≡ false → key_lt b a ≡ true
-other_way a b l q = decided (slice_cmp nat_cmp a b) (slice_cmp nat_cmp b a) (nat_list_cmp_total.antisymm a b) l (is_eq-slice_cmp a b ∙ q)
-
-and_true : (a b : Bool) → a ≡ true → b ≡ true → (a && b) ≡ true
-and_true a b h k = rw (h, k) refl
-
 -- segments that ascend from a key ascend from what stands below it
 pub from_below : (last p : List ℕ) (ss : List Prefixed) → key_lt last p ≡ true → ascend_from p ss ≡ true → ascend_from last ss ≡ true
 from_below last p [] l a = refl
 from_below last p (s ∷ ss) l a =
-    let parts = both (key_lt p s.prefix) (ascend_from s.prefix ss) a in
-    and_true (key_lt last s.prefix) (ascend_from s.prefix ss) (chained last p s.prefix l parts.0) parts.1
+    let parts = and_parts (key_lt p s.prefix) (ascend_from s.prefix ss) a in
+    and_from (key_lt last s.prefix) (ascend_from s.prefix ss) (chained last p s.prefix l parts.0) parts.1
 
 pub placed_ascends : (p last : List ℕ) (t : LsmTreeState) (ss : List Prefixed) → key_lt last p ≡ true → ascend_from last ss ≡ true → ascend_from last (placed p t ss) ≡ true
 placed_ascends p last t [] l a = rw l refl
 placed_ascends p last t (s ∷ ss) l a = by (λ h k. placed_ascends p s.prefix t ss h k) (key_lt s.prefix p) (bytes_eq s.prefix p) refl refl
   where
     parts : (key_lt last s.prefix ≡ true) × (ascend_from s.prefix ss ≡ true)
-    parts = both (key_lt last s.prefix) (ascend_from s.prefix ss) a
+    parts = and_parts (key_lt last s.prefix) (ascend_from s.prefix ss) a
 
     by : (key_lt s.prefix p ≡ true → ascend_from s.prefix ss ≡ true → ascend_from s.prefix (placed p t ss) ≡ true) → (b q : Bool) → key_lt s.prefix p ≡ b → bytes_eq s.prefix p ≡ q → ascend_from last (if b then s ∷ placed p t ss else made p t ∷ (if q then ss else s ∷ ss)) ≡ true
-    by more true q e f = and_true (key_lt last s.prefix) (ascend_from s.prefix (placed p t ss)) parts.0 (more e parts.1)
-    by more false true e f = and_true (key_lt last p) (ascend_from p ss) l (sym (ap (λ k. ascend_from k ss) ((bytes_eq-Decides s.prefix p).0 f)) ∙ parts.1)
-    by more false false e f = and_true (key_lt last p) (ascend_from p (s ∷ ss)) l (and_true (key_lt p s.prefix) (ascend_from s.prefix ss) (other_way s.prefix p e f) parts.1)
+    by more true q e f = and_from (key_lt last s.prefix) (ascend_from s.prefix (placed p t ss)) parts.0 (more e parts.1)
+    by more false true e f = and_from (key_lt last p) (ascend_from p ss) l (sym (ap (λ k. ascend_from k ss) ((bytes_eq-Decides s.prefix p).0 f)) ∙ parts.1)
+    by more false false e f = and_from (key_lt last p) (ascend_from p (s ∷ ss)) l (and_from (key_lt p s.prefix) (ascend_from s.prefix ss) (other_way s.prefix p e f) parts.1)
 
 -- a segment inserted at the place of its prefix, where none is of it, is put in its place
 pub inserted : (p : List ℕ) (t : LsmTreeState) (ss : List Prefixed) → segment_at p ss ≡ None → insert ss (place_of p ss) (made p t) ≡ placed p t ss
@@ -110,13 +93,13 @@ placed_same p last t [] a h = absurd cc
 placed_same p last t (s ∷ ss) a h = by (λ k m. placed_same p s.prefix t ss k m) (key_lt s.prefix p) (bytes_eq s.prefix p) refl refl
   where
     rest : ascend_from s.prefix ss ≡ true
-    rest = (both (key_lt last s.prefix) (ascend_from s.prefix ss) a).1
+    rest = (and_parts (key_lt last s.prefix) (ascend_from s.prefix ss) a).1
 
     later : bytes_eq s.prefix p ≡ false → tree_in p ss ≡ Some t
     later f = sym (ap (λ b. option_map (λ x. x.tree) (if b then Some s else segment_at p ss)) f) ∙ h
 
     by : (ascend_from s.prefix ss ≡ true → tree_in p ss ≡ Some t → placed p t ss ≡ ss) → (b q : Bool) → key_lt s.prefix p ≡ b → bytes_eq s.prefix p ≡ q → (if b then s ∷ placed p t ss else made p t ∷ (if q then ss else s ∷ ss)) ≡ s ∷ ss
-    by more true true e f = absurd (clash (key_lt p p) (sym (ap (λ k. key_lt k p) ((bytes_eq-Decides s.prefix p).0 f)) ∙ e) (none_below p))
+    by more true true e f = absurd (clash (key_lt p p) (sym (ap (λ k. key_lt k p) ((bytes_eq-Decides s.prefix p).0 f)) ∙ e) (not_before_itself p))
     by more true false e f = ap (λ (r : List Prefixed). s ∷ r) (more rest (later f))
     by more false true e f = ap (λ (x : Prefixed). x ∷ ss) (sym (some_there s ss p t f h))
     by more false false e f = absurd (let n : None ≡ Some t = sym (ap (option_map (λ x. x.tree)) (none_above p s.prefix ss rest e)) ∙ later f in cc)

@@ -4,6 +4,7 @@ use Rattle.std.specs.List.{find}
 use Rattle.slate_ids.specs.declared.error.SlateDBError.{SlateDBError}
 use Rattle.slate_ids.specs.declared.error.SlateDBError.TheVariants.{SegmentExtractorMismatch, SegmentPrefixNotRecognized}
 use Rattle.slate_model.specs.Segments.{Prefixed}
+use Rattle.slate_model.specs.Cores.{Core}
 
 -- an extractor of prefixes: its name, and the length that it finds of the prefix of a key
 pub record Extractor : Type 0 where
@@ -34,6 +35,10 @@ extractor_refusal None None segments = None
 extractor_refusal (Some persisted) None segments = Some (SegmentExtractorMismatch (Some persisted) None)
 extractor_refusal None (Some e) segments = Some (SegmentExtractorMismatch None (Some e.name))
 extractor_refusal (Some persisted) (Some e) segments = if bytes_eq persisted e.name then prefix_refusal e segments else Some (SegmentExtractorMismatch (Some persisted) (Some e.name))
+
+-- the refusal of a configured extractor, or of none, by what a manifest says
+abbrev pub refusal_by : Option Extractor → Core → Option SlateDBError
+refusal_by configured core = extractor_refusal core.segment_extractor_name configured core.segments
 
 -- whether the store of the write-ahead log is the persisted one, or none is persisted
 abbrev pub same_wal_store : Option (List ℕ) → Option (List ℕ) → Bool

@@ -28,9 +28,7 @@ impl ExternalDb {
         let ids = self.sst_ids.as_slice();
         ids.iter().any(|listed| same_table(id, listed))
     }
-}
 
-impl ExternalDb {
     /// An equal value. It shares the keys.
     pub fn clone(&self, alloc: Global) -> Result<ExternalDb, OutOfMemory>
         ensures { IfOk result (λ copied. copied ≡ self.now) }

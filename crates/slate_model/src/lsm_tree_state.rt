@@ -31,9 +31,7 @@ impl LsmTreeState {
             compacted: Listed::new(alloc),
         }
     }
-}
 
-impl LsmTreeState {
     /// An equal value. It shares the keys.
     pub fn clone(&self, alloc: Global) -> Result<LsmTreeState, OutOfMemory>
         ensures { IfOk result (λ copied. copied ≡ self.now) }

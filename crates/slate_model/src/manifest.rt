@@ -33,9 +33,7 @@ impl Manifest {
             compactor_epoch: 0,
         }
     }
-}
 
-impl Manifest {
     /// An equal value. It shares the keys.
     pub fn clone(&self, alloc: Global) -> Result<Manifest, OutOfMemory>
         ensures { IfOk result (λ copied. copied ≡ self.now) }

@@ -48,9 +48,37 @@ impl Model for ManifestCore {
 
     ghost Value = { Core };
 
-    ghost view = { λ a. record { initialized = a.initialized; tree = a.tree; segments = a.segments; segment_extractor_name = a.segment_extractor_name; wal_object_store_uri = a.wal_object_store_uri; next_wal_sst_id = a.next_wal_sst_id; replay_after_wal_id = a.replay_after_wal_id; last_l0_seq = a.last_l0_seq; recent_snapshot_min_seq = a.recent_snapshot_min_seq; floor = a.floor; last_l0_clock_tick = a.last_l0_clock_tick; sequence_tracker = a.sequence_tracker; checkpoints = a.checkpoints } };
+    ghost view = { λ a. record {
+      initialized = a.initialized;
+      tree = a.tree;
+      segments = a.segments;
+      segment_extractor_name = a.segment_extractor_name;
+      wal_object_store_uri = a.wal_object_store_uri;
+      next_wal_sst_id = a.next_wal_sst_id;
+      replay_after_wal_id = a.replay_after_wal_id;
+      last_l0_seq = a.last_l0_seq;
+      recent_snapshot_min_seq = a.recent_snapshot_min_seq;
+      floor = a.floor;
+      last_l0_clock_tick = a.last_l0_clock_tick;
+      sequence_tracker = a.sequence_tracker;
+      checkpoints = a.checkpoints;
+    } };
 
-    ghost inverse = { λ d. record { initialized = d.initialized; tree = d.tree; segments = d.segments; segment_extractor_name = d.segment_extractor_name; wal_object_store_uri = d.wal_object_store_uri; next_wal_sst_id = d.next_wal_sst_id; replay_after_wal_id = d.replay_after_wal_id; last_l0_seq = d.last_l0_seq; recent_snapshot_min_seq = d.recent_snapshot_min_seq; floor = d.floor; last_l0_clock_tick = d.last_l0_clock_tick; sequence_tracker = d.sequence_tracker; checkpoints = d.checkpoints } };
+    ghost inverse = { λ d. record {
+      initialized = d.initialized;
+      tree = d.tree;
+      segments = d.segments;
+      segment_extractor_name = d.segment_extractor_name;
+      wal_object_store_uri = d.wal_object_store_uri;
+      next_wal_sst_id = d.next_wal_sst_id;
+      replay_after_wal_id = d.replay_after_wal_id;
+      last_l0_seq = d.last_l0_seq;
+      recent_snapshot_min_seq = d.recent_snapshot_min_seq;
+      floor = d.floor;
+      last_l0_clock_tick = d.last_l0_clock_tick;
+      sequence_tracker = d.sequence_tracker;
+      checkpoints = d.checkpoints;
+    } };
 }
 
 impl ManifestCore {
@@ -90,27 +118,7 @@ impl ManifestCore {
     {
         self.segments = Segments::from_vec(segments);
     }
-}
 
-// Whether all numbers are equal.
-fn same_numbers(a: &ManifestCore, b: &ManifestCore) -> bool
-    ensures { IsTrue result
-        ↔ ((a.now.next_wal_sst_id ≡ b.now.next_wal_sst_id)
-        × (a.now.replay_after_wal_id ≡ b.now.replay_after_wal_id)
-        × (a.now.last_l0_seq ≡ b.now.last_l0_seq)
-        × (a.now.recent_snapshot_min_seq ≡ b.now.recent_snapshot_min_seq)
-        × (a.now.floor ≡ b.now.floor)
-        × (a.now.last_l0_clock_tick ≡ b.now.last_l0_clock_tick)) }
-{
-    a.next_wal_sst_id == b.next_wal_sst_id
-        && a.replay_after_wal_id == b.replay_after_wal_id
-        && a.last_l0_seq == b.last_l0_seq
-        && a.recent_snapshot_min_seq == b.recent_snapshot_min_seq
-        && a.floor == b.floor
-        && a.last_l0_clock_tick == b.last_l0_clock_tick
-}
-
-impl ManifestCore {
     /// An equal value. It shares the keys.
     pub fn clone(&self, alloc: Global) -> Result<ManifestCore, OutOfMemory>
         ensures { IfOk result (λ copied. copied ≡ self.now) }
@@ -131,6 +139,24 @@ impl ManifestCore {
             checkpoints: self.checkpoints.clone(alloc)?,
         })
     }
+}
+
+// Whether all numbers are equal.
+fn same_numbers(a: &ManifestCore, b: &ManifestCore) -> bool
+    ensures { IsTrue result
+        ↔ ((a.now.next_wal_sst_id ≡ b.now.next_wal_sst_id)
+        × (a.now.replay_after_wal_id ≡ b.now.replay_after_wal_id)
+        × (a.now.last_l0_seq ≡ b.now.last_l0_seq)
+        × (a.now.recent_snapshot_min_seq ≡ b.now.recent_snapshot_min_seq)
+        × (a.now.floor ≡ b.now.floor)
+        × (a.now.last_l0_clock_tick ≡ b.now.last_l0_clock_tick)) }
+{
+    a.next_wal_sst_id == b.next_wal_sst_id
+        && a.replay_after_wal_id == b.replay_after_wal_id
+        && a.last_l0_seq == b.last_l0_seq
+        && a.recent_snapshot_min_seq == b.recent_snapshot_min_seq
+        && a.floor == b.floor
+        && a.last_l0_clock_tick == b.last_l0_clock_tick
 }
 
 impl Plain for ManifestCore {

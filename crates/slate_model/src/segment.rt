@@ -103,9 +103,7 @@ impl Segment {
         }
         true
     }
-}
 
-impl Segment {
     /// An equal value. It shares the keys.
     pub fn clone(&self, alloc: Global) -> Result<Segment, OutOfMemory>
         ensures { IfOk result (λ copied. copied ≡ self.now) }

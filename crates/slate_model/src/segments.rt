@@ -86,8 +86,10 @@ impl Segments {
         requires some { 0 < length prefix.now }
         ensures place { IfOk result (λ place. place ≡ segments_by_prefix.place_of prefix.now self.old) }
         ensures granted { OnOk result (nesting_refusal prefix.now self.old ≡ None) }
-        ensures placed { OnOk result (self.new ≡ placed prefix.now (or_empty (tree_in prefix.now self.old)) self.old) }
-        ensures err { IfErr result (λ e. (nesting_refusal prefix.now self.old ≡ Some e) ⊎ (is_memory e ≡ true)) }
+        ensures placed { OnOk result
+            (self.new ≡ placed prefix.now (or_empty (tree_in prefix.now self.old)) self.old) }
+        ensures err { IfErr result
+            (λ e. (nesting_refusal prefix.now self.old ≡ Some e) ⊎ (is_memory e ≡ true)) }
         ensures kept { OnErr result (self.new ≡ self.old) }
         ensures there { is_some (tree_in prefix.now self.old) ≡ true → IsOk result }
     {
@@ -118,8 +120,10 @@ impl Segments {
     ) -> Result<&mut LsmTreeState, SlateDBError>
         requires some { 0 < length prefix.now }
         ensures* lends { sem 𝓛 (LendsPlaced prefix.now self.entry result) }
-        ensures ok { IfOk result (λ tree. (nesting_refusal prefix.now self.old ≡ None) × (tree.now ≡ or_empty (tree_in prefix.now self.old))) }
-        ensures err { IfErr result (λ e. (nesting_refusal prefix.now self.old ≡ Some e) ⊎ (is_memory e ≡ true)) }
+        ensures granted { OnOk result (nesting_refusal prefix.now self.old ≡ None) }
+        ensures tree { IfOk result (λ tree. tree.now ≡ or_empty (tree_in prefix.now self.old)) }
+        ensures err { IfErr result
+            (λ e. (nesting_refusal prefix.now self.old ≡ Some e) ⊎ (is_memory e ≡ true)) }
         ensures there { is_some (tree_in prefix.now self.old) ≡ true → IsOk result }
     {
         let place = self.make_place(alloc, prefix)?;

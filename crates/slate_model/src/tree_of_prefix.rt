@@ -1,5 +1,5 @@
 //! The tree of a prefix, found or made.
-ghost use Rattle.std.specs.Prelude.{◌≡◌, ◌⊎◌, IfOk, IfErr, IsOk, Some, None, true, option_copied, is_some};
+ghost use Rattle.std.specs.Prelude.{◌≡◌, ◌⊎◌, IfOk, IfErr, IsOk, Some, None, true, option_copied, is_some, OnOk};
 ghost use Rattle.std.specs.Borrow.{sem};
 ghost use Rattle.slate_ids.specs.Answers.{is_memory};
 ghost use Rattle.slate_model.specs.Insertion.{tree_for, or_empty, insertion_refusal};
@@ -35,8 +35,10 @@ impl ManifestCore {
         prefix: &Bytes,
     ) -> Result<&mut LsmTreeState, SlateDBError>
         ensures* lends { sem 𝓛 (LendsWithTree prefix.now self.entry result) }
-        ensures ok { IfOk result (λ tree. (insertion_refusal prefix.now self.old ≡ None) × (tree.now ≡ or_empty (tree_for prefix.now self.old))) }
-        ensures err { IfErr result (λ e. (insertion_refusal prefix.now self.old ≡ Some e) ⊎ (is_memory e ≡ true)) }
+        ensures granted { OnOk result (insertion_refusal prefix.now self.old ≡ None) }
+        ensures tree { IfOk result (λ tree. tree.now ≡ or_empty (tree_for prefix.now self.old)) }
+        ensures err { IfErr result
+            (λ e. (insertion_refusal prefix.now self.old ≡ Some e) ⊎ (is_memory e ≡ true)) }
         ensures there { is_some (tree_for prefix.now self.old) ≡ true → IsOk result }
     {
         if prefix.is_empty() {

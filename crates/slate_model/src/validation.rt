@@ -4,7 +4,7 @@ ghost use Rattle.slate_ids.specs.Answers.{Gives, refused};
 ghost use Rattle.slate_ids.specs.declared.error.SlateDBError.TheVariants.{SegmentExtractorMismatch, WalStoreReconfigurationError};
 ghost use Rattle.std.specs.List.{find};
 ghost use Rattle.slate_model.specs.Validation as validation;
-ghost use Rattle.slate_model.specs.Validation.{extractor_refusal, prefix_refusal, same_wal_store};
+ghost use Rattle.slate_model.specs.Validation.{refusal_by, prefix_refusal, same_wal_store};
 
 use crate::manifest_core::ManifestCore;
 use crate::prefix_extractor::PrefixExtractor;
@@ -24,7 +24,8 @@ fn first_unknown<'a>(
     extractor: &dyn PrefixExtractor,
     segments: &'a [Segment],
 ) -> Option<&'a Segment>
-    ensures { option_copied result ≡ find (λ s. not (validation.recognizes (means extractor.now) s)) segments.now }
+    ensures { option_copied result
+        ≡ find (λ s. not (validation.recognizes (means extractor.now) s)) segments.now }
 {
     for segment in segments {
         if !recognizes(extractor, segment) {
@@ -50,7 +51,8 @@ fn mismatch(
     persisted: Option<&str>,
     configured: Option<&str>,
 ) -> Result<SlateDBError, OutOfMemory>
-    ensures { IfOk result (λ e. e ≡ SegmentExtractorMismatch (option_copied persisted.entry) (option_copied configured.entry)) }
+    ensures { IfOk result (λ e.
+        e ≡ SegmentExtractorMismatch (option_copied persisted.entry) (option_copied configured.entry)) }
 {
     Ok(SlateDBError::SegmentExtractorMismatch {
         persisted: copied(alloc, persisted)?,
@@ -85,8 +87,10 @@ impl ManifestCore {
         alloc: Global,
         configured: Option<&dyn PrefixExtractor>,
     ) -> Result<(), SlateDBError>
-        ensures refusal { Gives result (refused (extractor_refusal self.now.segment_extractor_name (option_map (λ e. means e.now) configured.entry) self.now.segments)) }
-        ensures free { extractor_refusal self.now.segment_extractor_name (option_map (λ e. means e.now) configured.entry) self.now.segments ≡ None → result ≡ Ok tt }
+        ensures refusal { Gives result
+            (refused (refusal_by (option_map (λ e. means e.now) configured.entry) self.now)) }
+        ensures free { refusal_by (option_map (λ e. means e.now) configured.entry) self.now ≡ None
+            → result ≡ Ok tt }
     {
         match (&self.segment_extractor_name, configured) {
             (None, None) => Ok(()),
@@ -105,7 +109,8 @@ impl ManifestCore {
     /// Whether the store of the write-ahead log is the one that the manifest names, where it names one; else
     /// WalStoreReconfigurationError. Takes no memory.
     pub fn validate_wal_object_store_uri(&self, uri: Option<&str>) -> Result<(), SlateDBError>
-        ensures { result ≡ (if same_wal_store self.now.wal_object_store_uri (option_copied uri.entry) then Ok tt else Err WalStoreReconfigurationError) }
+        ensures { result ≡ (if same_wal_store self.now.wal_object_store_uri (option_copied uri.entry)
+            then Ok tt else Err WalStoreReconfigurationError) }
     {
         match (&self.wal_object_store_uri, uri) {
             (None, _) => Ok(()),

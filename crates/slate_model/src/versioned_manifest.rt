@@ -210,9 +210,7 @@ impl VersionedManifest {
     {
         &self.manifest
     }
-}
 
-impl VersionedManifest {
     /// An equal value. It shares the keys.
     pub fn clone(&self, alloc: Global) -> Result<VersionedManifest, OutOfMemory>
         ensures { IfOk result (λ copied. copied ≡ self.now) }

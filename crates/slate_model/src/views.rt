@@ -1,5 +1,5 @@
 //! The views of all trees of a database, one after the other.
-ghost use Rattle.std.specs.Prelude.{◌≡◌, ◌++◌, ◌+◌, ◌<◌, ◌≤◌, [], MatchOption};
+ghost use Rattle.std.specs.Prelude.{◌≡◌, ◌++◌, ◌+◌, ◌<◌, ◌≤◌, [], IfNone, IfSome};
 ghost use Rattle.std.specs.Iterator.{YieldsFirstRef, item_count};
 ghost use Rattle.slate_model.specs.Trees.{views_of, views_of_tree, views_of_segments};
 ghost use Rattle.slate_model.specs.Walks.{views_left, parts_left, parts_of_tree, parts_of_segments};
@@ -37,8 +37,9 @@ impl<'a> Parts<'a> {
     // The same, where no views come next, from the next part on; none where nothing is left.
     fn go_on(&self) -> Option<Parts<'a>>
         requires { self.now.next.now ≡ [] }
-        ensures views { MatchOption result (views_left self.now ≡ []) (λ more. views_left more ≡ views_left self.now) }
-        ensures parts { MatchOption result (views_left self.now ≡ []) (λ more. parts_left more < parts_left self.now) }
+        ensures none { IfNone result (views_left self.now ≡ []) }
+        ensures views { IfSome result (λ more. views_left more ≡ views_left self.now) }
+        ensures parts { IfSome result (λ more. parts_left more < parts_left self.now) }
     {
         if !self.flushed.is_empty() {
             return Some(Parts {

@@ -10,7 +10,8 @@ returns c = (
   λ i. inl (c.tree_at.result.ghost_name, λ w. lent_back c.args.prefix.now _ w _ c.args.self.now _ c.in_ok-place.ensures.place c.in_ok-place.ensures.placed i),
   record {
     lends = tt;
-    ok = (c.in_ok-place.ensures.granted, lent_tree c.args.prefix.now _ _ _ c.args.self.now _ c.in_ok-place.ensures.place c.in_ok-place.ensures.placed c.tree_at.ensures.tree);
+    granted = c.in_ok-place.ensures.granted;
+    tree = lent_tree c.args.prefix.now _ _ _ c.args.self.now _ c.in_ok-place.ensures.place c.in_ok-place.ensures.placed c.tree_at.ensures.tree;
     err = tt;
     there = search rules;
   },
