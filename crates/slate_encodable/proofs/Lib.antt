@@ -1,3 +1,2 @@
-mod Passing
 mod NormalSegments
 pub mod NormalLaws

@@ -1,8 +1,8 @@
 //! What of a manifest has no bytes.
 ghost use Rattle.std.specs.Prelude.{◌≡◌, ◌&&◌, length, option_copied};
-ghost use Rattle.std.specs.List.{list_all, flat_map};
+ghost use Rattle.std.specs.List.{list_all};
 ghost use Rattle.slate_tables.specs.Tables as known;
-ghost use Rattle.slate_model.specs.Trees.{views_of, views_of_tree};
+ghost use Rattle.slate_model.specs.Trees.{views_of};
 ghost use Rattle.slate_parts.specs.InfoCodec as codec;
 ghost use Rattle.slate_parts.specs.Lengths as lengths;
 ghost use Rattle.slate_encodable.specs.Unencodable as fields;
@@ -70,72 +70,28 @@ fn has_keys(view: &SsTableView) -> bool
     info.first_entry.is_some() && are_entries(&info.first_entry, &info.last_entry)
 }
 
-// Whether all of these views' tables are compacted.
-fn of_compacted(views: &[SsTableView]) -> bool
-    ensures { result ≡ list_all (λ v. known.is_compacted v.sst.id) views.now }
-{
-    views.iter().all(|v| is_compacted(&v.sst.id))
-}
-
-fn runs_of_compacted(runs: &[SortedRun]) -> bool
-    ensures { result ≡ list_all (λ r. list_all (λ v. known.is_compacted v.sst.id) r.views) runs.now }
-{
-    runs.iter().all(|r| of_compacted(r.sst_views()))
-}
-
-// The same of a tree.
-fn tree_of_compacted(tree: &LsmTreeState) -> bool
-    ensures { result ≡ list_all (λ v. known.is_compacted v.sst.id) (views_of_tree tree.now) }
-{
-    let (front, back) = tree.l0.as_slices();
-    of_compacted(front) && of_compacted(back) && runs_of_compacted(tree.compacted.as_slice())
-}
-
-fn segments_of_compacted(segments: &[Segment]) -> bool
-    ensures { result ≡ list_all (λ s. list_all (λ v. known.is_compacted v.sst.id) (views_of_tree s.tree)) segments.now }
-{
-    segments.iter().all(|s| tree_of_compacted(s.tree()))
-}
-
-// The same of all trees.
+// Whether the tables of all views are compacted.
 fn all_of_compacted(core: &ManifestCore) -> bool
     ensures { result ≡ list_all (λ v. known.is_compacted v.sst.id) (views_of core.now) }
 {
-    tree_of_compacted(&core.tree) && segments_of_compacted(core.segments())
+    for view in core.views() {
+        if !is_compacted(&view.sst.id) {
+            return false;
+        }
+    }
+    true
 }
 
-// Whether all of these views' tables have keys.
-fn with_keys(views: &[SsTableView]) -> bool
-    ensures { result ≡ list_all fields.has_keys views.now }
-{
-    views.iter().all(|v| has_keys(v))
-}
-
-fn runs_with_keys(runs: &[SortedRun]) -> bool
-    ensures { result ≡ list_all (λ r. list_all fields.has_keys r.views) runs.now }
-{
-    runs.iter().all(|r| with_keys(r.sst_views()))
-}
-
-// The same of a tree.
-fn tree_with_keys(tree: &LsmTreeState) -> bool
-    ensures { result ≡ list_all fields.has_keys (views_of_tree tree.now) }
-{
-    let (front, back) = tree.l0.as_slices();
-    with_keys(front) && with_keys(back) && runs_with_keys(tree.compacted.as_slice())
-}
-
-fn segments_with_keys(segments: &[Segment]) -> bool
-    ensures { result ≡ list_all (λ s. list_all fields.has_keys (views_of_tree s.tree)) segments.now }
-{
-    segments.iter().all(|s| tree_with_keys(s.tree()))
-}
-
-// The same of all trees.
+// Whether the tables of all views have keys.
 fn all_with_keys(core: &ManifestCore) -> bool
     ensures { result ≡ list_all fields.has_keys (views_of core.now) }
 {
-    tree_with_keys(&core.tree) && segments_with_keys(core.segments())
+    for view in core.views() {
+        if !has_keys(view) {
+            return false;
+        }
+    }
+    true
 }
 
 /// The first of the fields on moments and ids of a manifest that has no bytes.

@@ -1,3 +1,1 @@
-mod Used
-mod Gathering
 pub mod Bodies

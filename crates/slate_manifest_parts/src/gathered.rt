@@ -1,7 +1,7 @@
 //! The tables of views, gathered by id.
 ghost use Rattle.std.specs.Prelude.{◌≡◌, ◌++◌, [], length, IfOk, OnOk, Some, None, map, true, if◌then◌else◌};
 ghost use Rattle.std.specs.List.{flat_map, list_all};
-ghost use Rattle.slate_model.specs.Trees.{views_of, views_of_tree};
+ghost use Rattle.slate_model.specs.Trees.{views_of};
 ghost use Rattle.slate_parts.specs.Bytes.{list_bytes};
 ghost use Rattle.slate_parts.specs.InfoParts.{handle_bytes};
 ghost use Rattle.slate_parts.specs.Typed.{is_handle};
@@ -10,9 +10,7 @@ ghost use Rattle.slate_manifest_parts.specs.Gathered.{gathered, with_view};
 
 use bytes::Bytes;
 use slate_ids::OutOfMemory;
-use slate_model::{
-    LsmTreeState, ManifestCore, Plain, Segment, SortedRun, SsTableHandle, SsTableInfo, SsTableView,
-};
+use slate_model::{ManifestCore, Plain, SsTableHandle, SsTableInfo, SsTableView};
 use slate_parts::{Part, parts_of, table_id, write_count};
 use std::alloc::Global;
 use std::collections::BTreeMap;
@@ -119,67 +117,15 @@ impl Gathered {
         Ok(true)
     }
 
-    /// Adds the tables of these views; whether no two of one id are unequal.
-    fn add_views(&mut self, alloc: Global, views: &[SsTableView]) -> Result<bool, OutOfMemory>
-        ensures { IfOk result (λ alone. gathered views.now self.old ≡ (if alone then Some self.new else None)) }
-    {
-        for view in views {
-            if !self.add_view(alloc, view)? {
-                return Ok(false);
-            }
-        }
-        Ok(true)
-    }
-
-    /// Adds the tables of the views of these runs, as `add_views`.
-    fn add_runs(&mut self, alloc: Global, runs: &[SortedRun]) -> Result<bool, OutOfMemory>
-        ensures { IfOk result (λ alone. gathered (flat_map (λ run. run.views) runs.now) self.old ≡ (if alone then Some self.new else None)) }
-    {
-        for run in runs {
-            if !self.add_views(alloc, run.sst_views())? {
-                return Ok(false);
-            }
-        }
-        Ok(true)
-    }
-
-    /// Adds the tables of the views of a tree, as `add_views`.
-    #[tactic(auto, using(crate::proofs::Gathering::gathered_append))]
-    fn add_tree(&mut self, alloc: Global, tree: &LsmTreeState) -> Result<bool, OutOfMemory>
-        ensures { IfOk result (λ alone. gathered (views_of_tree tree.now) self.old ≡ (if alone then Some self.new else None)) }
-    {
-        let (front, back) = tree.l0.as_slices();
-        if !self.add_views(alloc, front)? {
-            return Ok(false);
-        }
-        if !self.add_views(alloc, back)? {
-            return Ok(false);
-        }
-        Ok(self.add_runs(alloc, tree.compacted.as_slice())?)
-    }
-
-    /// Adds the tables of the views of these segments' trees, as `add_views`.
-    fn add_segments(&mut self, alloc: Global, segments: &[Segment]) -> Result<bool, OutOfMemory>
-        ensures { IfOk result (λ alone. gathered (flat_map (λ s. views_of_tree s.tree) segments.now) self.old ≡ (if alone then Some self.new else None)) }
-    {
-        for segment in segments {
-            if !self.add_tree(alloc, segment.tree())? {
-                return Ok(false);
-            }
-        }
-        Ok(true)
-    }
-
     /// The tables of all views; none where two of one id are unequal.
     pub fn of_core(alloc: Global, core: &ManifestCore) -> Result<Option<Gathered>, OutOfMemory>
         ensures { IfOk result (λ tables. tables ≡ gathered (views_of core.now) []) }
     {
         let mut tables = Gathered::new(alloc);
-        if !tables.add_tree(alloc, &core.tree)? {
-            return Ok(None);
-        }
-        if !tables.add_segments(alloc, core.segments())? {
-            return Ok(None);
+        for view in core.views() {
+            if !tables.add_view(alloc, view)? {
+                return Ok(None);
+            }
         }
         Ok(Some(tables))
     }

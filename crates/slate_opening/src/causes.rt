@@ -1,13 +1,12 @@
 //! Why databases whose values have bytes can't be the beginning of a run.
 ghost use Rattle.std.specs.Prelude.{◌≡◌};
-ghost use Rattle.std.specs.List.{list_any, flat_map};
-ghost use Rattle.slate_model.specs.Trees.{views_of_tree, tables_of_views};
+ghost use Rattle.std.specs.List.{list_any};
 ghost use Rattle.slate_protocol.specs.Specs as opens;
 
 use crate::objects::Objects;
 use slate_events::{ClusterCause, DbSpec};
 use slate_ids::{DbPath, ObjectPath};
-use slate_model::{ExternalDb, LsmTreeState, Segment, SortedRun, SsTableId, SsTableView};
+use slate_model::{ExternalDb, Segment, SsTableId};
 
 // Whether a segment's prefix begins with another's.
 fn overlaps(spec: &DbSpec) -> bool
@@ -70,46 +69,12 @@ fn is_absent(objects: &Objects, spec: &DbSpec, id: &SsTableId) -> bool
     }
 }
 
-// Whether the table of one of these views is absent.
-fn views_lack(objects: &Objects, spec: &DbSpec, views: &[SsTableView]) -> bool
-    ensures { result ≡ list_any (opens.is_absent objects.now.entries spec.now) (tables_of_views views.now) }
-{
-    for view in views {
-        if is_absent(objects, spec, &view.sst.id) {
-            return true;
-        }
-    }
-    false
-}
-
-// Whether a table of one of these runs is absent.
-fn runs_lack(objects: &Objects, spec: &DbSpec, runs: &[SortedRun]) -> bool
-    ensures { result ≡ list_any (opens.is_absent objects.now.entries spec.now) (tables_of_views (flat_map (λ run. run.views) runs.now)) }
-{
-    for run in runs {
-        if views_lack(objects, spec, run.sst_views()) {
-            return true;
-        }
-    }
-    false
-}
-
-// Whether a table of a tree is absent.
-fn tree_lacks(objects: &Objects, spec: &DbSpec, tree: &LsmTreeState) -> bool
-    ensures { result ≡ list_any (opens.is_absent objects.now.entries spec.now) (tables_of_views (views_of_tree tree.now)) }
-{
-    let (front, back) = tree.l0.as_slices();
-    views_lack(objects, spec, front)
-        || views_lack(objects, spec, back)
-        || runs_lack(objects, spec, tree.compacted.as_slice())
-}
-
 // Whether a table of a tree of a database is absent.
 fn lacks_table(objects: &Objects, spec: &DbSpec) -> bool
     ensures { result ≡ opens.lacks_table objects.now.entries spec.now }
 {
-    for tree in spec.manifest.core.trees() {
-        if tree_lacks(objects, spec, tree) {
+    for view in spec.manifest.core.views() {
+        if is_absent(objects, spec, &view.sst.id) {
             return true;
         }
     }
