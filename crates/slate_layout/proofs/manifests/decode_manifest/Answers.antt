@@ -5,5 +5,5 @@ use Rattle.slate_layout.proofs.manifests.decode_manifest.Goals as goal
 
 pub returns-clause-only : goal.returns-clause-only
 returns-clause-only c =
-    let read : decoded_manifest c.args.bytes.now ≡ Ok c.in_ok-decode_manifest.field-0 = search rules in
-    only_written c.args.bytes.now c.in_ok-decode_manifest.field-0 (record { small = λ i. search rules }) read
+    let read : decoded_manifest c.args.bytes.now ≡ Ok c.in_ok-read.read = search rules in
+    only_written c.args.bytes.now c.in_ok-read.read (record { small = λ i. search rules }) read

@@ -5,5 +5,5 @@ use Rattle.slate_record_bytes.proofs.record_reading.decode_compactions.Goals as 
 
 pub returns-clause-only : goal.returns-clause-only
 returns-clause-only c =
-    let read : decoded_record c.args.bytes.now ≡ Ok c.in_ok-decode.field-0 = search rules in
-    only_written c.args.bytes.now c.in_ok-decode.field-0 (record { small = λ i. search rules }) read
+    let read : decoded_record c.args.bytes.now ≡ Ok c.in_ok-read.read = search rules in
+    only_written c.args.bytes.now c.in_ok-read.read (record { small = λ i. search rules }) read
