@@ -59,7 +59,7 @@ pub trait Form<T: Drop> {
 }
 
 // Adds the bytes of each value at the end.
-fn write_each<T: Drop, F: Form<T>>(items: &[T], out: &mut Vec<u8>) -> Result<(), OutOfMemory>
+pub(crate) fn write_each<T: Drop, F: Form<T>>(items: &[T], out: &mut Vec<u8>) -> Result<(), OutOfMemory>
     ensures bytes { OnOk result (out.new.items ≡ out.old.items ++ flat_map F.bytes items.now) }
     ensures typed { OnOk result (list_all F.is_typed items.now ≡ true) }
 {
@@ -99,6 +99,23 @@ fn read_each<'a, T: Drop, F: Form<T>>(
         }
     }
     Ok(Some((items, left)))
+}
+
+// A list of values of a form, where bytes begin with one.
+pub(crate) fn read_list<'a, T: Drop, F: Form<T>>(
+    alloc: Global,
+    tables: &Tables,
+    from: Reader<'a>,
+) -> Result<Option<(Listed<T>, Reader<'a>)>, OutOfMemory>
+    ensures { IfOk result (λ read. read ≡ reading.list_in (F.in_front tables.now) F.LEAST from.entry) }
+{
+    let Some((count, from)) = from.u32() else {
+        return Ok(None);
+    };
+    if !has_room(count, F::LEAST, &from) {
+        return Ok(None);
+    }
+    read_each::<T, F>(alloc, tables, count as usize, from)
 }
 
 /// The form of parts: as they stand.
@@ -202,12 +219,6 @@ impl<T: Drop, F: Form<T>> Form<Listed<T>> for ListOf<F> {
         tables: &Tables,
         from: Reader<'a>,
     ) -> Result<Option<(Listed<T>, Reader<'a>)>, OutOfMemory> {
-        let Some((count, from)) = from.u32() else {
-            return Ok(None);
-        };
-        if !has_room(count, F::LEAST, &from) {
-            return Ok(None);
-        }
-        read_each::<T, F>(alloc, tables, count as usize, from)
+        read_list::<T, F>(alloc, tables, from)
     }
 }

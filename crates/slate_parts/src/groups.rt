@@ -1,15 +1,14 @@
 //! The bytes of pairs, options and lists.
-ghost use Rattle.std.specs.Prelude.{◌≡◌, ◌++◌, ◌<◌, ◌^◌, ◌*◌, nat_le, true, length, OnOk, IfOk};
+ghost use Rattle.std.specs.Prelude.{◌≡◌, ◌++◌, ◌<◌, ◌^◌, ◌*◌, nat_le, true, length, OnOk};
 ghost use Rattle.std.specs.List.{flat_map, list_all};
 ghost use Rattle.std.proofs.Common.{arith};
 ghost use Rattle.slate_parts.specs.Bytes as bytes;
 ghost use Rattle.slate_parts.specs.Reading as reading;
-ghost use Rattle.slate_parts.specs.Reading.{items_in, room_in};
 ghost use Rattle.slate_parts.specs.Reads.{PairFits, OptionFits, ListFits};
 ghost use Rattle.slate_parts.specs.laws.Groups.{pair_reads, option_reads, list_reads};
 ghost use Rattle.slate_parts.specs.Typed as typed;
 
-use crate::numbers::write_count;
+use crate::form::{Itself, read_list, write_each, write_list};
 use crate::part::Part;
 use crate::reader::Reader;
 use crate::tables::Tables;
@@ -103,33 +102,7 @@ pub fn write_items<T: Part>(items: &[T], out: &mut Vec<u8>) -> Result<(), OutOfM
     ensures bytes { OnOk result (out.new.items ≡ out.old.items ++ flat_map T.bytes items.now) }
     ensures typed { OnOk result (list_all T.is_typed items.now ≡ true) }
 {
-    for item in items {
-        item.write(out)?;
-    }
-    Ok(())
-}
-
-// So many values, one after the other.
-fn read_items<'a, T: Part>(
-    alloc: Global,
-    tables: &Tables,
-    count: usize,
-    from: Reader<'a>,
-) -> Result<Option<(Listed<T>, Reader<'a>)>, OutOfMemory>
-    ensures { IfOk result (λ read. read ≡ items_in (T.in_front tables.now) count from.entry) }
-{
-    let mut items = Listed::new(alloc);
-    let mut left = from;
-    for _ in 0..count {
-        match T::read(alloc, tables, left)? {
-            Some((item, rest)) => {
-                items.push(item)?;
-                left = rest;
-            }
-            None => return Ok(None),
-        }
-    }
-    Ok(Some((items, left)))
+    write_each::<T, Itself>(items, out)
 }
 
 /// Whether so many values of at least so many bytes can be left.
@@ -158,9 +131,7 @@ impl<T: Part> Part for Listed<T> {
     ghost reads = { λ tables. list_reads (T.in_front tables) T.bytes (T.Fits tables) T.LEAST (T.reads tables) };
 
     fn write(&self, out: &mut Vec<u8>) -> Result<(), OutOfMemory> {
-        let items = self.as_slice();
-        write_count(items.len(), out)?;
-        write_items(items, out)
+        write_list::<T, Itself>(self.as_slice(), out)
     }
 
     fn read<'a>(
@@ -168,12 +139,6 @@ impl<T: Part> Part for Listed<T> {
         tables: &Tables,
         from: Reader<'a>,
     ) -> Result<Option<(Listed<T>, Reader<'a>)>, OutOfMemory> {
-        let Some((count, from)) = from.u32() else {
-            return Ok(None);
-        };
-        if !has_room(count, T::LEAST, &from) {
-            return Ok(None);
-        }
-        read_items(alloc, tables, count as usize, from)
+        read_list::<T, Itself>(alloc, tables, from)
     }
 }
