@@ -28,6 +28,8 @@ pub fn unequal_handles()
 /// A list of version 1 whose count is refused by the number of bytes that are left, before any item is read, has an item that can't be
 /// read: so the look at the bytes that are left loses none.
 pub fn first_version_lists()
-    ensures views { (bytes : List ℕ) → AreBytes bytes → old_views_in bytes ≡ counted_items_in old_view_in bytes }
-    ensures runs { (bytes : List ℕ) → AreBytes bytes → list_in old_run_in 4 bytes ≡ counted_items_in old_run_in bytes }
+    ensures views { (bytes : List ℕ) → AreBytes bytes
+        → old_views_in bytes ≡ counted_items_in old_view_in bytes }
+    ensures runs { (bytes : List ℕ) → AreBytes bytes
+        → list_in old_run_in 4 bytes ≡ counted_items_in old_run_in bytes }
 {}

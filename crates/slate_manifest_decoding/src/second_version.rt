@@ -128,7 +128,8 @@ fn manifest_after(
     handles: Vec<SsTableHandle>,
     from: Reader<'_>,
 ) -> Result<Option<Manifest>, OutOfMemory>
-    ensures { IfOk result (λ read. read ≡ (if ascend handles.items then parts.manifest_among handles.items from.entry else None)) }
+    ensures { IfOk result (λ read.
+        read ≡ (if ascend handles.items then parts.manifest_among handles.items from.entry else None)) }
 {
     match Tables::from_vec(handles) {
         Some(tables) => Ok(manifest_among(alloc, &tables, from)?),

@@ -175,5 +175,5 @@ gathered_as views tables ascending there used =
       all = g.all;
       at = g.at;
       same = same_tables (values g.all) tables well.ascending ascending (λ q.
-        at_id q g.all well.keyed ∙ same_found q views tables g.all (lookup (is_at (id_cmp q)) g.all) (table_at q tables) refl refl g.agrees has used);
+          at_id q g.all well.keyed ∙ same_found q views tables g.all (lookup (is_at (id_cmp q)) g.all) (table_at q tables) refl refl g.agrees has used);
     }

@@ -12,13 +12,13 @@ use slate_ids::{FieldName, OutOfMemory, SlateDBError};
 use slate_manifest_parts::{
     CheckpointForm, EntryForm, Gathered, SegmentForm, TrackerForm, TreeForm,
 };
-use slate_model::{Checkpoint, ExternalDb, Manifest, ManifestCore, Segment};
+use slate_model::{Checkpoint, ExternalDb, Manifest, Segment};
 use slate_parts::{Form, Part, write_list};
 use std::alloc::Global;
 
 // Adds the bytes of the head: the flag, the epochs, and the files of the write-ahead log.
 fn write_head(manifest: &Manifest, out: &mut Vec<u8>) -> Result<(), OutOfMemory>
-    ensures bytes { OnOk result (out.new.items ≡ out.old.items ++ parts.head_bytes (parts.body_of manifest.now).0) }
+    ensures bytes { OnOk result (out.new.items ≡ out.old.items ++ parts.head_bytes (parts.head_of manifest.now)) }
     ensures typed { OnOk result (typed.is_front manifest.now ≡ true) }
 {
     let core = &manifest.core;
@@ -31,10 +31,11 @@ fn write_head(manifest: &Manifest, out: &mut Vec<u8>) -> Result<(), OutOfMemory>
 }
 
 // Adds the bytes of the middle: the extractor's name, the tick, and the sequence numbers.
-fn write_middle(core: &ManifestCore, out: &mut Vec<u8>) -> Result<(), OutOfMemory>
-    ensures bytes { OnOk result (out.new.items ≡ out.old.items ++ parts.middle_bytes (core.now.segment_extractor_name, (core.now.last_l0_clock_tick, (core.now.last_l0_seq, core.now.recent_snapshot_min_seq)))) }
-    ensures typed { OnOk result (typed.is_middle (core.now.segment_extractor_name, (core.now.last_l0_clock_tick, (core.now.last_l0_seq, core.now.recent_snapshot_min_seq))) ≡ true) }
+fn write_middle(manifest: &Manifest, out: &mut Vec<u8>) -> Result<(), OutOfMemory>
+    ensures bytes { OnOk result (out.new.items ≡ out.old.items ++ parts.middle_bytes (parts.middle_of manifest.now)) }
+    ensures typed { OnOk result (typed.is_middle (parts.middle_of manifest.now) ≡ true) }
 {
+    let core = &manifest.core;
     core.segment_extractor_name.write(out)?;
     core.last_l0_clock_tick.write(out)?;
     (core.last_l0_seq, core.recent_snapshot_min_seq).write(out)
@@ -42,8 +43,8 @@ fn write_middle(core: &ManifestCore, out: &mut Vec<u8>) -> Result<(), OutOfMemor
 
 // Adds the bytes of the tail: the tracker, the checkpoints, the entries, and the floor.
 fn write_tail(manifest: &Manifest, out: &mut Vec<u8>) -> Result<(), OutOfMemory>
-    ensures bytes { OnOk result (out.new.items ≡ out.old.items ++ parts.tail_bytes (parts.body_of manifest.now).1.1.1.1) }
-    ensures typed { OnOk result (typed.is_tail (parts.body_of manifest.now).1.1.1.1 ≡ true) }
+    ensures bytes { OnOk result (out.new.items ≡ out.old.items ++ parts.tail_bytes (parts.tail_of manifest.now)) }
+    ensures typed { OnOk result (typed.is_tail (parts.tail_of manifest.now) ≡ true) }
 {
     let checkpoints = manifest.core.checkpoints.as_slice();
     let entries = manifest.external_dbs.as_slice();
@@ -54,10 +55,11 @@ fn write_tail(manifest: &Manifest, out: &mut Vec<u8>) -> Result<(), OutOfMemory>
 }
 
 // Adds the bytes of the root tree and of the segments.
-fn write_trees(core: &ManifestCore, out: &mut Vec<u8>) -> Result<(), OutOfMemory>
-    ensures bytes { OnOk result (out.new.items ≡ out.old.items ++ (parts.trees_bytes (core.now.tree, core.now.segments))) }
-    ensures typed { OnOk result (typed.are_trees (core.now.tree, core.now.segments) ≡ true) }
+fn write_trees(manifest: &Manifest, out: &mut Vec<u8>) -> Result<(), OutOfMemory>
+    ensures bytes { OnOk result (out.new.items ≡ out.old.items ++ parts.trees_bytes (parts.trees_of manifest.now)) }
+    ensures typed { OnOk result (typed.are_trees (parts.trees_of manifest.now) ≡ true) }
 {
+    let core = &manifest.core;
     TreeForm::write(&core.tree, out)?;
     write_list::<Segment, SegmentForm>(core.segments(), out)
 }
@@ -68,8 +70,8 @@ fn write_body(manifest: &Manifest, out: &mut Vec<u8>) -> Result<(), OutOfMemory>
     ensures typed { OnOk result (typed.is_body manifest.now ≡ true) }
 {
     write_head(manifest, out)?;
-    write_trees(&manifest.core, out)?;
-    write_middle(&manifest.core, out)?;
+    write_trees(manifest, out)?;
+    write_middle(manifest, out)?;
     write_tail(manifest, out)
 }
 

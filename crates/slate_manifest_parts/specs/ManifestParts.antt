@@ -48,6 +48,19 @@ manifest_of b = if not (b.0.1.1.1 == last_number) && are_ascending b.1.1.0 then 
 abbrev pub body_of : Manifest → Body
 body_of m = ((m.core.initialized, ((m.writer_epoch, m.compactor_epoch), (m.core.replay_after_wal_id, m.core.next_wal_sst_id - 1))), (m.core.tree, (m.core.segments, ((m.core.segment_extractor_name, (m.core.last_l0_clock_tick, (m.core.last_l0_seq, m.core.recent_snapshot_min_seq))), (m.core.sequence_tracker, (m.core.checkpoints, (m.external_dbs, m.core.floor)))))))
 
+abbrev pub head_of : Manifest → Head
+head_of m = (body_of m).0
+
+-- the root tree and the segments
+abbrev pub trees_of : Manifest → LsmTreeState × List Prefixed
+trees_of m = (m.core.tree, m.core.segments)
+
+abbrev pub middle_of : Manifest → Middle
+middle_of m = (body_of m).1.1.1.0
+
+abbrev pub tail_of : Manifest → Tail
+tail_of m = (body_of m).1.1.1.1
+
 -- ---- their bytes
 
 abbrev pub two_in : List ℕ → Option ((ℕ × ℕ) × List ℕ)

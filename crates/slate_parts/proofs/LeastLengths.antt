@@ -25,18 +25,18 @@ shorter least front rest bytes is long = let joined = length-append front rest i
 pub reads_take : {X : Type 0} (read : List ℕ → Option (X × List ℕ)) (write : X → List ℕ) (Fits : X → Type 0) (least : ℕ) → Reads read write Fits least → Takes read least
 reads_take {X} read write Fits least h = record {
   takes = λ bytes x rest small e.
-    let one = h.only bytes x rest small e in
-    record { left = shorter least (write x) rest bytes one.front_is.is (h.long x one.fits); rest_small = one.front_is.rest_small };
+      let one = h.only bytes x rest small e in
+      record { left = shorter least (write x) rest bytes one.front_is.is (h.long x one.fits); rest_small = one.front_is.rest_small };
 }
 
 -- so does what is made of it
 pub made_take : {X Y : Type 0} (make : X → Option Y) (read : List ℕ → Option (X × List ℕ)) (least : ℕ) → Takes read least → Takes (made_in make read) least
 made_take {X} {Y} make read least h = record {
   takes = λ bytes y rest small e.
-    let s = steps (read bytes) (λ x. make x.0 >>= λ y. Some (y, x.1)) (y, rest) e in
-    let t = steps (make s.value.0) (λ y. Some (y, s.value.1)) (y, rest) s.at_next in
-    let same = same_found _ _ _ _ t.at_next in
-    subst (λ (l : List ℕ). IsShorter least bytes l) same.1 (h.takes bytes s.value.0 s.value.1 small s.at_first);
+      let s = steps (read bytes) (λ x. make x.0 >>= λ y. Some (y, x.1)) (y, rest) e in
+      let t = steps (make s.value.0) (λ y. Some (y, s.value.1)) (y, rest) s.at_next in
+      let same = same_found _ _ _ _ t.at_next in
+      subst (λ (l : List ℕ). IsShorter least bytes l) same.1 (h.takes bytes s.value.0 s.value.1 small s.at_first);
 }
 
 both_left : (a b c m n : ℕ) → a + m ≤ n → b + c ≤ m → a + c ≤ n
@@ -46,12 +46,12 @@ both_left a b c m n h g = omega (arith, h, g)
 pub pair_take : {X Y : Type 0} (read : List ℕ → Option (X × List ℕ)) (least : ℕ) → Takes read least → (next : List ℕ → Option (Y × List ℕ)) (also : ℕ) → Takes next also → Takes (pair_in read next) least
 pair_take {X} {Y} read least h next also g = record {
   takes = λ bytes p rest small e.
-    let s = steps (read bytes) (λ x. next x.1 >>= λ y. Some ((x.0, y.0), y.1)) (p, rest) e in
-    let t = steps (next s.value.1) (λ y. Some ((s.value.0, y.0), y.1)) (p, rest) s.at_next in
-    let one = h.takes bytes s.value.0 s.value.1 small s.at_first in
-    let two = g.takes s.value.1 t.value.0 t.value.1 one.rest_small t.at_first in
-    let same = same_found _ _ _ _ t.at_next in
-    subst (λ (l : List ℕ). IsShorter least bytes l) same.1 (record { left = both_left least also (length t.value.1) (length s.value.1) (length bytes) one.left two.left; rest_small = two.rest_small });
+      let s = steps (read bytes) (λ x. next x.1 >>= λ y. Some ((x.0, y.0), y.1)) (p, rest) e in
+      let t = steps (next s.value.1) (λ y. Some ((s.value.0, y.0), y.1)) (p, rest) s.at_next in
+      let one = h.takes bytes s.value.0 s.value.1 small s.at_first in
+      let two = g.takes s.value.1 t.value.0 t.value.1 one.rest_small t.at_first in
+      let same = same_found _ _ _ _ t.at_next in
+      subst (λ (l : List ℕ). IsShorter least bytes l) same.1 (record { left = both_left least also (length t.value.1) (length s.value.1) (length bytes) one.left two.left; rest_small = two.rest_small });
 }
 
 -- ---- lists

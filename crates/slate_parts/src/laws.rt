@@ -10,5 +10,6 @@ use crate::form::Form;
 /// A list whose count is refused by the number of bytes that are left, before any item is read, has an item that can't be read: so the
 /// look at the bytes that are left loses no list of a form.
 pub fn lists_are_whole<T: Drop, F: Form<T>>()
-    ensures { (tables : List SsTableHandle) (bytes : List ℕ) → AreBytes bytes → list_in (F.in_front tables) F.LEAST bytes ≡ counted_items_in (F.in_front tables) bytes }
+    ensures { (tables : List SsTableHandle) (bytes : List ℕ) → AreBytes bytes
+        → list_in (F.in_front tables) F.LEAST bytes ≡ counted_items_in (F.in_front tables) bytes }
 {}

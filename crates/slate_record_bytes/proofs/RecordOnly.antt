@@ -79,10 +79,10 @@ compaction_short : (raw : Raw) → RawFits raw → short_compaction (compaction_
 compaction_short raw fits =
     let outputs = fits.1.1.1.1.0 in
     and_from _ _ (spec_short raw.1.0 fits.1.0) (and_from _ _ (option_told WorkerFits short_worker worker_short raw.1.1.1.0 fits.1.1.1.0) (and_from _ _
-      (and_from _ _
-        (kept_few (has_outputs raw.1.1.0) raw.1.1.1.1.0 (is_few (length raw.1.1.1.1.0) outputs.few))
-        (kept_pass (has_outputs raw.1.1.0) short_handle raw.1.1.1.1.0 (all_told HandleFits short_handle (λ h f. (is_table h f).short) raw.1.1.1.1.0 outputs.each)))
-      (option_told ContextFits short_context context_short raw.1.1.1.1.1 fits.1.1.1.1.1)))
+    (and_from _ _
+    (kept_few (has_outputs raw.1.1.0) raw.1.1.1.1.0 (is_few (length raw.1.1.1.1.0) outputs.few))
+    (kept_pass (has_outputs raw.1.1.0) short_handle raw.1.1.1.1.0 (all_told HandleFits short_handle (λ h f. (is_table h f).short) raw.1.1.1.1.0 outputs.each)))
+    (option_told ContextFits short_context context_short raw.1.1.1.1.1 fits.1.1.1.1.1)))
 
 made_pass : (test : Compaction → Bool) → ((raw : Raw) → RawFits raw → test (compaction_of raw) ≡ true) → (raws : List Raw) → EachFits RawFits raws → list_all test (map compaction_of raws) ≡ true
 made_pass test tell [] fits = refl

@@ -61,6 +61,13 @@ compaction_of r = record { id = r.0; spec = r.1.0; status = r.1.1.0; worker = r.
 abbrev pub raw_of : Compaction → Raw
 raw_of c = (c.id, (c.spec, (c.status, (c.worker, (kept_outputs c.status c.output_ssts, c.ctx)))))
 
+-- the outputs of a compaction that are kept
+abbrev pub kept_of : Compaction → List SsTableHandle
+kept_of c = kept_outputs c.status c.output_ssts
+
+abbrev pub compaction_bytes : Compaction → List ℕ
+compaction_bytes c = raw_bytes (raw_of c)
+
 -- ---- records
 
 -- whether an id stands before the first of these
@@ -80,6 +87,10 @@ record_of p = if raws_ascend p.1 then Some (record { compactor_epoch = p.0; entr
 -- the bytes of a record after those of its version
 abbrev pub entries_bytes : ℕ × List Raw → List ℕ
 entries_bytes = pair_bytes u64_bytes (list_bytes raw_bytes)
+
+-- the epoch and the compactions' parts of a record
+abbrev pub entries_of : Record → ℕ × List Raw
+entries_of r = (r.compactor_epoch, map raw_of r.entries)
 
 abbrev pub entries_in : List ℕ → Option ((ℕ × List Raw) × List ℕ)
 entries_in = pair_in u64_in (list_in raw_in 8)

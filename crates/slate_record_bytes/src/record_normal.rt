@@ -75,7 +75,7 @@ fn normal_outputs(
     alloc: Global,
     compaction: &Compaction,
 ) -> Result<Listed<SsTableHandle>, OutOfMemory>
-    ensures { IfOk result (λ made. made ≡ records.kept_outputs compaction.now.status compaction.now.output_ssts) }
+    ensures { IfOk result (λ made. made ≡ records.kept_of compaction.now) }
 {
     if has_outputs(compaction.status) {
         Ok(compaction.output_ssts.clone(alloc)?)
@@ -119,7 +119,8 @@ fn normal_entries(
     entries: CompactionsIter<'_>,
 ) -> Result<Compactions, OutOfMemory>
     requires ascending { are_ascending entries ≡ true }
-    ensures { IfOk result (λ made. made ≡ record { compactor_epoch = epoch; entries = map normal.normal_compaction entries.entry }) }
+    ensures { IfOk result (λ made.
+        made ≡ record { compactor_epoch = epoch; entries = map normal.normal_compaction entries.entry }) }
 {
     let mut made = Compactions::new(alloc, epoch);
     for compaction in entries {

@@ -20,8 +20,8 @@ use std::alloc::Global;
 
 // Adds the bytes of the outputs that are kept at the end.
 fn write_outputs(compaction: &Compaction, out: &mut Vec<u8>) -> Result<(), OutOfMemory>
-    ensures bytes { OnOk result (out.new.items ≡ out.old.items ++ list_bytes handle_bytes (records.kept_outputs compaction.now.status compaction.now.output_ssts)) }
-    ensures typed { OnOk result (list_all is_handle (records.kept_outputs compaction.now.status compaction.now.output_ssts) ≡ true) }
+    ensures bytes { OnOk result (out.new.items ≡ out.old.items ++ list_bytes handle_bytes (records.kept_of compaction.now)) }
+    ensures typed { OnOk result (list_all is_handle (records.kept_of compaction.now) ≡ true) }
 {
     if has_outputs(compaction.status) {
         compaction.output_ssts.write(out)
@@ -32,7 +32,7 @@ fn write_outputs(compaction: &Compaction, out: &mut Vec<u8>) -> Result<(), OutOf
 
 // Adds the bytes of a compaction at the end.
 fn write_compaction(compaction: &Compaction, out: &mut Vec<u8>) -> Result<(), OutOfMemory>
-    ensures bytes { OnOk result (out.new.items ≡ out.old.items ++ records.raw_bytes (records.raw_of compaction.now)) }
+    ensures bytes { OnOk result (out.new.items ≡ out.old.items ++ records.compaction_bytes compaction.now) }
     ensures typed { OnOk result (fields.is_compaction compaction.now ≡ true) }
 {
     compaction.id.write(out)?;
@@ -56,7 +56,7 @@ fn write_entries(entries: CompactionsIter<'_>, out: &mut Vec<u8>) -> Result<(), 
 
 // Adds the epoch and the compactions of a record at the end.
 fn write_record(compactions: &Compactions, out: &mut Vec<u8>) -> Result<(), OutOfMemory>
-    ensures bytes { OnOk result (out.new.items ≡ out.old.items ++ records.entries_bytes (compactions.now.compactor_epoch, map records.raw_of compactions.now.entries)) }
+    ensures bytes { OnOk result (out.new.items ≡ out.old.items ++ records.entries_bytes (records.entries_of compactions.now)) }
     ensures typed { OnOk result (fields.is_record compactions.now ≡ true) }
 {
     compactions.compactor_epoch.write(out)?;
