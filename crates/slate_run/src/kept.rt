@@ -37,7 +37,11 @@ impl<S: Source> Kept<S> {
 impl<S: Source + Drop> Kept<S> {
     /// The bytes that were read, none of them where memory ran out.
     pub(crate) fn into_bytes(self, alloc: Global) -> Vec<u8> {
-        match self.bytes {
+        let Kept {
+            source: _source,
+            bytes,
+        } = self;
+        match bytes {
             Some(bytes) => bytes,
             None => Vec::new(alloc),
         }
