@@ -17,7 +17,8 @@ pub(crate) type Groups = BTreeMap<Bytes, TreeItems>;
 #[tactic(auto, using(crate::proofs::Grouped::taken_at))]
 fn take_group(alloc: Global, groups: &mut Groups, prefix: &Bytes) -> TreeItems
     ensures group { result ≡ group_at groups.old prefix.now }
-    ensures others { (q : List ℕ) → bytes_eq prefix.now q ≡ false → group_at groups.new q ≡ group_at groups.old q }
+    ensures others { (q : List ℕ) → bytes_eq prefix.now q ≡ false → group_at groups.new q
+        ≡ group_at groups.old q }
 {
     match groups.remove(prefix) {
         Some(group) => group,
@@ -32,7 +33,8 @@ fn take_group(alloc: Global, groups: &mut Groups, prefix: &Bytes) -> TreeItems
 // Puts the items of a prefix in the place of those that it has.
 #[tactic(auto, using(crate::proofs::Grouped::put_at))]
 fn put_group(groups: &mut Groups, prefix: Bytes, group: TreeItems) -> Result<(), OutOfMemory>
-    ensures { OnOk result ((q : List ℕ) → group_at groups.new q ≡ (if bytes_eq prefix q then group else group_at groups.old q)) }
+    ensures { OnOk result ((q : List ℕ) → group_at groups.new q
+        ≡ (if bytes_eq prefix q then group else group_at groups.old q)) }
 {
     groups.insert(prefix, group)?;
     Ok(())
@@ -40,7 +42,9 @@ fn put_group(groups: &mut Groups, prefix: Bytes, group: TreeItems) -> Result<(),
 
 // Adds an item of `l0` at the end of its prefix's.
 fn add_l0(alloc: Global, groups: &mut Groups, item: &L0Item) -> Result<(), OutOfMemory>
-    ensures { OnOk result ((q : List ℕ) → group_at groups.new q ≡ (if is_l0_of q item.now then with_l0 (group_at groups.old q) (item.now ∷ []) else group_at groups.old q)) }
+    ensures { OnOk result ((q : List ℕ) → group_at groups.new q
+        ≡ (if is_l0_of q item.now then with_l0 (group_at groups.old q) (item.now ∷ [])
+        else group_at groups.old q)) }
 {
     let mut group = take_group(alloc, groups, &item.prefix);
     group.l0.push(item.copy()?)?;
@@ -49,7 +53,9 @@ fn add_l0(alloc: Global, groups: &mut Groups, item: &L0Item) -> Result<(), OutOf
 
 // Adds an item of `runs` at the end of its prefix's.
 fn add_run(alloc: Global, groups: &mut Groups, item: &RunItem) -> Result<(), OutOfMemory>
-    ensures { OnOk result ((q : List ℕ) → group_at groups.new q ≡ (if is_run_of q item.now then with_runs (group_at groups.old q) (item.now ∷ []) else group_at groups.old q)) }
+    ensures { OnOk result ((q : List ℕ) → group_at groups.new q
+        ≡ (if is_run_of q item.now then with_runs (group_at groups.old q) (item.now ∷ [])
+        else group_at groups.old q)) }
 {
     let mut group = take_group(alloc, groups, &item.prefix);
     group.runs.push(item.copy(alloc)?)?;
@@ -58,7 +64,9 @@ fn add_run(alloc: Global, groups: &mut Groups, item: &RunItem) -> Result<(), Out
 
 // Adds an item of `markers` at the end of its prefix's.
 fn add_marker(alloc: Global, groups: &mut Groups, item: &MarkerItem) -> Result<(), OutOfMemory>
-    ensures { OnOk result ((q : List ℕ) → group_at groups.new q ≡ (if is_marker_of q item.now then with_markers (group_at groups.old q) (item.now ∷ []) else group_at groups.old q)) }
+    ensures { OnOk result ((q : List ℕ) → group_at groups.new q
+        ≡ (if is_marker_of q item.now then with_markers (group_at groups.old q) (item.now ∷ [])
+        else group_at groups.old q)) }
 {
     let mut group = take_group(alloc, groups, &item.prefix);
     group.markers.push(item.copy()?)?;
@@ -67,7 +75,8 @@ fn add_marker(alloc: Global, groups: &mut Groups, item: &MarkerItem) -> Result<(
 
 // Adds items of `l0`.
 fn add_all_l0(alloc: Global, groups: &mut Groups, items: &[L0Item]) -> Result<(), OutOfMemory>
-    ensures { OnOk result ((q : List ℕ) → group_at groups.new q ≡ with_l0 (group_at groups.old q) (filter (is_l0_of q) items.now)) }
+    ensures { OnOk result ((q : List ℕ) → group_at groups.new q
+        ≡ with_l0 (group_at groups.old q) (filter (is_l0_of q) items.now)) }
 {
     for item in items {
         add_l0(alloc, groups, item)?;
@@ -77,7 +86,8 @@ fn add_all_l0(alloc: Global, groups: &mut Groups, items: &[L0Item]) -> Result<()
 
 // Adds items of `runs`.
 fn add_runs(alloc: Global, groups: &mut Groups, items: &[RunItem]) -> Result<(), OutOfMemory>
-    ensures { OnOk result ((q : List ℕ) → group_at groups.new q ≡ with_runs (group_at groups.old q) (filter (is_run_of q) items.now)) }
+    ensures { OnOk result ((q : List ℕ) → group_at groups.new q
+        ≡ with_runs (group_at groups.old q) (filter (is_run_of q) items.now)) }
 {
     for item in items {
         add_run(alloc, groups, item)?;
@@ -87,7 +97,8 @@ fn add_runs(alloc: Global, groups: &mut Groups, items: &[RunItem]) -> Result<(),
 
 // Adds items of `markers`.
 fn add_markers(alloc: Global, groups: &mut Groups, items: &[MarkerItem]) -> Result<(), OutOfMemory>
-    ensures { OnOk result ((q : List ℕ) → group_at groups.new q ≡ with_markers (group_at groups.old q) (filter (is_marker_of q) items.now)) }
+    ensures { OnOk result ((q : List ℕ) → group_at groups.new q
+        ≡ with_markers (group_at groups.old q) (filter (is_marker_of q) items.now)) }
 {
     for item in items {
         add_marker(alloc, groups, item)?;

@@ -38,7 +38,9 @@ fn named_prefixes(alloc: Global, items: &TreeItems) -> Result<Listed<Bytes>, Out
 
 // Adds a prefix, where it is another than "".
 fn add_prefix(prefixes: &mut Prefixes, prefix: &Bytes) -> Result<(), OutOfMemory>
-    ensures { OnOk result (prefixes.new.keys ≡ (if is_some_prefix prefix.now then insert_key (slice_cmp nat_cmp) prefixes.old.keys prefix.now else prefixes.old.keys)) }
+    ensures { OnOk result (prefixes.new.keys
+        ≡ (if is_some_prefix prefix.now then insert_key (slice_cmp nat_cmp) prefixes.old.keys prefix.now
+        else prefixes.old.keys)) }
 {
     if !prefix.is_empty() {
         prefixes.insert(prefix.clone()?)?;

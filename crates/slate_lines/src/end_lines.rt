@@ -14,7 +14,8 @@ pub fn push_commits(
     manifest: u64,
     compactions: u64,
 ) -> Result<(), AllocError>
-    ensures { OnOk result (string_bytes out.new ≡ string_bytes out.old ++ lines.commits_line db.now manifest compactions) }
+    ensures { OnOk result (string_bytes out.new
+        ≡ string_bytes out.old ++ lines.commits_line db.now manifest compactions) }
 {
     writeln!(
         out,

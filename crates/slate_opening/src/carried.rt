@@ -164,7 +164,8 @@ pub fn carry(
     number: u32,
     call: &Call,
 ) -> Result<(), OutOfMemory>
-    ensures ok { OnOk result (carried.new.entries ≡ ids.with_ids (ids.ids_of number call.now) carried.old.entries) }
+    ensures ok { OnOk result (carried.new.entries
+        ≡ ids.with_ids (ids.ids_of number call.now) carried.old.entries) }
     ensures err { OnErr result (carried.new.entries ≡ carried.old.entries) }
 {
     let all = ids_of(alloc, number, call)?;

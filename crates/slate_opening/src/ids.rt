@@ -15,7 +15,8 @@ type Seen = BTreeSet<(u64, u128)>;
 
 // Notes the ids of checkpoints. False where one was carried already.
 fn add_ids(carried: &mut Carried, checkpoints: &[Checkpoint]) -> Result<bool, OutOfMemory>
-    ensures { IfOk result (λ all. (if all then Some carried.new.entries else None) ≡ opens.ids_from carried.old.entries checkpoints.now) }
+    ensures { IfOk result (λ all. (if all then Some carried.new.entries else None)
+        ≡ opens.ids_from carried.old.entries checkpoints.now) }
 {
     for checkpoint in checkpoints {
         if carried.contains_key(&checkpoint.id) {
@@ -48,7 +49,8 @@ fn parts_of(id: &Ulid) -> (u64, u128)
 
 // Notes these ids. False where one came already.
 fn add_once(seen: &mut Seen, ids: &[Ulid]) -> Result<bool, OutOfMemory>
-    ensures { IfOk result (λ once. (if once then Some seen.new.keys else None) ≡ opens.seen_from seen.old.keys ids.now) }
+    ensures { IfOk result (λ once. (if once then Some seen.new.keys else None)
+        ≡ opens.seen_from seen.old.keys ids.now) }
 {
     for id in ids {
         let parts = parts_of(id);
@@ -159,7 +161,8 @@ fn are_all_in_order(alloc: Global, specs: &[DbSpec]) -> Result<bool, OutOfMemory
 
 /// Whether no id of a table comes twice, and all trees are in order.
 pub(crate) fn are_tables_in_order(alloc: Global, specs: &[DbSpec]) -> Result<bool, OutOfMemory>
-    ensures { IfOk result (λ fine. fine ≡ (is_some (opens.tables_seen_from [] specs.now) && list_all opens.are_trees_in_order specs.now)) }
+    ensures { IfOk result (λ fine. fine
+        ≡ (is_some (opens.tables_seen_from [] specs.now) && list_all opens.are_trees_in_order specs.now)) }
 {
     let once = are_tables_once(alloc, specs)?;
     let in_order = are_all_in_order(alloc, specs)?;

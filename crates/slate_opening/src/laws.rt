@@ -11,8 +11,12 @@ ghost use Rattle.slate_events.specs.declared.db_spec.DbSpec.{DbSpec as Database}
 /// equal to a later one.
 #[tactic(auto, using(crate::proofs::Differing::ids_apart, crate::proofs::Differing::tables_apart, crate::proofs::Differing::checkpoints_apart, crate::proofs::Differing::paths_apart))]
 pub fn nothing_comes_twice()
-    ensures paths { (specs : List Database) → (is_some (opens.tallies_from [] specs) ≡ true) ↔ IsDistinct have_one_path specs }
-    ensures checkpoints { (specs : List Database) → (is_some (opens.carried_from [] specs) ≡ true) ↔ IsDistinct have_one_id (all_checkpoints specs) }
-    ensures tables { (specs : List Database) → (is_some (opens.tables_seen_from [] specs) ≡ true) ↔ IsDistinct same_id (all_table_ids specs) }
-    ensures ids { (ids : List (ℕ × ℕ)) → (is_some (opens.seen_from [] ids) ≡ true) ↔ IsDistinct same_id ids }
+    ensures paths { (specs : List Database) → (is_some (opens.tallies_from [] specs) ≡ true)
+        ↔ IsDistinct have_one_path specs }
+    ensures checkpoints { (specs : List Database) → (is_some (opens.carried_from [] specs) ≡ true)
+        ↔ IsDistinct have_one_id (all_checkpoints specs) }
+    ensures tables { (specs : List Database) → (is_some (opens.tables_seen_from [] specs) ≡ true)
+        ↔ IsDistinct same_id (all_table_ids specs) }
+    ensures ids { (ids : List (ℕ × ℕ)) → (is_some (opens.seen_from [] ids) ≡ true)
+        ↔ IsDistinct same_id ids }
 {}

@@ -37,7 +37,8 @@ fn first_bytes(alloc: Global, manifest: &Manifest) -> Result<Option<ByteList>, O
 
 // Adds the first manifest of a database. False where it has no bytes.
 fn add_first(alloc: Global, firsts: &mut Objects, spec: &DbSpec) -> Result<bool, OutOfMemory>
-    ensures { IfOk result (λ added. (if added then Some firsts.new.entries else None) ≡ opens.first_added firsts.old.entries spec.now (opens.first_bytes spec.now.manifest)) }
+    ensures { IfOk result (λ added. (if added then Some firsts.new.entries else None)
+        ≡ opens.first_added firsts.old.entries spec.now (opens.first_bytes spec.now.manifest)) }
 {
     match first_bytes(alloc, &spec.manifest)? {
         None => Ok(false),
@@ -84,7 +85,8 @@ fn add_table(
     spec: &DbSpec,
     table: &(Ulid, SsTableInfo),
 ) -> Result<bool, OutOfMemory>
-    ensures { IfOk result (λ added. (if added then Some objects.new.entries else None) ≡ opens.table_added objects.old.entries spec.now table.now.0 (opens.table_bytes table.now.1)) }
+    ensures { IfOk result (λ added. (if added then Some objects.new.entries else None)
+        ≡ opens.table_added objects.old.entries spec.now table.now.0 (opens.table_bytes table.now.1)) }
 {
     match table_bytes(alloc, &table.1)? {
         None => Ok(false),
@@ -105,7 +107,8 @@ fn add_tables(
     spec: &DbSpec,
     tables: &[(Ulid, SsTableInfo)],
 ) -> Result<bool, OutOfMemory>
-    ensures { IfOk result (λ added. (if added then Some objects.new.entries else None) ≡ opens.tables_from objects.old.entries spec.now tables.now) }
+    ensures { IfOk result (λ added. (if added then Some objects.new.entries else None)
+        ≡ opens.tables_from objects.old.entries spec.now tables.now) }
 {
     for table in tables {
         if !add_table(alloc, objects, spec, table)? {
@@ -121,7 +124,8 @@ fn add_all_tables(
     objects: &mut Objects,
     specs: &[DbSpec],
 ) -> Result<bool, OutOfMemory>
-    ensures { IfOk result (λ added. (if added then Some objects.new.entries else None) ≡ opens.all_tables_from objects.old.entries specs.now) }
+    ensures { IfOk result (λ added. (if added then Some objects.new.entries else None)
+        ≡ opens.all_tables_from objects.old.entries specs.now) }
 {
     for spec in specs {
         if !add_tables(alloc, objects, spec, spec.tables.as_slice())? {

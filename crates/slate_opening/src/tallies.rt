@@ -11,7 +11,8 @@ use std::collections::BTreeMap;
 pub type Tallies = BTreeMap<DbPath, Tally>;
 
 fn raise_manifest(tallies: &mut Tallies, db: DbPath, n: u64)
-    ensures { tallies.new.entries ≡ raise_tally (tally_of db tallies.old.entries) db (to_manifest n) tallies.old.entries }
+    ensures { tallies.new.entries ≡ raise_tally (tally_of db tallies.old.entries) db
+        (to_manifest n) tallies.old.entries }
 {
     if let Some(tally) = tallies.get_mut(&db) {
         tally.manifest = tally.manifest.max(n);
@@ -19,7 +20,8 @@ fn raise_manifest(tallies: &mut Tallies, db: DbPath, n: u64)
 }
 
 fn raise_record(tallies: &mut Tallies, db: DbPath, n: u64)
-    ensures { tallies.new.entries ≡ raise_tally (tally_of db tallies.old.entries) db (to_record n) tallies.old.entries }
+    ensures { tallies.new.entries ≡ raise_tally (tally_of db tallies.old.entries) db
+        (to_record n) tallies.old.entries }
 {
     if let Some(tally) = tallies.get_mut(&db) {
         tally.compactions = tally.compactions.max(n);

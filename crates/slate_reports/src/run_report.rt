@@ -38,7 +38,8 @@ fn push_state(
     deleted: u64,
     store: &MemoryStore,
 ) -> Result<(), OutOfMemory>
-    ensures { OnOk result (string_bytes out.new ≡ string_bytes out.old ++ state_text (world_of tallies.now.entries deleted store.now.store)) }
+    ensures { OnOk result (string_bytes out.new
+        ≡ string_bytes out.old ++ state_text (world_of tallies.now.entries deleted store.now.store)) }
 {
     let left = store.paths(alloc)?;
     push_tallies(out, tallies)?;
@@ -58,7 +59,12 @@ pub fn report(
     store: &MemoryStore,
     bad: Option<u64>,
 ) -> Result<String, OutOfMemory>
-    ensures { IfOk result (λ text. string_bytes text ≡ report_text (record { course = course_of trail.now (world_of tallies.now.entries deleted store.now.store); bad = bad })) }
+    ensures { IfOk result (λ text. string_bytes text
+        ≡ report_text (record {
+          course = course_of trail.now
+              (world_of tallies.now.entries deleted store.now.store);
+          bad = bad;
+        })) }
 {
     let mut text = String::new(alloc);
     push_entries(&mut text, trail)?;
