@@ -24,7 +24,8 @@ pub(crate) struct Output {
 // The report of a run that led to this cluster, with its first bad event.
 #[tactic(auto, using(crate::proofs::Reports::report_by_parts))]
 fn report_of(alloc: Global, cluster: &Cluster, bad: Option<u64>) -> Result<String, OutOfMemory>
-    ensures { IfOk result (λ text. string_bytes text ≡ report_text (record { course = cluster.now; bad = bad })) }
+    ensures { IfOk result (λ text. string_bytes text
+        ≡ report_text (record { course = cluster.now; bad = bad })) }
 {
     let deleted = cluster.deleted();
     report(
@@ -39,7 +40,8 @@ fn report_of(alloc: Global, cluster: &Cluster, bad: Option<u64>) -> Result<Strin
 
 // Does the events, and answers the place of the first bad one.
 fn done(alloc: Global, cluster: &mut Cluster, events: &[Event]) -> Result<Option<u64>, OutOfMemory>
-    ensures run { IfOk result (λ bad. run events.now 0 cluster.old ≡ record { course = cluster.new; bad = bad }) }
+    ensures run { IfOk result (λ bad. run events.now 0 cluster.old
+        ≡ record { course = cluster.new; bad = bad }) }
     ensures lawful { Lawful cluster.new }
 {
     match cluster.do_events(alloc, events) {

@@ -3,7 +3,8 @@ ghost use Rattle.std.specs.Prelude.{◌≡◌, ◌≢◌, ◌↔◌, ◌≤◌, 
 ghost use Rattle.slate_store.specs.Counts.{Rose};
 ghost use Rattle.slate_script.specs.Scripts.{script_of};
 ghost use Rattle.slate_reports.specs.Commands.{command_of};
-ghost use Rattle.slate_reports.specs.Endings.{end, Answers, EndsTooLong, ExactlyEnds, IfAnswered, IsLawfulRun, Outcome, Runs, limit};
+ghost use Rattle.slate_reports.specs.Endings.{end, limit, Answers, EndsTooLong, ExactlyEnds};
+ghost use Rattle.slate_reports.specs.Endings.{IfAnswered, IsLawfulRun, Outcome, Runs};
 
 use crate::answers::{Output, answer};
 use slate_reports::{Command, Status, command_in, deliver, help, run_help, version};
@@ -26,7 +27,8 @@ fn answer_whole<K: Sink>(alloc: Global, bytes: &[u8], sink: &mut K) -> Status
 }
 
 fn run<S: Source, K: Sink>(alloc: Global, source: &mut S, sink: &mut K) -> Status
-    ensures { Runs (end (S.left source.old) (S.faults source.old)) (end (S.left source.new) (S.faults source.new))
+    ensures { Runs
+        (end (S.left source.old) (S.faults source.old)) (end (S.left source.new) (S.faults source.new))
         (end (K.written sink.old) (K.faults sink.old)) (end (K.written sink.new) (K.faults sink.new)) result }
 {
     match read_all(alloc, source, LIMIT) {

@@ -76,7 +76,8 @@ pub(crate) fn add(
     kind: PartyKind,
     db: DbPath,
 ) -> Result<(), OutOfMemory>
-    ensures ok { OnOk result (parties.new.entries ≡ insert_entry nat_cmp parties.old.entries number (newcomer kind db)) }
+    ensures ok { OnOk result (parties.new.entries
+        ≡ insert_entry nat_cmp parties.old.entries number (newcomer kind db)) }
     ensures err { OnErr result (parties.new.entries ≡ parties.old.entries) }
 {
     let facts = Facts {
@@ -108,7 +109,8 @@ fn put_back(parties: &mut Parties, number: u32, party: Party)
 /// Starts a call of a party.
 pub(crate) fn start(parties: &mut Parties, number: u32, call: Call) -> Entry
     requires { IsSome (party_of number parties.old.entries) }
-    ensures { NumberStarted number call parties.old.entries (party_of number parties.old.entries) result parties.new.entries }
+    ensures { NumberStarted number call parties.old.entries (party_of number parties.old.entries)
+        result parties.new.entries }
 {
     match find(parties, number) {
         None => unreachable!(),
@@ -128,7 +130,8 @@ pub(crate) fn start(parties: &mut Parties, number: u32, call: Call) -> Entry
 
 /// Stops a party. None where the event is bad.
 pub(crate) fn stop(parties: &mut Parties, number: u32) -> Option<Entry>
-    ensures { NumberStopped number parties.old.entries (party_of number parties.old.entries) result parties.new.entries }
+    ensures { NumberStopped number parties.old.entries (party_of number parties.old.entries)
+        result parties.new.entries }
 {
     match find(parties, number) {
         None => None,
@@ -154,7 +157,9 @@ pub(crate) fn step(
     mark: Mark,
 ) -> Result<PartyStep, OutOfMemory>
     requires { IsBusyAt (party_of number parties.old.entries) }
-    ensures ok { IfOk result (λ s. NumberStepped number moment mark parties.old.entries (party_of number parties.old.entries) store.old.store store.new.store s.made s.reply parties.new.entries) }
+    ensures ok { IfOk result (λ s. NumberStepped number moment mark
+        parties.old.entries (party_of number parties.old.entries) store.old.store store.new.store
+        s.made s.reply parties.new.entries) }
     ensures kept_parties { OnErr result (parties.new.entries ≡ parties.old.entries) }
     ensures kept_store { OnErr result (store.new.store ≡ store.old.store) }
 {

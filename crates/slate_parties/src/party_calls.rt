@@ -112,7 +112,8 @@ pub(crate) fn step_busy(
     mark: Mark,
 ) -> Result<PartyStep, OutOfMemory>
     requires { is_busy party.old.state ≡ true }
-    ensures ok { IfOk result (λ s. PartyStepped party.old.facts party.old.state moment mark store.old.store store.new.store s.made s.reply party.new) }
+    ensures ok { IfOk result (λ s. PartyStepped party.old.facts party.old.state moment mark
+        store.old.store store.new.store s.made s.reply party.new) }
     ensures kept_party { OnErr result (party.new ≡ party.old) }
     ensures kept_store { OnErr result (store.new.store ≡ store.old.store) }
 {

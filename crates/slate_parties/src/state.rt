@@ -31,7 +31,13 @@ impl Model for ClusterState {
 
     ghost Value = { World };
 
-    ghost view = { λ a. record { tallies = a.tallies.entries; deleted = a.deleted; store = a.store.store; parties = a.parties.entries; carried = a.carried.entries } };
+    ghost view = { λ a. record {
+      tallies = a.tallies.entries;
+      deleted = a.deleted;
+      store = a.store.store;
+      parties = a.parties.entries;
+      carried = a.carried.entries;
+    } };
 }
 
 impl ClusterState {

@@ -3,7 +3,8 @@ ghost use Rattle.std.specs.Prelude.{◌≡◌};
 ghost use Rattle.slate_ids.specs.Answers.{Gives};
 ghost use Rattle.slate_layout.specs.Codec.{encoded};
 ghost use Rattle.slate_log.specs.Change.{renewed};
-ghost use Rattle.slate_protocol.specs.Calls.{new_value as call_makes, right_of as held_by, fenced, fence_of, commit_of};
+ghost use Rattle.slate_protocol.specs.Calls.{new_value as call_makes, right_of as held_by};
+ghost use Rattle.slate_protocol.specs.Calls.{fenced, fence_of, commit_of};
 ghost use Rattle.slate_updates.specs.Rules.{manifest_refusal};
 
 use crate::values::new_value;
@@ -51,7 +52,8 @@ fn renew(
     n: u64,
     manifest: &Manifest,
 ) -> Result<Option<CommitPhase<Manifest>>, SlateDBError>
-    ensures { Gives result (renewed (call_makes call.now now) manifest_refusal encoded (held_by call.now) n manifest.now) }
+    ensures { Gives result (renewed (call_makes call.now now) manifest_refusal encoded (held_by call.now)
+        n manifest.now) }
 {
     let changed = new_value(alloc, call, now, n, manifest)?;
     let right = right_of(call);

@@ -35,7 +35,9 @@ fn step_over(
 ) -> Result<PartyStep, OutOfMemory>
     requires due { due_at position.old ≡ true }
     requires fresh { recorder.old.made.items ≡ [] }
-    ensures ok { IfOk result (λ s. IsPartyStep facts.now call.now purpose.old position.old moment (next_mark recorder.old.store.marks) recorder.old.store.store recorder.new.store.store s.made (next_by purpose.new position.new s.reply)) }
+    ensures ok { IfOk result (λ s. IsPartyStep facts.now call.now purpose.old position.old
+        moment (next_mark recorder.old.store.marks) recorder.old.store.store recorder.new.store.store
+        s.made (next_by purpose.new position.new s.reply)) }
     ensures kept_purpose { OnErr result (purpose.new ≡ purpose.old) }
     ensures kept_position { OnErr result (position.new ≡ position.old) }
     ensures kept_store { OnErr result (recorder.new.store.store ≡ recorder.old.store.store) }
@@ -60,7 +62,8 @@ pub fn step_party(
     mark: Mark,
 ) -> Result<PartyStep, OutOfMemory>
     requires { due_at position.old ≡ true }
-    ensures ok { IfOk result (λ s. IsPartyStep facts.now call.now purpose.old position.old moment mark store.old.store store.new.store s.made (next_by purpose.new position.new s.reply)) }
+    ensures ok { IfOk result (λ s. IsPartyStep facts.now call.now purpose.old position.old
+        moment mark store.old.store store.new.store s.made (next_by purpose.new position.new s.reply)) }
     ensures kept_purpose { OnErr result (purpose.new ≡ purpose.old) }
     ensures kept_position { OnErr result (position.new ≡ position.old) }
     ensures kept_store { OnErr result (store.new.store ≡ store.old.store) }

@@ -69,7 +69,8 @@ fn pass_on<S: ObjectStore>(
     moment: Millis,
 ) -> Step<Ended>
     requires { pass_due phase.old ≡ true }
-    ensures { PassSteps db options.now phase.old phase.new moment (S.told store.old) (S.told store.new) result }
+    ensures { PassSteps db options.now phase.old phase.new moment
+        (S.told store.old) (S.told store.new) result }
 {
     match phase.next(alloc, &manifests(db), options, store, moment) {
         Step::Again => Step::Again,
@@ -97,7 +98,8 @@ pub(crate) fn step_phrase<S: ObjectStore>(
     moment: Millis,
 ) -> Step<Ended>
     requires { due_at position.old ≡ true }
-    ensures steps { Steps (S.told store.old) (S.told store.new) (asks position.old) moment (goes position.old moment) position.old position.new result }
+    ensures steps { Steps (S.told store.old) (S.told store.new) (asks position.old) moment
+        (goes position.old moment) position.old position.new result }
     ensures from { AtEnd position.old result }
 {
     let db = position.db;

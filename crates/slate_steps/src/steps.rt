@@ -1,7 +1,8 @@
 //! One step of a call.
 ghost use Rattle.std.specs.Prelude.{◌≡◌, true, IfOk, OnErr};
 ghost use Rattle.slate_updates.specs.Checkpoints.{checkpoint_at};
-ghost use Rattle.slate_protocol.specs.Calls.{Finish, done_next, after_pass, checkpoint_reply as replied, pass_options as asked_options};
+ghost use Rattle.slate_protocol.specs.Calls.{Finish, done_next, after_pass};
+ghost use Rattle.slate_protocol.specs.Calls.{checkpoint_reply as replied, pass_options as asked_options};
 ghost use Rattle.slate_protocol.specs.Phrases.{is_due};
 ghost use Rattle.slate_recorder.specs.Recorded.{told_by};
 ghost use Rattle.slate_steps.specs.Followed.{next_by, Commits, Ends, Followed, Kept};
@@ -172,8 +173,10 @@ pub(crate) fn step_call(
     moment: Millis,
 ) -> Result<Option<Reply>, OutOfMemory>
     requires { is_due position.old ≡ true }
-    ensures ok { IfOk result (λ reply. Followed facts.now call.now purpose.old position.old (told_by store.old) (told_by store.new) moment purpose.new position.new reply) }
-    ensures err { OnErr result (Kept purpose.old position.old (told_by store.old) (told_by store.new) purpose.new position.new) }
+    ensures ok { IfOk result (λ reply. Followed facts.now call.now purpose.old position.old
+        (told_by store.old) (told_by store.new) moment purpose.new position.new reply) }
+    ensures err { OnErr result (Kept purpose.old position.old (told_by store.old) (told_by store.new)
+        purpose.new position.new) }
 {
     let db = position.db;
     match step_phrase(alloc, position, store, moment) {
