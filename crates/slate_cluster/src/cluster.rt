@@ -49,9 +49,12 @@ pub struct Report {
 }
 
 impl Cluster {
-    /// A cluster over these databases, with no party. Each has its first manifest, with tags by path. Refused are, in this
-    /// order: two databases of one path (`Path`), a checkpoint id that comes twice (`Ids`), a manifest that has no bytes or
-    /// isn't what is read back of them (`Value`), and a checkpoint that names another version than the first (`Checkpoints`).
+    /// A cluster over these databases, with no party. Each has its first manifest and its tables, with tags by path. Refused are, in
+    /// this order: two databases of one path (`Path`); an id of a checkpoint or of a table that comes twice, or a tree whose views'
+    /// ids don't differ or whose runs' ids don't fall (`Ids`); a manifest or what is known of a table that has no bytes, or a manifest
+    /// that isn't what is read back of them (`Value`); a segment whose prefix begins with another's (`Segments`); a checkpoint that
+    /// names another version than the first (`Checkpoints`); a table of a tree that isn't there (`Tables`); a floor below the
+    /// watermark (`Floor`).
     pub fn new(alloc: Global, specs: Vec<DbSpec>) -> Result<Cluster, NewError>
         ensures { Opens specs.items result }
     {

@@ -86,7 +86,10 @@ an object with the arrays \"databases\" and \"events\". Writes a line for
 each event, the greatest committed numbers, the count of deletes and
 the paths of the objects left, and then ok or the first bad event.
 
-  database  {\"path\":\"db\"}
+  database  {\"path\":\"db\"}, and where wanted \"modified\",
+            \"initialized\", \"writer_epoch\", \"compactor_epoch\",
+            \"floor\", \"replay_after\", \"next_wal\", \"extractor\" and
+            the arrays \"l0\", \"runs\", \"markers\", \"checkpoints\"
   open      {\"open\":1,\"kind\":\"writer\",\"db\":\"db\"}
   start     {\"start\":1,\"call\":\"open_writer\"}
   step      {\"step\":1,\"at\":1000}, with \"times\" up to 1000 of them,

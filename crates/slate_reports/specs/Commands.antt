@@ -49,7 +49,10 @@ run_help_text =
     ++ line (codes "each event, the greatest committed numbers, the count of deletes and")
     ++ line (codes "the paths of the objects left, and then ok or the first bad event.")
     ++ line []
-    ++ line (codes "  database  {\"path\":\"db\"}")
+    ++ line (codes "  database  {\"path\":\"db\"}, and where wanted \"modified\",")
+    ++ line (codes "            \"initialized\", \"writer_epoch\", \"compactor_epoch\",")
+    ++ line (codes "            \"floor\", \"replay_after\", \"next_wal\", \"extractor\" and")
+    ++ line (codes "            the arrays \"l0\", \"runs\", \"markers\", \"checkpoints\"")
     ++ line (codes "  open      {\"open\":1,\"kind\":\"writer\",\"db\":\"db\"}")
     ++ line (codes "  start     {\"start\":1,\"call\":\"open_writer\"}")
     ++ line (codes "  step      {\"step\":1,\"at\":1000}, with \"times\" up to 1000 of them,")
