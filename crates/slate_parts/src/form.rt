@@ -59,7 +59,10 @@ pub trait Form<T: Drop> {
 }
 
 // Adds the bytes of each value at the end.
-pub(crate) fn write_each<T: Drop, F: Form<T>>(items: &[T], out: &mut Vec<u8>) -> Result<(), OutOfMemory>
+pub(crate) fn write_each<T: Drop, F: Form<T>>(
+    items: &[T],
+    out: &mut Vec<u8>,
+) -> Result<(), OutOfMemory>
     ensures bytes { OnOk result (out.new.items ≡ out.old.items ++ flat_map F.bytes items.now) }
     ensures typed { OnOk result (list_all F.is_typed items.now ≡ true) }
 {
