@@ -3,7 +3,7 @@ ghost use Rattle.std.specs.Prelude.{◌≡◌};
 ghost use Rattle.slate_calls.specs.Names.{name_word};
 
 use serde_json::Value;
-use slate_json::{FromJson, JsonError};
+use slate_json::{FromJson, JsonError, or_malformed};
 use std::alloc::Global;
 
 /// The name of a call, which decides its fields.
@@ -41,10 +41,7 @@ impl FromJson for CallName {
 
     fn from_json(_alloc: Global, d: &Value) -> Result<CallName, JsonError> {
         match d.as_str() {
-            Some(text) => match name_of(text) {
-                Some(name) => Ok(name),
-                None => Err(JsonError::Malformed),
-            },
+            Some(text) => or_malformed(name_of(text)),
             None => Err(JsonError::Malformed),
         }
     }

@@ -10,4 +10,4 @@ mod written_id;
 
 pub use fields::{array_of, defaulted, only, optional, required};
 pub use json_error::JsonError;
-pub use values::FromJson;
+pub use values::{FromJson, or_malformed};

@@ -25,6 +25,16 @@ pub trait FromJson: Drop {
         ensures { Gives result (reads (view value.now)) };
 }
 
+/// What was found, or that the value stands for nothing.
+pub fn or_malformed<X: Drop>(found: Option<X>) -> Result<X, JsonError>
+    ensures { Gives result found }
+{
+    match found {
+        Some(x) => Ok(x),
+        None => Err(JsonError::Malformed),
+    }
+}
+
 // The bytes of a text.
 fn copied(alloc: Global, text: &str) -> Result<Bytes, OutOfMemory>
     ensures { IfOk result (λ bytes. bytes ≡ text.now) }
@@ -81,10 +91,7 @@ impl FromJson for DbPath {
 
     fn from_json(_alloc: Global, value: &Value) -> Result<DbPath, JsonError> {
         match value.as_str() {
-            Some(text) => match DbPath::from_text(text)? {
-                Some(path) => Ok(path),
-                None => Err(JsonError::Malformed),
-            },
+            Some(text) => or_malformed(DbPath::from_text(text)?),
             None => Err(JsonError::Malformed),
         }
     }
@@ -117,10 +124,7 @@ impl FromJson for Ulid {
 
     fn from_json(_alloc: Global, value: &Value) -> Result<Ulid, JsonError> {
         match value.as_str() {
-            Some(text) => match written_id(text.as_bytes()) {
-                Some(id) => Ok(id),
-                None => Err(JsonError::Malformed),
-            },
+            Some(text) => or_malformed(written_id(text.as_bytes())),
             None => Err(JsonError::Malformed),
         }
     }

@@ -3,7 +3,7 @@ ghost use Rattle.std.specs.Prelude.{◌≡◌};
 ghost use Rattle.slate_json.specs.Words.{kind_word, mark_word, pass_word, filter_word};
 
 use crate::json_error::JsonError;
-use crate::values::FromJson;
+use crate::values::{FromJson, or_malformed};
 use serde_json::Value;
 use slate_events::{FilterWord, PartyKind};
 use slate_ids::GcMessage;
@@ -29,10 +29,7 @@ impl FromJson for PartyKind {
 
     fn from_json(_alloc: Global, d: &Value) -> Result<PartyKind, JsonError> {
         match d.as_str() {
-            Some(text) => match kind_of(text) {
-                Some(kind) => Ok(kind),
-                None => Err(JsonError::Malformed),
-            },
+            Some(text) => or_malformed(kind_of(text)),
             None => Err(JsonError::Malformed),
         }
     }
@@ -56,10 +53,7 @@ impl FromJson for Mark {
 
     fn from_json(_alloc: Global, d: &Value) -> Result<Mark, JsonError> {
         match d.as_str() {
-            Some(text) => match mark_of(text) {
-                Some(mark) => Ok(mark),
-                None => Err(JsonError::Malformed),
-            },
+            Some(text) => or_malformed(mark_of(text)),
             None => Err(JsonError::Malformed),
         }
     }
@@ -82,10 +76,7 @@ impl FromJson for GcMessage {
 
     fn from_json(_alloc: Global, d: &Value) -> Result<GcMessage, JsonError> {
         match d.as_str() {
-            Some(text) => match pass_of(text) {
-                Some(pass) => Ok(pass),
-                None => Err(JsonError::Malformed),
-            },
+            Some(text) => or_malformed(pass_of(text)),
             None => Err(JsonError::Malformed),
         }
     }
@@ -109,10 +100,7 @@ impl FromJson for FilterWord {
 
     fn from_json(_alloc: Global, d: &Value) -> Result<FilterWord, JsonError> {
         match d.as_str() {
-            Some(text) => match filter_of(text) {
-                Some(filter) => Ok(filter),
-                None => Err(JsonError::Malformed),
-            },
+            Some(text) => or_malformed(filter_of(text)),
             None => Err(JsonError::Malformed),
         }
     }
