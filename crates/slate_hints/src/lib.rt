@@ -13,8 +13,10 @@ mod repeats;
 mod scripts;
 mod spot;
 mod trees;
+mod why;
 
 pub use hint::Hint;
 pub use refused::cluster_hint;
 pub use scripts::{event_spot, script_hint};
 pub use spot::Spot;
+pub use why::Why;

@@ -1,20 +1,15 @@
 //! Makes the ends of the program and calls it, and says on standard error why it failed.
 #![tactic(auto)]
 
-#[cfg(test)]
-mod hint_tests;
 mod kept;
-mod why;
-#[cfg(test)]
-mod why_tests;
 
 use kept::Kept;
 use slate_cluster::{Status, program};
+use slate_hints::Why;
 use slate_store::{StdSink, StdSource};
 use std::io::ErrorKind;
 use std::process::ExitCode;
 use std::{env, io};
-use why::Why;
 
 // The words of the command line, without the program's name. A word that is not UTF-8 belongs to no command.
 fn words(rt: &HostRuntime) -> Result<Vec<String>, Status> {

@@ -1,14 +1,17 @@
 //! The line that says why the program didn't end with 0.
 
-use slate_cluster::Status;
-use slate_hints::{Hint, Spot, cluster_hint, event_spot, script_hint};
-use slate_script::{ClusterCause, ScriptPlace};
+use crate::hint::Hint;
+use crate::refused::cluster_hint;
+use crate::scripts::{event_spot, script_hint};
+use crate::spot::Spot;
+use slate_events::{ClusterCause, ScriptPlace};
+use slate_reports::Status;
 use std::alloc::Global;
 use std::fmt;
 
 /// Why a program ended with this status, in words and in one line: what is wrong, at which place, and where to read more.
 #[derive(Drop)]
-pub(crate) struct Why {
+pub struct Why {
     pub status: Status,
     /// What a second look found wrong with the input.
     pub hint: Option<Hint>,
@@ -18,7 +21,7 @@ pub(crate) struct Why {
 
 impl Why {
     /// Why a program ended with this status on an input, by a second look at it.
-    pub(crate) fn of(alloc: Global, status: Status, bytes: &[u8]) -> Why {
+    pub fn of(alloc: Global, status: Status, bytes: &[u8]) -> Why {
         let hint = match status {
             Status::BadScript(place) => script_hint(alloc, bytes, place),
             Status::BadCluster(cause) => cluster_hint(alloc, bytes, cause),

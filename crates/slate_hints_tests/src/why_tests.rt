@@ -1,7 +1,7 @@
 //! The lines of all statuses, where a second look finds nothing.
 
-use crate::why::Why;
 use slate_cluster::Status;
+use slate_hints::Why;
 use slate_script::{ClusterCause, ScriptPlace};
 use std::alloc::Global;
 use std::process::Abort;
