@@ -147,23 +147,41 @@ fn conflict(alloc: Global, holder: &mut Holder, phase: &mut ApplyPhase<Value>) -
     )
 }
 
-// The three calls of a read, and the two of another commit.
+/// A put that conflicts, and the three calls of the read after it.
+fn read_again(
+    rt: &impl Abort,
+    alloc: Global,
+    store: &mut MemoryStore,
+    holder: &mut Holder,
+    phase: &mut ApplyPhase<Value>,
+) {
+    assert!(rt; is_put(rt, alloc, holder, phase, 2, &[0, 6]));
+    assert!(rt; goes_on(conflict(alloc, holder, phase)) && phase.is_start());
+    for _ in 0..3 {
+        assert!(rt; goes_on(phase_step(rt, alloc, store, holder, phase)));
+    }
+}
+
+/// The two calls of the commit that follows a read.
+fn commit_again(
+    rt: &impl Abort,
+    alloc: Global,
+    store: &mut MemoryStore,
+    holder: &mut Holder,
+    phase: &mut ApplyPhase<Value>,
+) {
+    assert!(rt; is_put(rt, alloc, holder, phase, 3, &[0, 7]));
+    assert!(rt; goes_on(phase_step(rt, alloc, store, holder, phase)));
+    ended(rt, phase_step(rt, alloc, store, holder, phase));
+}
+
 #[test]
 fn a_phase_reads_again_after_a_conflict(rt: HostRuntime) {
     let alloc = rt.alloc();
     let mut store = store_with(&rt, alloc, &[(1, [0, 5]), (2, [0, 6])], None);
     let mut holder = load(&rt, alloc, &mut store);
     let mut phase = ApplyPhase::Committing(commit_of(&rt, alloc, (0, 6)));
-    assert!(rt; is_put(&rt, alloc, &holder, &phase, 2, &[0, 6]));
-    assert!(rt; goes_on(conflict(alloc, &mut holder, &mut phase)) && phase.is_start());
-    for _ in 0..3 {
-        assert!(rt; goes_on(phase_step(&rt, alloc, &mut store, &mut holder, &mut phase)));
-    }
-    assert!(rt; is_put(&rt, alloc, &holder, &phase, 3, &[0, 7]));
-    assert!(rt; goes_on(phase_step(&rt, alloc, &mut store, &mut holder, &mut phase)));
-    ended(
-        &rt,
-        phase_step(&rt, alloc, &mut store, &mut holder, &mut phase),
-    );
+    read_again(&rt, alloc, &mut store, &mut holder, &mut phase);
+    commit_again(&rt, alloc, &mut store, &mut holder, &mut phase);
     assert!(rt; holder.id() == 3 && *holder.object() == (0, 7));
 }

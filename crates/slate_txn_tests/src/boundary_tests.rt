@@ -61,21 +61,36 @@ fn advance_step(
     advance.next(alloc, &log(rt), store, 9)
 }
 
-// Two advances that both get the boundary before the first one writes: the second starts again.
+/// Both get the boundary before the first one writes, and then the second one finds another boundary than it got.
+fn race(
+    rt: &impl Abort,
+    alloc: Global,
+    store: &mut MemoryStore,
+    first: &mut AdvancePhase,
+    second: &mut AdvancePhase,
+) {
+    assert!(rt; goes_on(advance_step(rt, alloc, store, first)));
+    assert!(rt; goes_on(advance_step(rt, alloc, store, second)));
+    ended(rt, advance_step(rt, alloc, store, first));
+    assert!(rt; goes_on(advance_step(rt, alloc, store, second)));
+    assert!(rt; second.is_bounding() && has_boundary(rt, store, Some("2")));
+}
+
+/// An advance whose race was lost goes on from the boundary that it gets then.
+fn start_again(rt: &impl Abort, alloc: Global, store: &mut MemoryStore, lost: &mut AdvancePhase) {
+    assert!(rt; goes_on(advance_step(rt, alloc, store, lost)));
+    ended(rt, advance_step(rt, alloc, store, lost));
+    assert!(rt; has_boundary(rt, store, Some("3")));
+}
+
 #[test]
 fn a_lost_race_starts_again(rt: HostRuntime) {
     let alloc = rt.alloc();
     let mut store = store_with(&rt, alloc, &[], None);
     let mut first = log(&rt).start_advance(2);
     let mut second = log(&rt).start_advance(3);
-    assert!(rt; goes_on(advance_step(&rt, alloc, &mut store, &mut first)));
-    assert!(rt; goes_on(advance_step(&rt, alloc, &mut store, &mut second)));
-    ended(&rt, advance_step(&rt, alloc, &mut store, &mut first));
-    assert!(rt; goes_on(advance_step(&rt, alloc, &mut store, &mut second)));
-    assert!(rt; second.is_bounding() && has_boundary(&rt, &store, Some("2")));
-    assert!(rt; goes_on(advance_step(&rt, alloc, &mut store, &mut second)));
-    ended(&rt, advance_step(&rt, alloc, &mut store, &mut second));
-    assert!(rt; has_boundary(&rt, &store, Some("3")));
+    race(&rt, alloc, &mut store, &mut first, &mut second);
+    start_again(&rt, alloc, &mut store, &mut second);
 }
 
 #[test]
