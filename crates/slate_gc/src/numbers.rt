@@ -34,7 +34,7 @@ impl Numbers {
         }
     }
 
-    /// Adds a number at the end. Want of memory changes nothing.
+    /// Adds a number at the end. Running out of memory changes nothing.
     pub fn push(&mut self, number: u64) -> Result<(), OutOfMemory>
         ensures ok { OnOk result (self.new ≡ self.old ++ number ∷ []) }
         ensures err { OnErr result (self.new ≡ self.old) }

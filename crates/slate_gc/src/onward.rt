@@ -52,7 +52,7 @@ fn after_found(alloc: Global, now: Millis, found: &[ObjectMetadata]) -> Onward
     }
 }
 
-/// After the list of this moment. Want of memory leaves the phase as it was.
+/// After the list of this moment. Running out of memory leaves the phase as it was.
 pub(crate) fn after_list(alloc: Global, now: Millis, answer: &StoreAnswer) -> Onward
     ensures goes { GoesOn (pass.list_goes now answer.now) phases.Listing result.0 result.1 }
     ensures due { StillDue result.1 (pass.pass_due result.0) }
@@ -81,7 +81,7 @@ fn candidates_by<C: ObjectCodec<Manifest>>(
     Ok(candidates_of(alloc, options.min_age, now, n, checkpoints, listed)?)
 }
 
-/// After the get of the greatest manifest. Want of memory leaves the phase as it was.
+/// After the get of the greatest manifest. Running out of memory leaves the phase as it was.
 pub(crate) fn after_get<C: ObjectCodec<Manifest>>(
     alloc: Global,
     codec: &C,

@@ -68,7 +68,7 @@ impl PassPhase {
         }
     }
 
-    /// Whether a call is due. None is after an end, but for want of memory.
+    /// Whether a call is due. None is after an end, unless memory ran out.
     pub fn due(&self) -> bool
         ensures { result ≡ pass_due self.now }
     {
@@ -109,7 +109,7 @@ impl PassPhase {
         }
     }
 
-    /// Goes on from the answer to that call, at the moment of the call. Want of memory comes only after a list or the get
+    /// Goes on from the answer to that call, at the moment of the call. Running out of memory comes only after a list or the get
     /// of the greatest manifest, never after a write, and leaves the phase as it was.
     pub fn goes_on<C: ObjectCodec<Manifest>>(
         &mut self,
@@ -132,7 +132,7 @@ impl PassPhase {
         step
     }
 
-    /// Makes the one call that is due. Want of memory leaves the phase as it was, and any other end leaves none due. A delete
+    /// Makes the one call that is due. Running out of memory leaves the phase as it was, and any other end leaves none due. A delete
     /// that faults is counted, and doesn't end the pass.
     pub fn next<C: ObjectCodec<Manifest>, S: ObjectStore>(
         &mut self,

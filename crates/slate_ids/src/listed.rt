@@ -57,7 +57,7 @@ impl<T> Listed<T> {
         self.items
     }
 
-    /// Adds a value at the end. Want of memory changes nothing.
+    /// Adds a value at the end. Running out of memory changes nothing.
     pub fn push(&mut self, item: T) -> Result<(), OutOfMemory>
     where
         T: Drop,

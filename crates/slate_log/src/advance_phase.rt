@@ -45,7 +45,7 @@ impl AdvancePhase {
         }
     }
 
-    /// Whether a call is due. None is after an end, but for want of memory.
+    /// Whether a call is due. None is after an end, unless memory ran out.
     pub fn due(&self) -> bool
         ensures { result ≡ advance_due self.now }
     {
@@ -108,7 +108,7 @@ impl AdvancePhase {
         }
     }
 
-    /// Makes the one call that is due. Want of memory leaves the phase as it was, and any other end leaves none due.
+    /// Makes the one call that is due. Running out of memory leaves the phase as it was, and any other end leaves none due.
     pub fn next<T, C, S: ObjectStore>(
         &mut self,
         alloc: Global,

@@ -70,7 +70,7 @@ impl<T: Drop> CommitPhase<T> {
         }
     }
 
-    /// Whether a call is due. None is after an end, but for want of memory.
+    /// Whether a call is due. None is after an end, unless memory ran out.
     pub fn due(&self) -> bool
         ensures { result ≡ commit_due self.now }
     {
@@ -118,7 +118,7 @@ impl<T: Drop> CommitPhase<T> {
         }
     }
 
-    /// Makes the one call that is due. Want of memory leaves the phase as it was, and any other end leaves none due.
+    /// Makes the one call that is due. Running out of memory leaves the phase as it was, and any other end leaves none due.
     pub fn next<C, S: ObjectStore>(
         &mut self,
         alloc: Global,

@@ -36,7 +36,7 @@ impl DeletePhase {
         }
     }
 
-    /// Whether a call is due. None is after an end, but for want of memory.
+    /// Whether a call is due. None is after an end, unless memory ran out.
     pub fn due(&self) -> bool
         ensures { result ≡ delete_due self.now }
     {
@@ -70,7 +70,7 @@ impl DeletePhase {
         }
     }
 
-    /// Makes the one call that is due. Want of memory leaves the phase as it was, and any other end leaves none due.
+    /// Makes the one call that is due. Running out of memory leaves the phase as it was, and any other end leaves none due.
     pub fn next<T, C, S: ObjectStore>(
         &mut self,
         alloc: Global,

@@ -20,7 +20,7 @@ pub enum ListPhase {
 }
 
 impl ListPhase {
-    /// Whether the call is due. It isn't after an end, but for want of memory.
+    /// Whether the call is due. It isn't after an end, unless memory ran out.
     pub fn due(&self) -> bool
         ensures { result ≡ list_due self.now }
     {
@@ -30,7 +30,7 @@ impl ListPhase {
         }
     }
 
-    /// Makes the one call. Want of memory leaves the phase as it was, and any other end leaves none due.
+    /// Makes the one call. Running out of memory leaves the phase as it was, and any other end leaves none due.
     pub fn next<T, C, S: ObjectStore>(
         &mut self,
         alloc: Global,

@@ -1,4 +1,4 @@
-//! Want of memory in a result.
+//! Running out of memory in a result.
 ghost use Rattle.std.specs.Prelude.{◌≡◌};
 ghost use Rattle.slate_ids.specs.Answers.{ran_out};
 

@@ -39,7 +39,7 @@ impl<T: Drop> ReadPhase<T> {
         }
     }
 
-    /// Whether a call is due. None is after an end, but for want of memory.
+    /// Whether a call is due. None is after an end, unless memory ran out.
     pub fn due(&self) -> bool
         ensures { result ≡ read_due self.now }
     {
@@ -59,7 +59,7 @@ impl<T: Drop> ReadPhase<T> {
         }
     }
 
-    /// Goes on from the answer to that call. Want of memory leaves the phase as it was.
+    /// Goes on from the answer to that call. Running out of memory leaves the phase as it was.
     pub fn goes_on<C: ObjectCodec<T>>(
         &mut self,
         alloc: Global,
@@ -119,7 +119,7 @@ impl<T: Drop> ReadPhase<T> {
         }
     }
 
-    /// Makes the one call that is due. Want of memory leaves the phase as it was, and any other end leaves none due.
+    /// Makes the one call that is due. Running out of memory leaves the phase as it was, and any other end leaves none due.
     pub fn next<C: ObjectCodec<T>, S: ObjectStore>(
         &mut self,
         alloc: Global,

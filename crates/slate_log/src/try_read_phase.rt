@@ -20,7 +20,7 @@ pub enum TryReadPhase {
 }
 
 impl TryReadPhase {
-    /// Whether the call is due. It isn't after an end, but for want of memory.
+    /// Whether the call is due. It isn't after an end, unless memory ran out.
     pub fn due(&self) -> bool
         ensures { result ≡ try_due self.now }
     {
@@ -30,7 +30,7 @@ impl TryReadPhase {
         }
     }
 
-    /// Makes the one call. Want of memory leaves the phase as it was, and any other end leaves none due.
+    /// Makes the one call. Running out of memory leaves the phase as it was, and any other end leaves none due.
     pub fn next<T: Drop, C: ObjectCodec<T>, S: ObjectStore>(
         &mut self,
         alloc: Global,

@@ -62,7 +62,7 @@ impl Segments {
         self.items.as_slice()
     }
 
-    // Puts a segment without tables at its place. Want of memory changes nothing.
+    // Puts a segment without tables at its place. Running out of memory changes nothing.
     fn insert_empty(
         &mut self,
         alloc: Global,
@@ -112,7 +112,7 @@ impl Segments {
     }
 
     /// The tree of a prefix, to be changed; made where it isn't there. InvalidSegmentPrefix where the prefix nests with the one beside it,
-    /// which changes nothing, and neither does want of memory.
+    /// which changes nothing, and neither does running out of memory.
     pub(crate) fn tree_of(
         &mut self,
         alloc: Global,

@@ -139,7 +139,7 @@ impl SequenceTracker {
 
     /// Adds a pair at the end, where its sequence number is above the last one's and its moment isn't below the last one's. Else nothing
     /// changes, and the answer is Ok all the same. At 4,096 pairs the oldest goes first, and each of the others moves by one place: so
-    /// the pairs stay one slice. Memory is asked for only where a pair is added to fewer; want of memory changes nothing.
+    /// the pairs stay one slice. Memory is asked for only where a pair is added to fewer; running out of memory changes nothing.
     pub fn insert(&mut self, seq: u64, ts: Millis) -> Result<(), OutOfMemory>
         ensures ok { OnOk result (self.new ≡ inserted self.old (seq, ts)) }
         ensures err { OnErr result (self.new ≡ self.old) }

@@ -157,7 +157,7 @@ fn carry_all(carried: &mut Carried, all: &[(CheckpointId, Carrier)]) -> Result<(
     }
 }
 
-/// Notes the ids that a call of a party carries. Want of memory changes nothing.
+/// Notes the ids that a call of a party carries. Running out of memory changes nothing.
 pub fn carry(
     alloc: Global,
     carried: &mut Carried,

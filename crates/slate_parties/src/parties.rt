@@ -69,7 +69,7 @@ pub(crate) fn find(parties: &Parties, number: u32) -> Option<&Party>
     parties.get(&number)
 }
 
-/// Adds a party that has no call. Want of memory changes nothing.
+/// Adds a party that has no call. Running out of memory changes nothing.
 pub(crate) fn add(
     parties: &mut Parties,
     number: u32,
@@ -147,7 +147,7 @@ pub(crate) fn stop(parties: &mut Parties, number: u32) -> Option<Entry>
     }
 }
 
-/// Makes the store call that is due in the call of a party. Want of memory changes nothing.
+/// Makes the store call that is due in the call of a party. Running out of memory changes nothing.
 pub(crate) fn step(
     alloc: Global,
     parties: &mut Parties,

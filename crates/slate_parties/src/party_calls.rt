@@ -103,7 +103,7 @@ fn settle(party: &mut Party, reply: &Option<Reply>)
     }
 }
 
-/// Makes the store call that is due, and goes on with the party's call or ends it. Want of memory changes nothing.
+/// Makes the store call that is due, and goes on with the party's call or ends it. Running out of memory changes nothing.
 pub(crate) fn step_busy(
     alloc: Global,
     party: &mut Party,

@@ -179,7 +179,7 @@ impl ClusterState {
         }))
     }
 
-    /// Does one event. None where it is bad. A bad event, and want of memory, change nothing.
+    /// Does one event. None where it is bad. A bad event, and running out of memory, change nothing.
     pub fn event(&mut self, alloc: Global, event: &Event) -> Result<Option<Entry>, OutOfMemory>
         ensures ok { IfOk result (λ o. Happened self.old event.now o self.new) }
         ensures err { OnErr result (self.new ≡ self.old) }

@@ -85,7 +85,7 @@ impl Compactions {
     }
 
     /// Makes this compaction the one of its id, in the place of one that was there. All others stay. Memory is asked for only where
-    /// the id is new; want of memory changes nothing, and the compaction is let go.
+    /// the id is new; running out of memory changes nothing, and the compaction is let go.
     pub fn insert(&mut self, compaction: Compaction) -> Result<(), OutOfMemory>
         ensures ok { OnOk result (self.new ≡ record self.old { entries = inserted compaction self.old.entries }) }
         ensures err { OnErr result (self.new ≡ self.old) }

@@ -35,7 +35,7 @@ pub(crate) fn least(entries: &Entries) -> Option<Ulid>
     }
 }
 
-/// Puts a compaction under its own id. Want of memory changes nothing.
+/// Puts a compaction under its own id. Running out of memory changes nothing.
 pub(crate) fn keep(entries: &mut Entries, compaction: Compaction) -> Result<(), OutOfMemory>
     requires { UnderOwnIds entries.old.entries }
     ensures own { UnderOwnIds entries.new.entries }

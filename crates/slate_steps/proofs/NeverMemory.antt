@@ -1,4 +1,4 @@
--- A phrase never ends with want of memory by its definition: that is the code's own.
+-- By its definition a phrase never ends because memory ran out: that is the code's own.
 use Rattle.std.proofs.Common.{◌≡◌, ℕ, ℤ, ◌==◌, nat_le, Bool, true, false, true≢false, if◌then◌else◌, List, [], ◌∷◌, Option, Some, None, Result, Ok, Err, refl, sym, ◌∙◌, ap, subst, inl, inr}
 use Rattle.std.specs.Option.{ok_or}
 use Rattle.slate_ids.specs.Answers.{is_memory, OrMemory}
@@ -45,7 +45,7 @@ use Rattle.slate_protocol.specs.declared.position.Position.{Position}
 use Rattle.slate_protocol.specs.declared.position.Ended.{Ended}
 use Rattle.slate_steps.specs.Followed.{Followed, Kept}
 
--- it goes on, ends well, or ends with a refusal other than want of memory
+-- it goes on, ends well, or ends with a refusal other than that memory ran out
 abbrev IsPlain : {P R : Type 0} → Goes P R → Type 0
 IsPlain (Stay p) = Unit {0}
 IsPlain (End p (Ok r)) = Unit {0}
@@ -213,7 +213,7 @@ plain_phrase db (Pass options phase) now a = around_pass db options _ (plain_pas
 never_memory : (from to : Position) (now : ℤ) (a : StoreAnswer) (e : SlateDBError) → goes from now a ≡ End to (Err e) → is_memory e ≡ false
 never_memory from to now a e h = subst (λ (g : Goes Position Ended). IsPlain g) h (plain_phrase from.db from.phrase now a)
 
--- want of memory left the call as it was
+-- running out of memory left the call as it was
 pub kept_by : (purpose : Purpose) (from to : Position) {old new : Told} (moment : ℤ) (e : SlateDBError) → is_memory e ≡ true
     → OrMemory {X = Ended} (Err e) (Held old new (asks from) moment from to) (Stepped old new (asks from) moment (goes from moment) (End to (Err e)))
     → Kept purpose from old new purpose to

@@ -49,7 +49,7 @@ fn step_over(
     }
 }
 
-/// Makes the one store call that is due in a party's call, under a mark. Want of memory leaves the call and the store's
+/// Makes the one store call that is due in a party's call, under a mark. Running out of memory leaves the call and the store's
 /// objects as they were.
 pub fn step_party(
     alloc: Global,

@@ -90,7 +90,7 @@ pub fn is_due(position: &Position) -> bool
     }
 }
 
-/// Makes the one store call that the position asks. Want of memory leaves the position as it was.
+/// Makes the one store call that the position asks. Running out of memory leaves the position as it was.
 pub(crate) fn step_phrase<S: ObjectStore>(
     alloc: Global,
     position: &mut Position,

@@ -78,7 +78,7 @@ fn go_on(
     }
 }
 
-// The latest manifest was read. Want of memory puts the read back to its last phase.
+// The latest manifest was read. Running out of memory puts the read back to its last phase.
 fn read_version(
     alloc: Global,
     facts: &Facts,
@@ -130,7 +130,7 @@ fn end_pass(purpose: &Purpose, counts: &PassCounts) -> Reply
     }
 }
 
-// The phrase under way has ended. Want of memory puts it back to its last phase.
+// The phrase under way has ended. Running out of memory puts it back to its last phase.
 fn end_phrase(
     alloc: Global,
     facts: &Facts,
@@ -161,7 +161,7 @@ fn end_phrase(
     }
 }
 
-/// Makes the one store call that is due in a call, and goes on from its answer. A reply ends the call. Want of memory
+/// Makes the one store call that is due in a call, and goes on from its answer. A reply ends the call. Running out of memory
 /// leaves the call and the store's contents as they were.
 pub(crate) fn step_call(
     alloc: Global,

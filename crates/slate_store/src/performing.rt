@@ -103,7 +103,7 @@ fn perform_delete<S: ObjectStore>(
     }
 }
 
-/// Makes a call that is given as a value. A write takes the moment. Want of memory leaves all unchanged.
+/// Makes a call that is given as a value. A write takes the moment. Running out of memory leaves all unchanged.
 pub fn perform<S: ObjectStore>(
     alloc: Global,
     store: &mut S,

@@ -67,7 +67,7 @@ impl<T> Queue<T> {
         self.items
     }
 
-    /// Adds a value at the end. Want of memory changes nothing.
+    /// Adds a value at the end. Running out of memory changes nothing.
     pub fn push_back(&mut self, item: T) -> Result<(), OutOfMemory>
     where
         T: Drop,
@@ -78,7 +78,7 @@ impl<T> Queue<T> {
         Ok(())
     }
 
-    /// Adds a value at the front. Want of memory changes nothing.
+    /// Adds a value at the front. Running out of memory changes nothing.
     pub fn push_front(&mut self, item: T) -> Result<(), OutOfMemory>
     where
         T: Drop,

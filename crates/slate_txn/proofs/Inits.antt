@@ -1,4 +1,4 @@
--- Want of memory leaves the machine of a fence as it was.
+-- Running out of memory leaves the machine of a fence as it was.
 use Rattle.std.specs.Prelude.{ℕ, ℤ, Err, refl}
 use Rattle.std.proofs.Common.{inr, ap}
 use Rattle.slate_ids.specs.declared.error.SlateDBError.TheVariants.{OutOfMemory}
@@ -15,7 +15,7 @@ use Rattle.slate_txn.specs.Initing.{InitSteps}
 abbrev committing : {T C R E : Type 0} → Holder T C R → E → CommitPhase T → InitMachine T C R E
 committing holder epochs commit = Committing commit holder epochs
 
--- want of memory leaves it as it was
+-- running out of memory leaves it as it was
 pub init_held : {T C R E : Type 0} (epoch : E → T → ℕ) (old new : Told) (moment : ℤ) (p q : CommitPhase T) (holder : Holder T C R) (epochs : E) → Held old new (commit_asks holder.sequenced.db holder.sequenced.log p) moment p q
     → InitSteps epoch old new moment (Committing p holder epochs) (Committing q holder epochs) (Done (Err OutOfMemory))
 init_held epoch old new moment p q holder epochs held = inr (refl, record { kept = ap (committing holder epochs) held.kept; made = held.made })

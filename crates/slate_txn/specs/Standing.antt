@@ -26,7 +26,7 @@ after_put (TransactionalObjectVersionExists number (Some boundary)) = true
 after_put (Corrupt BoundaryFormat) = true
 after_put _ = false
 
--- the refusals after which the put may stand: these, and want of memory
+-- the refusals after which the put may stand: these, and running out of memory
 abbrev pub may_stand : SlateDBError → Bool
 may_stand e = is_memory e || after_put e
 

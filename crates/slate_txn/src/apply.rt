@@ -63,7 +63,7 @@ impl<T: Drop> ApplyPhase<T> {
         }
     }
 
-    /// Whether a call is due. None is after an end, but for want of memory.
+    /// Whether a call is due. None is after an end, unless memory ran out.
     pub fn due(&self) -> bool
         ensures { result ≡ apply_due self.now }
     {
@@ -83,7 +83,7 @@ impl<T: Drop> ApplyPhase<T> {
         }
     }
 
-    /// Goes on from the answer to that call. Want of memory leaves phase and holder as they were.
+    /// Goes on from the answer to that call. Running out of memory leaves phase and holder as they were.
     pub fn goes_on<
         C: ObjectCodec<T> + Drop,
         R: Rules<T> + Drop,
@@ -161,7 +161,7 @@ impl<T: Drop> ApplyPhase<T> {
         }
     }
 
-    /// Makes the one call that is due. Want of memory leaves phase and holder as they were.
+    /// Makes the one call that is due. Running out of memory leaves phase and holder as they were.
     pub fn next<
         C: ObjectCodec<T> + Drop,
         R: Rules<T> + Drop,

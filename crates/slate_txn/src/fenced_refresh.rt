@@ -95,7 +95,7 @@ impl<T: Drop, C: ObjectCodec<T> + Drop, R: Rules<T> + Drop, E: Epochs<T> + Drop>
 }
 
 impl<T: Drop> FencedRefreshMachine<T> {
-    /// Whether a call is due. None is after an end, but for want of memory.
+    /// Whether a call is due. None is after an end, unless memory ran out.
     pub fn due(&self) -> bool
         ensures { result ≡ read_due self.now }
     {
@@ -103,7 +103,7 @@ impl<T: Drop> FencedRefreshMachine<T> {
     }
 
     /// Makes the one call that is due. A version that was read is held, also where the answer is `Fenced`. A version that
-    /// is gone or at or below the boundary starts the read again. Want of memory leaves the machine as it was, and any
+    /// is gone or at or below the boundary starts the read again. Running out of memory leaves the machine as it was, and any
     /// other end leaves none due.
     pub fn next<C: ObjectCodec<T> + Drop, R: Rules<T> + Drop, E: Epochs<T> + Drop, S: ObjectStore>(
         &mut self,

@@ -93,7 +93,7 @@ impl<T: Drop, C: ObjectCodec<T> + Drop, R: Rules<T> + Drop, E: Epochs<T> + Drop>
     R,
     E,
 > {
-    /// Whether a call is due. None is after an end, but for want of memory, nor where the raise was refused.
+    /// Whether a call is due. None is after an end, unless memory ran out, nor where the raise was refused.
     pub fn due(&self) -> bool
         ensures due { result ≡ init_due self.now }
         ensures open { result ≡ true → init_open self.now ≡ true }

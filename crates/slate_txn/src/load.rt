@@ -76,7 +76,7 @@ impl<T: Drop, C: ObjectCodec<T> + Drop, R: Rules<T> + Drop> Stored<T, C, R> {
 }
 
 impl<T: Drop, C: ObjectCodec<T> + Drop, R: Rules<T> + Drop> LoadMachine<T, C, R> {
-    /// Whether a call is due. None is after an end, but for want of memory.
+    /// Whether a call is due. None is after an end, unless memory ran out.
     pub fn due(&self) -> bool
         ensures { result ≡ load_due self.now }
     {
@@ -86,7 +86,7 @@ impl<T: Drop, C: ObjectCodec<T> + Drop, R: Rules<T> + Drop> LoadMachine<T, C, R>
         }
     }
 
-    /// Makes the one call that is due. Want of memory leaves the machine as it was, and any other end leaves none due.
+    /// Makes the one call that is due. Running out of memory leaves the machine as it was, and any other end leaves none due.
     pub fn next<S: ObjectStore>(
         &mut self,
         alloc: Global,

@@ -94,7 +94,7 @@ impl<T: Drop, C: ObjectCodec<T> + Drop, R: Rules<T> + Drop> Stored<T, C, R> {
 }
 
 impl<T: Drop> RefreshMachine<T> {
-    /// Whether a call is due. None is after an end, but for want of memory.
+    /// Whether a call is due. None is after an end, unless memory ran out.
     pub fn due(&self) -> bool
         ensures { result ≡ read_due self.now }
     {
@@ -102,7 +102,7 @@ impl<T: Drop> RefreshMachine<T> {
     }
 
     /// Makes the one call that is due. A version that was read is held. A version that is gone or at or below the boundary
-    /// starts the read again. Want of memory leaves the machine as it was, and any other end leaves none due.
+    /// starts the read again. Running out of memory leaves the machine as it was, and any other end leaves none due.
     pub fn next<C: ObjectCodec<T> + Drop, R: Drop, S: ObjectStore>(
         &mut self,
         alloc: Global,

@@ -147,7 +147,7 @@ fn hold_step<T: Drop, C: Drop, R: Drop>(
 }
 
 impl<T: Drop> UpdateMachine<T> {
-    /// Whether a call is due. None is after an end, but for want of memory, nor where nothing is committed.
+    /// Whether a call is due. None is after an end, unless memory ran out, nor where nothing is committed.
     pub fn due(&self) -> bool
         ensures due { result ≡ update_due self.now }
         ensures open { result ≡ true → update_open self.now ≡ true }
@@ -161,7 +161,7 @@ impl<T: Drop> UpdateMachine<T> {
 
     /// Makes the one call that is due. A refused update makes none and answers its refusal, and where there is nothing to
     /// commit it makes none and answers Ok. A conflict ends it. After a commit the holder holds what was put, and else it is
-    /// unchanged. Want of memory leaves the machine as it was, and any other end leaves none due.
+    /// unchanged. Running out of memory leaves the machine as it was, and any other end leaves none due.
     pub fn next<C: Drop, R: Drop, S: ObjectStore>(
         &mut self,
         alloc: Global,
