@@ -10,6 +10,7 @@ use Rattle.std.proofs.Common.{◌≡◌, refl, sym, ◌∙◌, ap, arith, drop, 
 use Rattle.std.proofs.lemmas.List.{at_drop_more}
 use Rattle.std.proofs.lemmas.Map.Text.{is_eq-slice_cmp}
 use Rattle.slate_ids.specs.Keys.{key_lt}
+use Rattle.slate_ids.proofs.KeyOrder.{other_way}
 use Rattle.slate_model.specs.Segments.{ascend_from, are_ascending}
 use Rattle.slate_databases.specs.declared.tree_items.TreeItems.{TreeItems}
 use Rattle.slate_databases.specs.Databases.{with_prefix, is_some_prefix, named_prefixes, segment_prefixes, segment_of, segments_of}
@@ -30,17 +31,6 @@ is_less : (o : Ordering) → is_lt o ≡ true → o ≡ Less
 is_less Less h = refl
 is_less Equal h = absurd cc
 is_less Greater h = absurd cc
-
-decided : (o r : Ordering) → o ≡ ordering_reverse r → is_lt o ≡ false → is_eq o ≡ false → is_lt r ≡ true
-decided Less r e l q = absurd cc
-decided Equal r e l q = absurd cc
-decided Greater Less e l q = refl
-decided Greater Equal e l q = absurd cc
-decided Greater Greater e l q = absurd cc
-
--- of two keys that differ, one stands before the other
-other_way : (a b : List ℕ) → key_lt a b ≡ false → bytes_eq a b ≡ false → key_lt b a ≡ true
-other_way a b l q = decided (slice_cmp nat_cmp a b) (slice_cmp nat_cmp b a) (nat_list_cmp_total.antisymm a b) l (is_eq-slice_cmp a b ∙ q)
 
 -- the empty prefix stands before all others
 first_of_all : (p : List ℕ) → is_some_prefix p ≡ true → key_lt [] p ≡ true

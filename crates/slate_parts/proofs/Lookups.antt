@@ -3,24 +3,12 @@ use Rattle.std.specs.Prelude.{ℕ, zero, suc, ◌+◌, ◌<◌, ◌≤◌, Bool,
 use Rattle.std.specs.List.Sorted.{IsPartitionedBy, IsPartitionPoint}
 use Rattle.std.proofs.Common.{◌≡◌, refl, sym, ◌∙◌, ap, arith}
 use Rattle.std.proofs.lemmas.Bool.{and_parts}
-use Rattle.std.proofs.lemmas.Bool.Decides.{nat_tests}
 use Rattle.std.proofs.lemmas.List.{drop_more}
 use Rattle.std.proofs.lemmas.List.Sums.{prefix_len_is}
 use Rattle.slate_tables.specs.declared.ss_table_handle.SsTableHandle.{SsTableHandle}
 use Rattle.slate_parts.specs.Tables.{table_id, is_before, stands_before, ascend, table_at, of_id, place_of}
-use Rattle.slate_ids.specs.Ulids.{id_lt, same_id}
-
-chained : (a b c : ℕ × ℕ) → id_lt a b ≡ true → id_lt b c ≡ true → id_lt a c ≡ true
-chained a b c h k = grind (arith, nat_tests)
-
-not_same : (a b : ℕ × ℕ) → id_lt a b ≡ true → same_id a b ≡ false
-not_same a b h = grind (arith, nat_tests)
-
-not_same_above : (a b c : ℕ × ℕ) → id_lt a b ≡ true → id_lt a c ≡ false → same_id b c ≡ false
-not_same_above a b c h k = grind (arith, nat_tests)
-
-stays_above : (a b c : ℕ × ℕ) → id_lt a b ≡ true → id_lt a c ≡ false → id_lt b c ≡ false
-stays_above a b c h k = grind (arith, nat_tests)
+use Rattle.slate_ids.specs.Ulids.{same_id}
+use Rattle.slate_ids.proofs.IdOrder.{chained, not_same, not_same_above, stays_above}
 
 -- tables of which the first that is left stands after one, and which ascend
 pub record After (h : SsTableHandle) (tables : List SsTableHandle) : Type 0 where

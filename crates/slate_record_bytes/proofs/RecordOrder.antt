@@ -1,21 +1,15 @@
 -- Compactions put in ascending order come last.
 use Rattle.std.specs.Prelude.{◌≡◌, ℕ, ◌&&◌, ◌++◌, true, false, List, [], ◌∷◌, map, if◌then◌else◌, refl}
 use Rattle.std.specs.List.{list_all, filter}
-use Rattle.std.proofs.Common.{ap, sym, ◌∙◌, subst, arith}
+use Rattle.std.proofs.Common.{ap, sym, ◌∙◌, subst}
 use Rattle.std.proofs.lemmas.Bool.{and_parts, and_from}
 use Rattle.std.proofs.lemmas.List.{append_assoc}
-use Rattle.std.proofs.lemmas.Bool.Decides.{nat_tests}
 use Rattle.slate_records.specs.declared.compaction.Compaction.{Compaction}
 use Rattle.slate_records.specs.Records.{are_ascending, inserted}
 use Rattle.slate_ids.specs.Ulids.{id_lt}
+use Rattle.slate_ids.proofs.IdOrder.{chained, one_way}
 use Rattle.slate_record_bytes.specs.Records.{Raw, compaction_of, leads, raws_ascend}
 use Rattle.slate_record_bytes.specs.RecordNormal.{normal_compaction}
-
-through : (a b c : ℕ × ℕ) → id_lt a b ≡ true → id_lt b c ≡ true → id_lt a c ≡ true
-through a b c h g = grind (arith, nat_tests)
-
-not_after : (a b : ℕ × ℕ) → id_lt a b ≡ true → id_lt b a ≡ false
-not_after a b h = grind (arith, nat_tests)
 
 -- ---- what ascends step by step does so as a whole
 
@@ -23,7 +17,7 @@ all_through : (a b : ℕ × ℕ) (cs : List Compaction) → id_lt a b ≡ true �
 all_through a b [] h g = refl
 all_through a b (c ∷ cs) h g =
     let p = and_parts (id_lt b c.id) (list_all (λ d. id_lt b d.id) cs) g in
-    and_from _ _ (through a b c.id h p.0) (all_through a b cs h p.1)
+    and_from _ _ (chained a b c.id h p.0) (all_through a b cs h p.1)
 
 before_all : (id : ℕ × ℕ) (raws : List Raw) → leads id raws ≡ true → are_ascending (map compaction_of raws) ≡ true → list_all (λ d. id_lt id d.id) (map compaction_of raws) ≡ true
 before_all id [] h g = refl
@@ -58,7 +52,7 @@ kept_none : (c : Compaction) (xs : List Compaction) → list_all (λ d. id_lt d.
 kept_none c [] h = refl
 kept_none c (x ∷ xs) h =
     let p = and_parts (id_lt x.id c.id) (list_all (λ d. id_lt d.id c.id) xs) h in
-    ap (λ b. if b then x ∷ filter (λ d. id_lt c.id d.id) xs else filter (λ d. id_lt c.id d.id) xs) (not_after x.id c.id p.0) ∙ kept_none c xs p.1
+    ap (λ b. if b then x ∷ filter (λ d. id_lt c.id d.id) xs else filter (λ d. id_lt c.id d.id) xs) (one_way x.id c.id p.0) ∙ kept_none c xs p.1
 
 -- what is put after all that are before it stands last
 pub inserted_last : (c : Compaction) (xs ys : List Compaction) → are_ascending (xs ++ c ∷ ys) ≡ true → inserted c xs ≡ xs ++ c ∷ []
