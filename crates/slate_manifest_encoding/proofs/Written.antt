@@ -30,7 +30,8 @@ use Rattle.slate_parts.specs.laws.Groups.{list_reads}
 use Rattle.slate_parts.specs.laws.Infos.{handle_reads}
 use Rattle.slate_manifest_parts.specs.TreeParts.{TreeFits, SegmentFits}
 use Rattle.slate_manifest_parts.specs.CheckpointParts.{moment_of, expiry_of, CheckpointParts, expiring, IsU32, CheckpointFits, checkpoint_parts, EntryFits}
-use Rattle.slate_manifest_parts.specs.ManifestParts.{last_number, Body, joined, manifest_of, body_of, body_in, body_bytes, all_used, using_all, made_of, manifest_among, second_version}
+use Rattle.slate_ids.specs.Limits.{last_number}
+use Rattle.slate_manifest_parts.specs.ManifestParts.{Body, joined, manifest_of, body_of, body_in, body_bytes, all_used, using_all, made_of, manifest_among, second_version}
 use Rattle.slate_manifest_parts.specs.Gathered.{ById}
 use Rattle.slate_manifest_parts.proofs.Bodies.{BodyFits, body_reads}
 use Rattle.slate_encodable.specs.Unencodable.{has_second, has_later_second, has_expiry, has_keys, short_view, short_run, short_tree, short_segment, are_short, early_field, late_field}
