@@ -1,9 +1,10 @@
 -- From how a machine goes on to what its step does.
-use Rattle.std.specs.Prelude.{◌≡◌, ℕ, ℤ, Bool, true, false, List, Option, Some, None, refl}
+use Rattle.std.specs.Prelude.{◌≡◌, ℕ, ℤ, true, List, Option, Some, None, refl}
 use Rattle.std.proofs.Common.{inl, inr, subst, ◌∙◌}
 use Rattle.slate_ids.specs.Answers.{OrMemory-map}
 use Rattle.slate_store.specs.Store.{Store}
 use Rattle.slate_store.specs.Calls.{Told, Makes, contents_after, moment_of}
+pub use Rattle.slate_store.specs.Calls.{is_reading}
 use Rattle.slate_store.specs.Machines.{Goes, Held, Steps, GoesOn}
 use Rattle.slate_log.specs.Due.{WhereOut}
 use Rattle.slate_log.specs.ReadPhase.{read_asks}
@@ -17,15 +18,6 @@ use Rattle.slate_store.specs.declared.step.Step.TheVariants.{Again, Done}
 use Rattle.slate_store.specs.declared.store_answer.StoreAnswer.{StoreAnswer}
 use Rattle.slate_store.specs.declared.store_call.StoreCall.{StoreCall}
 use Rattle.slate_store.specs.declared.store_call.StoreCall.TheVariants.{List as ListCall, Get, PutNew, Replace, Put, Delete}
-
--- a list or a get
-abbrev pub is_reading : StoreCall → Bool
-is_reading (ListCall dir) = true
-is_reading (Get path) = true
-is_reading (PutNew path bytes) = false
-is_reading (Replace path tag bytes) = false
-is_reading (Put path bytes) = false
-is_reading (Delete path) = false
 
 contents_keep : (mark : Mark) (call : StoreCall) (moment : ℤ) (s : Option Store) → is_reading call ≡ true → contents_after mark call moment s ≡ s
 contents_keep mark call moment None h = refl

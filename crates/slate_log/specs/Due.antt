@@ -29,6 +29,10 @@ abbrev pub WhereOut : {R : Type 0} → Step R → Type 0 → Type 0
 WhereOut Again fact = Unit {0}
 WhereOut (Done r) fact = ran_out r ≡ true → fact
 
+-- memory runs out only before the step's one store call: none was made, and the store is as it was
+abbrev pub OutBefore : {R : Type 0} → Told → Told → Step R → Type 0
+OutBefore old new step = WhereOut step (new ≡ old)
+
 -- memory never runs out
 abbrev pub NeverOut : {R : Type 0} → Step R → Type 0
 NeverOut Again = Unit {0}

@@ -2,7 +2,7 @@
 ghost use Rattle.std.specs.Prelude.{◌≡◌, ◌<◌, IfOk, true};
 ghost use Rattle.slate_store.specs.Machines.{Steps, Held, GoesOnAlways, IsAgain};
 ghost use Rattle.slate_log.specs.AdvancePhase.{advance_asks, advance_goes, advance_due, is_bounding, AdvanceFalls};
-ghost use Rattle.slate_log.specs.Due.{StillDue, FaultRose, WhereOut, NeverOut};
+ghost use Rattle.slate_log.specs.Due.{StillDue, FaultRose, WhereOut, OutBefore, NeverOut};
 
 use crate::boundary::{decode_boundary, encode_boundary};
 use crate::sequenced::Sequenced;
@@ -124,6 +124,7 @@ impl AdvancePhase {
         ensures due { StillDue result (advance_due self.new) }
         ensures memory { WhereOut result (Held (S.told store.old) (S.told store.new)
             (advance_asks sequenced.now.db sequenced.now.log self.old) moment self.old self.new) }
+        ensures before { OutBefore (S.told store.old) (S.told store.new) result }
         ensures fault { FaultRose (S.told store.old) (S.told store.new) result }
     {
         match self.asks(alloc, sequenced) {

@@ -3,7 +3,7 @@ ghost use Rattle.std.specs.Prelude.{◌≡◌, ◌+◌, ◌<◌, IfOk, Some, tru
 ghost use Rattle.slate_ids.specs.Answers.{Gives};
 ghost use Rattle.slate_store.specs.Machines.{Steps, Held, GoesOnAlways, IsAgain};
 ghost use Rattle.slate_log.specs.CommitPhase.{prepared, commit_asks, commit_goes, commit_due, commit_rank, is_putting, commit_version, KeepsVersion};
-ghost use Rattle.slate_log.specs.Due.{StillDue, FaultRose, WhereOut, NeverOut};
+ghost use Rattle.slate_log.specs.Due.{StillDue, FaultRose, WhereOut, OutBefore, NeverOut};
 
 use crate::boundary::boundary_in;
 use crate::right::Right;
@@ -135,6 +135,7 @@ impl<T: Drop> CommitPhase<T> {
         ensures version { KeepsVersion self.old self.new result }
         ensures memory { WhereOut result (Held (S.told store.old) (S.told store.new)
             (commit_asks sequenced.now.db sequenced.now.log self.old) moment self.old self.new) }
+        ensures before { OutBefore (S.told store.old) (S.told store.new) result }
         ensures fault { FaultRose (S.told store.old) (S.told store.new) result }
     {
         match self.asks(alloc, sequenced) {

@@ -2,7 +2,7 @@
 ghost use Rattle.std.specs.Prelude.{◌≡◌, ◌<◌, true};
 ghost use Rattle.slate_store.specs.Machines.{Steps, Held, GoesOnAlways, IsAgain};
 ghost use Rattle.slate_log.specs.DeletePhase.{delete_asks, delete_goes, delete_due, delete_rank};
-ghost use Rattle.slate_log.specs.Due.{StillDue, FaultRose, WhereOut, NeverOut};
+ghost use Rattle.slate_log.specs.Due.{StillDue, FaultRose, WhereOut, OutBefore, NeverOut};
 
 use crate::boundary::boundary_in;
 use crate::sequenced::Sequenced;
@@ -86,6 +86,7 @@ impl DeletePhase {
         ensures due { StillDue result (delete_due self.new) }
         ensures memory { WhereOut result (Held (S.told store.old) (S.told store.new)
             (delete_asks sequenced.now.db sequenced.now.log self.old) moment self.old self.new) }
+        ensures before { OutBefore (S.told store.old) (S.told store.new) result }
         ensures fault { FaultRose (S.told store.old) (S.told store.new) result }
     {
         let call = self.asks(sequenced);

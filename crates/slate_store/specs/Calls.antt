@@ -1,5 +1,5 @@
 -- What a store tells of itself, and what one call does to that.
-use Rattle.std.specs.Prelude.{◌≡◌, ◌≤◌, ℕ, ℤ, pos, Option, Some, None, Result, Ok, Err, List, [], ◌∷◌, ◌++◌, drop}
+use Rattle.std.specs.Prelude.{◌≡◌, ◌≤◌, ℕ, ℤ, pos, Bool, true, false, Option, Some, None, Result, Ok, Err, List, [], ◌∷◌, ◌++◌, drop}
 use Rattle.std.proofs.Common.{subst}
 pub use Rattle.slate_store.specs.Counts.{Rose}
 use Rattle.slate_store.specs.Store.{Store, effect}
@@ -92,6 +92,15 @@ moment_of (Delete path) moment = pos 0
 abbrev pub Performs : {E : Type 0} → Told → Told → StoreCall → ℤ → Result StoreAnswer E → Type 0
 Performs old new call moment (Ok answer) = Makes old new call (moment_of call moment) answer
 Performs old new call moment (Err e) = new ≡ old
+
+-- whether a call only reads: a list or a get
+abbrev pub is_reading : StoreCall → Bool
+is_reading (ListCall dir) = true
+is_reading (Get path) = true
+is_reading (PutNew path bytes) = false
+is_reading (Replace path tag bytes) = false
+is_reading (Put path bytes) = false
+is_reading (Delete path) = false
 
 -- where only a fault leads there, the count rose
 pub fault_rose : {old new : Told} {call wanted : StoreCall} {moment : ℤ} {answer : StoreAnswer} → Makes old new call moment answer → call ≡ wanted → (IsAnswerTo wanted answer → answer ≡ Fault) → Rose old.faults new.faults

@@ -53,12 +53,12 @@ turns_on is_start asks goes moment old mid new (m ∷ ms) (Stay q) p out run ste
     = turns_on is_start asks goes moment run.0 mid new ms (goes q m.answer) p out run.3 step in omega (arith, rest)
 turns_on is_start asks goes moment old mid new (m ∷ ms) (End q r) p out run step = absurd run
 
--- a plain call of so many tries made these calls: it ends with the machine's reply, or each try started again
+-- a plain call of so many tries made these calls: it ends with the machine's reply, or each try started again, and the last call led back to a start
 pub record Ran {P R : Type 0} (is_start : P → Bool) (asks : P → StoreCall) (goes : P → StoreAnswer → Goes P R) (moment : ℤ) (tries : ℕ) (old new : Told) (start to : P) (result : Result R SlateDBError) : Type 0 where
   pub made : List Made
   pub out : Goes P R
   pub run : Run asks goes moment old new made (Stay start) out
-  pub ends : ((out ≡ End to result) × (turns is_start goes made (Stay start) < tries)) ⊎ ((out ≡ Stay to) × (result ≡ Err Contended) × (turns is_start goes made (Stay start) ≡ tries))
+  pub ends : ((out ≡ End to result) × (turns is_start goes made (Stay start) < tries)) ⊎ ((out ≡ Stay to) × (result ≡ Err Contended) × (turns is_start goes made (Stay start) ≡ tries) × (is_start to ≡ true))
 
 -- memory ran out in a plain call of so many tries: these calls led to where it stands, and at most the next one was made besides
 pub record Began {P R : Type 0} (is_start : P → Bool) (asks : P → StoreCall) (goes : P → StoreAnswer → Goes P R) (moment : ℤ) (tries : ℕ) (old new : Told) (start to : P) : Type 0 where
@@ -121,7 +121,7 @@ gives_up {R = R} {is_start = is_start} {asks = asks} {goes = goes} {moment = mom
       made = running.made ++ made_by (asks p) step.answer ∷ [];
       out = Stay q;
       run = run_on asks goes moment old mid new running.made (Stay start) p (Stay q) running.run step;
-      ends = inr (refl, refl, omega (arith, count, more, running.used, one));
+      ends = inr (refl, refl, omega (arith, count, more, running.used, one), h);
     }
 
 -- a step that ends the call
