@@ -1,3 +1,4 @@
 pub mod Checkpoints
 pub mod Rules
 pub mod Writers
+pub mod Changes

@@ -6,6 +6,7 @@ use Rattle.slate_ids.specs.declared.error.SlateDBError.TheVariants.{UpdateRefuse
 use Rattle.slate_ids.specs.declared.error.UpdateRule.{UpdateRule}
 use Rattle.slate_ids.specs.declared.error.UpdateRule.TheVariants.{U1, U2}
 use Rattle.slate_model.specs.declared.manifest.Manifest.{Manifest}
+use Rattle.slate_records.specs.Records.{Record}
 use Rattle.slate_log.specs.declared.right.Right.{Right}
 use Rattle.slate_updates.specs.Checkpoints.{is_named}
 
@@ -29,3 +30,11 @@ refused_by (Some rule) = Some (UpdateRefused rule)
 -- why a new manifest may not follow the old one of this number
 abbrev pub manifest_refusal : ℕ → Manifest → Manifest → Right → Option SlateDBError
 manifest_refusal id old new right = refused_by (refusal_of_update id old new)
+
+-- an epoch of a record is below the old one
+abbrev pub record_falls : Record → Record → Bool
+record_falls old new = nat_lt new.compactor_epoch old.compactor_epoch
+
+-- why a new record may not follow the old one of this number: so far its epoch alone is looked at
+abbrev pub record_refusal : ℕ → Record → Record → Right → Option SlateDBError
+record_refusal id old new right = refused_by (if record_falls old new then Some U1 else None)

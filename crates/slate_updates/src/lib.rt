@@ -5,6 +5,7 @@ mod checkpoints;
 mod epochs;
 mod flushing;
 mod lookups;
+mod manifest_change;
 mod rules;
 
 pub use checkpoints::{
@@ -13,4 +14,5 @@ pub use checkpoints::{
 pub use epochs::{WriterEpochs, raise_writer};
 pub use flushing::flush;
 pub use lookups::{find_checkpoint, is_named};
+pub use manifest_change::{ManifestChange, floors_rise};
 pub use rules::{ManifestRules, refusal_of_update};
