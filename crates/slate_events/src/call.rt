@@ -1,7 +1,7 @@
 //! Calls of parties.
 ghost use Rattle.std.specs.Prelude.{◌≡◌, IfOk};
 
-use crate::filter_word::FilterWord;
+use slate_gc::FilterWord;
 use slate_ids::{CheckpointId, GcMessage, Millis, OutOfMemory, Text};
 use slate_model::Plain;
 use std::alloc::Global;

@@ -1,4 +1,5 @@
-mod Keeping
-mod Greatest
 mod Named
+mod Kept
+mod Starts
 mod PassFaults
+mod GcFaults

@@ -1,8 +1,9 @@
 -- A pass ends in a fault only where the store faults.
 use Rattle.std.specs.Prelude.{◌≡◌, ◌≢◌, ℕ, ℤ, Bool, true, false, List, [], ◌∷◌, Option, Some, None, Result, Ok, Err, nat_le, if◌then◌else◌, refl}
 use Rattle.std.proofs.Common.{◌⊎◌, inl, inr, ap, sym, subst}
-use Rattle.slate_gc.specs.Pass.{PassGoes, is_reading_phase, pass_asks, pass_goes, pass_due, listed_goes, candidates_by, decoded_goes, got_goes, moves_to, bounded_next, bounded_goes, deletes_next, advanced_goes, one_deleted, one_failed, counts_of}
-use Rattle.slate_gc.specs.Picks.{Dated, greatest_number, picks}
+use Rattle.slate_gc.specs.Deletes.{one_deleted, one_failed, counts_of}
+use Rattle.slate_gc.specs.Pass.{PassGoes, is_reading_phase, pass_asks, pass_goes, pass_due, listed_goes, decoded_goes, got_goes, moves_to, bounded_next, bounded_goes, deletes_next, advanced_goes}
+use Rattle.slate_gc.specs.Picks.{picks}
 use Rattle.slate_gc.specs.declared.pass_counts.PassCounts.{PassCounts}
 use Rattle.slate_gc.specs.declared.pass_options.PassOptions.{PassOptions}
 use Rattle.slate_gc.specs.declared.pass_phase.PassPhase.{PassPhase}
@@ -33,90 +34,85 @@ use Rattle.slate_store.specs.declared.store_answer.StoreAnswer.TheVariants.{Foun
 abbrev FinePass : PassGoes → Type 0
 FinePass out = Fine pass_due out
 
-fine_listed : (now : ℤ) (found : List ObjectMetadata) (n : Option ℕ) → FinePass (listed_goes now found n)
-fine_listed now found None = fine_err pass_due Over LatestTransactionalObjectVersionMissing (λ same. absurd cc)
-fine_listed now found (Some n) = fine_stay pass_due _ refl
+fine_listed : (min_age : ℕ) (now : ℤ) (found : List ObjectMetadata) (n : Option ℕ) → FinePass (listed_goes min_age now found n)
+fine_listed min_age now found None = fine_err pass_due Over LatestTransactionalObjectVersionMissing (λ same. absurd cc)
+fine_listed min_age now found (Some n) = fine_stay pass_due _ refl
 
-no_fault : (options : PassOptions) (now : ℤ) (n : ℕ) (listed : List Dated) (m : Result Manifest SlateDBError) → m ≢ Err StoreFault → candidates_by options now n listed m ≢ Err StoreFault
-no_fault options now n listed (Ok m) h = λ same. absurd cc
-no_fault options now n listed (Err e) h = λ same. (let is : e ≡ StoreFault = cc in h (ap (λ (k : SlateDBError). Err k) is))
+fine_decoded : (n : ℕ) (found : List ObjectMetadata) (m : Result Manifest SlateDBError) → m ≢ Err StoreFault → FinePass (decoded_goes n found m)
+fine_decoded n found (Ok m) h = fine_stay pass_due _ refl
+fine_decoded n found (Err e) h = fine_err pass_due Over e (λ same. h (ap (λ (k : SlateDBError). Err k) same))
 
-fine_decoded : (n : ℕ) (numbers : Result (List ℕ) SlateDBError) → numbers ≢ Err StoreFault → FinePass (decoded_goes n numbers)
-fine_decoded n (Ok numbers) h = fine_stay pass_due (Bounding n numbers) refl
-fine_decoded n (Err e) h = fine_err pass_due Over e (λ same. h (ap (λ (k : SlateDBError). Err k) same))
+fine_got : (decoded : List ℕ → Result Manifest SlateDBError) → NoFault decoded → (n : ℕ) (found : List ObjectMetadata) (object : Option StoredObject) → FinePass (got_goes decoded n found object)
+fine_got decoded good n found None = fine_err pass_due Over (ManifestMissing n) (λ same. absurd cc)
+fine_got decoded good n found (Some object) = fine_decoded n found (decoded object.bytes) (good object.bytes)
 
-fine_got : (decoded : List ℕ → Result Manifest SlateDBError) → NoFault decoded → (options : PassOptions) (now : ℤ) (n : ℕ) (listed : List Dated) (object : Option StoredObject) → FinePass (got_goes decoded options now n listed object)
-fine_got decoded good options now n listed None = fine_err pass_due Over (ManifestMissing n) (λ same. absurd cc)
-fine_got decoded good options now n listed (Some object) =
-    fine_decoded n (candidates_by options now n listed (decoded object.bytes)) (no_fault options now n listed (decoded object.bytes) (good object.bytes))
+fine_moves : (picked : List ObjectMetadata) (k : Option ℕ) → FinePass (moves_to picked k)
+fine_moves picked None = fine_ok pass_due Over (counts_of 0)
+fine_moves picked (Some k) = fine_stay pass_due (Advancing (advancing.Bounding k) picked) refl
 
-fine_moves : (numbers : List ℕ) (k : Option ℕ) → FinePass (moves_to numbers k)
-fine_moves numbers None = fine_ok pass_due Over (counts_of 0)
-fine_moves numbers (Some k) = fine_stay pass_due (Advancing (advancing.Bounding k) numbers) refl
+fine_above : (options : PassOptions) (n : ℕ) (candidates : List ObjectMetadata) (test : Bool) → FinePass (if test then End Over (Err (ManifestMissing n)) else bounded_next options candidates)
+fine_above options n candidates true = fine_err pass_due Over (ManifestMissing n) (λ same. absurd cc)
+fine_above options n candidates false = fine_moves (picks options candidates) (greatest logs.Manifest candidates)
 
-fine_above : (n : ℕ) (numbers : List ℕ) (test : Bool) → FinePass (if test then End Over (Err (ManifestMissing n)) else bounded_next numbers)
-fine_above n numbers true = fine_err pass_due Over (ManifestMissing n) (λ same. absurd cc)
-fine_above n numbers false = fine_moves numbers (greatest_number numbers)
+fine_bounded : (options : PassOptions) (n : ℕ) (candidates : List ObjectMetadata) (boundary : Option ℕ) → FinePass (bounded_goes options n candidates boundary)
+fine_bounded options n candidates None = fine_err pass_due Over (Corrupt BoundaryFormat) (λ same. absurd cc)
+fine_bounded options n candidates (Some boundary) = fine_above options n candidates (nat_le n boundary)
 
-fine_bounded : (n : ℕ) (numbers : List ℕ) (boundary : Option ℕ) → FinePass (bounded_goes n numbers boundary)
-fine_bounded n numbers None = fine_err pass_due Over (Corrupt BoundaryFormat) (λ same. absurd cc)
-fine_bounded n numbers (Some boundary) = fine_above n numbers (nat_le n boundary)
-
-fine_deletes : (left : List ℕ) (counts : PassCounts) → FinePass (deletes_next left counts)
+fine_deletes : (left : List ObjectMetadata) (counts : PassCounts) → FinePass (deletes_next left counts)
 fine_deletes [] counts = fine_ok pass_due Over counts
-fine_deletes (n ∷ ns) counts = fine_stay pass_due (Deleting (n ∷ ns) counts) refl
+fine_deletes (m ∷ ms) counts = fine_stay pass_due (Deleting (m ∷ ms) counts) refl
 
-fine_advanced : (options : PassOptions) (numbers : List ℕ) (out : AdvanceGoes) → Fine advance_due out → FinePass (advanced_goes options numbers out)
-fine_advanced options numbers (Stay advance) fine = fine_stay pass_due (Advancing advance numbers) (fine.stays advance refl)
-fine_advanced options numbers (End advance (Ok done)) fine = fine_deletes (picks options numbers) _
-fine_advanced options numbers (End advance (Err e)) fine = fine_err pass_due Over e (λ same. fine.ends advance (ap (λ (k : SlateDBError). End advance (Err k)) same))
+fine_advanced : (picked : List ObjectMetadata) (out : AdvanceGoes) → Fine advance_due out → FinePass (advanced_goes picked out)
+fine_advanced picked (Stay advance) fine = fine_stay pass_due (Advancing advance picked) (fine.stays advance refl)
+fine_advanced picked (End advance (Ok done)) fine = fine_deletes picked _
+fine_advanced picked (End advance (Err e)) fine = fine_err pass_due Over e (λ same. fine.ends advance (ap (λ (k : SlateDBError). End advance (Err k)) same))
 
-advance_ends : (options : PassOptions) (numbers : List ℕ) (advance : AdvancePhase) → IsEnd (advanced_goes options numbers (advance_goes advance Fault))
-advance_ends options numbers (advancing.Bounding n) = tt
-advance_ends options numbers (advancing.Creating n) = tt
-advance_ends options numbers (advancing.Replacing n tag) = tt
-advance_ends options numbers advancing.Over = tt
+advance_ends : (picked : List ObjectMetadata) (advance : AdvancePhase) → IsEnd (advanced_goes picked (advance_goes advance Fault))
+advance_ends picked (advancing.Bounding n) = tt
+advance_ends picked (advancing.Creating n) = tt
+advance_ends picked (advancing.Replacing n tag) = tt
+advance_ends picked advancing.Over = tt
 
-sound_advance : (options : PassOptions) (numbers : List ℕ) (advance : AdvancePhase) (answer : StoreAnswer) → ((answer ≡ Fault) × IsEnd (advance_goes advance answer)) ⊎ Fine advance_due (advance_goes advance answer)
-    → ((answer ≡ Fault) × IsEnd (advanced_goes options numbers (advance_goes advance answer))) ⊎ FinePass (advanced_goes options numbers (advance_goes advance answer))
-sound_advance options numbers advance answer (inl f) = inl (f.0, subst (λ (a : StoreAnswer). IsEnd (advanced_goes options numbers (advance_goes advance a))) (sym f.0) (advance_ends options numbers advance))
-sound_advance options numbers advance answer (inr fine) = inr (fine_advanced options numbers (advance_goes advance answer) fine)
+sound_advance : (picked : List ObjectMetadata) (advance : AdvancePhase) (answer : StoreAnswer) → ((answer ≡ Fault) × IsEnd (advance_goes advance answer)) ⊎ Fine advance_due (advance_goes advance answer)
+    → ((answer ≡ Fault) × IsEnd (advanced_goes picked (advance_goes advance answer))) ⊎ FinePass (advanced_goes picked (advance_goes advance answer))
+sound_advance picked advance answer (inl f) = inl (f.0, subst (λ (a : StoreAnswer). IsEnd (advanced_goes picked (advance_goes advance a))) (sym f.0) (advance_ends picked advance))
+sound_advance picked advance answer (inr fine) = inr (fine_advanced picked (advance_goes advance answer) fine)
 
 -- a delete that faults is counted
-fine_deleted : (decoded : List ℕ → Result Manifest SlateDBError) (options : PassOptions) (now : ℤ) (db : List ℕ) (n : ℕ) (ns : List ℕ) (counts : PassCounts) (answer : StoreAnswer)
-    → IsAnswerTo (pass_asks db (Deleting (n ∷ ns) counts)) answer → FinePass (pass_goes decoded options now (Deleting (n ∷ ns) counts) answer)
-fine_deleted decoded options now db n ns counts (Found found) kind = absurd kind
-fine_deleted decoded options now db n ns counts (Got object) kind = absurd kind
-fine_deleted decoded options now db n ns counts (Created tag) kind = absurd kind
-fine_deleted decoded options now db n ns counts (Replaced tag) kind = absurd kind
-fine_deleted decoded options now db n ns counts (Written tag) kind = absurd kind
-fine_deleted decoded options now db n ns counts Deleted kind = fine_deletes ns (one_deleted counts)
-fine_deleted decoded options now db n ns counts Fault kind = fine_deletes ns (one_failed counts)
+fine_deleted : (decoded : List ℕ → Result Manifest SlateDBError) (options : PassOptions) (now : ℤ) (db : List ℕ) (m : ObjectMetadata) (ms : List ObjectMetadata) (counts : PassCounts) (answer : StoreAnswer)
+    → IsAnswerTo (pass_asks db (Deleting (m ∷ ms) counts)) answer → FinePass (pass_goes decoded options now (Deleting (m ∷ ms) counts) answer)
+fine_deleted decoded options now db m ms counts (Found found) kind = absurd kind
+fine_deleted decoded options now db m ms counts (Got object) kind = absurd kind
+fine_deleted decoded options now db m ms counts (Created tag) kind = absurd kind
+fine_deleted decoded options now db m ms counts (Replaced tag) kind = absurd kind
+fine_deleted decoded options now db m ms counts (Written tag) kind = absurd kind
+fine_deleted decoded options now db m ms counts Deleted kind = fine_deletes ms (one_deleted counts)
+fine_deleted decoded options now db m ms counts Fault kind = fine_deletes ms (one_failed counts)
 
 by_phase : (db : List ℕ) (decoded : List ℕ → Result Manifest SlateDBError) → NoFault decoded → (options : PassOptions) (now : ℤ) (p : PassPhase) (answer : StoreAnswer) → pass_due p ≡ true → IsAnswerTo (pass_asks db p) answer
     → ((answer ≡ Fault) × IsEnd (pass_goes decoded options now p answer)) ⊎ FinePass (pass_goes decoded options now p answer)
 by_phase db decoded good options now Listing answer due kind =
-    sound_at pass_due (pass_goes decoded options now Listing) Found answer (list_answers (folder logs.Manifest db) answer kind) tt (λ found. fine_listed now found (greatest logs.Manifest found))
-by_phase db decoded good options now (Getting listed_at n listed) answer due kind =
-    sound_at pass_due (pass_goes decoded options now (Getting listed_at n listed)) Got answer (get_answers (version_path logs.Manifest db n) answer kind) tt (λ object. fine_got decoded good options listed_at n listed object)
-by_phase db decoded good options now (Bounding n numbers) answer due kind =
-    sound_at pass_due (pass_goes decoded options now (Bounding n numbers)) Got answer (get_answers (boundary_path logs.Manifest db) answer kind) tt (λ object. fine_bounded n numbers (boundary_got object))
-by_phase db decoded good options now (Advancing advance numbers) answer due kind =
+    sound_at pass_due (pass_goes decoded options now Listing) Found answer (list_answers (folder logs.Manifest db) answer kind) tt (λ found. fine_listed options.min_age now found (greatest logs.Manifest found))
+by_phase db decoded good options now (Getting n found) answer due kind =
+    sound_at pass_due (pass_goes decoded options now (Getting n found)) Got answer (get_answers (version_path logs.Manifest db n) answer kind) tt (λ object. fine_got decoded good n found object)
+by_phase db decoded good options now (Bounding n candidates) answer due kind =
+    sound_at pass_due (pass_goes decoded options now (Bounding n candidates)) Got answer (get_answers (boundary_path logs.Manifest db) answer kind) tt (λ object. fine_bounded options n candidates (boundary_got object))
+by_phase db decoded good options now (Advancing advance picked) answer due kind =
     let only = advance_faults db logs.Manifest in
-    sound_advance options numbers advance answer (only.sound advance answer due kind)
+    sound_advance picked advance answer (only.sound advance answer due kind)
 by_phase db decoded good options now (Deleting [] counts) answer due kind = absurd cc
-by_phase db decoded good options now (Deleting (n ∷ ns) counts) answer due kind = inr (fine_deleted decoded options now db n ns counts answer kind)
+by_phase db decoded good options now (Deleting (m ∷ ms) counts) answer due kind = inr (fine_deleted decoded options now db m ms counts answer kind)
 by_phase db decoded good options now Over answer due kind = absurd cc
 
 -- a pass ends in a fault only where the store faults before its deletes
 pub pass_faults : (db : List ℕ) (decoded : List ℕ → Result Manifest SlateDBError) → NoFault decoded → (options : PassOptions) (now : ℤ) → OnlyFaults pass_due (pass_asks db) (pass_goes decoded options now)
 pass_faults db decoded good options now = record { sound = λ p answer. by_phase db decoded good options now p answer }
 
-reads_there : (db : List ℕ) (p : PassPhase) → is_reading_phase p ≡ true → is_reading (pass_asks db p) ≡ true
+pub reads_there : (db : List ℕ) (p : PassPhase) → is_reading_phase p ≡ true → is_reading (pass_asks db p) ≡ true
 reads_there db Listing h = refl
-reads_there db (Getting now n listed) h = refl
-reads_there db (Bounding n numbers) h = absurd cc
-reads_there db (Advancing advance numbers) h = absurd cc
+reads_there db (Getting n found) h = refl
+reads_there db (Bounding n candidates) h = refl
+reads_there db (Advancing advance picked) h = absurd cc
 reads_there db (Deleting left counts) h = absurd cc
 reads_there db Over h = absurd cc
 

@@ -1,4 +1,6 @@
-pub mod Queue
 pub mod Named
+pub mod Filter
 pub mod Picks
+pub mod Deletes
 pub mod Pass
+pub mod GcPass

@@ -1,10 +1,10 @@
--- Which versions a pass collects.
-use Rattle.std.specs.Prelude.{ℕ, ℤ, pos, ◌-ℤ◌, int_lt, nat_lt, not, ◌&&◌, Bool, List, [], ◌∷◌, Option, Some, None, if◌then◌else◌}
+-- What a pass picks of what it read: its candidates, and those of them that are deleted.
+use Rattle.std.specs.Prelude.{ℕ, ℤ, pos, ◌-ℤ◌, int_lt, nat_lt, not, ◌&&◌, Bool, false, List, [], filter, Option, Some, None, if◌then◌else◌}
 use Rattle.std.specs.Int.{w64, saturate_signed}
+use Rattle.slate_gc.specs.Filter.{allowed}
 use Rattle.slate_gc.specs.declared.pass_options.PassOptions.{PassOptions}
-use Rattle.slate_log.specs.Boundary.{greater}
 use Rattle.slate_log.specs.LogPaths.{number_of}
-use Rattle.slate_log.specs.declared.log_kind.LogKind.{LogKind}
+use Rattle.slate_log.specs.declared.log_kind.LogKind.TheVariants as logs
 use Rattle.slate_updates.specs.Checkpoints.{is_named}
 use Rattle.slate_model.specs.declared.checkpoint.Checkpoint.{Checkpoint}
 use Rattle.slate_store.specs.declared.object.ObjectMetadata.{ObjectMetadata}
@@ -13,35 +13,32 @@ use Rattle.slate_store.specs.declared.object.ObjectMetadata.{ObjectMetadata}
 abbrev pub is_aged : ℕ → ℤ → ℤ → Bool
 is_aged min_age now modified = int_lt (pos min_age) (saturate_signed w64 (now -ℤ modified))
 
--- a number, and the moment at which its object was modified
-abbrev pub Dated : Type 0
-Dated = ℕ × ℤ
+-- the listed objects that are aged
+abbrev pub aged : ℕ → ℤ → List ObjectMetadata → List ObjectMetadata
+aged min_age now found = filter (λ m. is_aged min_age now m.last_modified) found
 
--- these, after a listed object, where it is a version
-abbrev pub with_dated : Option ℕ → ℤ → List Dated → List Dated
-with_dated None modified rest = rest
-with_dated (Some n) modified rest = (n, modified) ∷ rest
+-- ---- candidates of the pass over the manifests
 
--- of each listed object that is a version of the log its number and the moment at which it was modified
-abbrev pub dated : LogKind → List ObjectMetadata → List Dated
-dated log [] = []
-dated log (m ∷ ms) = with_dated (number_of log m.location) m.last_modified (dated log ms)
+-- a number below the greatest that no checkpoint names
+abbrev pub is_unneeded : ℕ → List Checkpoint → Option ℕ → Bool
+is_unneeded greatest checkpoints None = false
+is_unneeded greatest checkpoints (Some n) = nat_lt n greatest && not (is_named n checkpoints)
 
--- a version below the greatest that no checkpoint names, and that is aged
-abbrev pub is_candidate : ℕ → ℤ → ℕ → List Checkpoint → Dated → Bool
-is_candidate min_age now greatest checkpoints d = nat_lt d.0 greatest && not (is_named d.0 checkpoints) && is_aged min_age now d.1
+-- of these objects the versions below the greatest that no checkpoint names
+abbrev pub unneeded : ℕ → List Checkpoint → List ObjectMetadata → List ObjectMetadata
+unneeded greatest checkpoints found = filter (λ m. is_unneeded greatest checkpoints (number_of logs.Manifest m.location)) found
 
--- the numbers of the candidates, in order
-abbrev pub candidates : ℕ → ℤ → ℕ → List Checkpoint → List Dated → List ℕ
-candidates min_age now greatest checkpoints [] = []
-candidates min_age now greatest checkpoints (d ∷ ds) =
-    if is_candidate min_age now greatest checkpoints d then d.0 ∷ candidates min_age now greatest checkpoints ds else candidates min_age now greatest checkpoints ds
+-- the candidates among the objects that were listed at a moment, by the greatest version's number and its checkpoints
+abbrev pub candidates : ℕ → ℤ → ℕ → List Checkpoint → List ObjectMetadata → List ObjectMetadata
+candidates min_age now greatest checkpoints found = unneeded greatest checkpoints (aged min_age now found)
 
--- the greatest of some numbers, where there is one
-abbrev pub greatest_number : List ℕ → Option ℕ
-greatest_number [] = None
-greatest_number (n ∷ ns) = greater (Some n) (greatest_number ns)
+-- ---- picks of any pass
 
--- the candidates that are deleted: none in a dry run, or where the filter allows none
-abbrev pub picks : PassOptions → List ℕ → List ℕ
-picks options numbers = if options.allows && not options.dry_run then numbers else []
+-- the candidates that are deleted: those that the filter allows, and none in a dry run
+abbrev pub picks : PassOptions → List ObjectMetadata → List ObjectMetadata
+picks options candidates = if options.dry_run then [] else allowed options.filter candidates
+
+-- some of the candidates, or all of them
+abbrev pub or_all : Option (List ObjectMetadata) → List ObjectMetadata → List ObjectMetadata
+or_all None candidates = candidates
+or_all (Some objects) candidates = objects

@@ -1,11 +1,12 @@
-//! Which versions a pass collects.
+//! Which objects a pass collects.
 ghost use Rattle.std.specs.Prelude.{◌≡◌, ◌++◌, ◌∷◌, [], List, IfOk, OnOk, if◌then◌else◌};
+ghost use Rattle.slate_log.specs.LogPaths.{number_of};
+ghost use Rattle.slate_log.specs.declared.log_kind.LogKind.TheVariants as logs;
 ghost use Rattle.slate_model.specs.declared.checkpoint.Checkpoint.{Checkpoint as AnyCheckpoint};
 ghost use Rattle.slate_gc.specs.Named.{IsSetOf};
 ghost use Rattle.slate_gc.specs.Picks as picking;
 
-use crate::numbers::Numbers;
-use crate::pass_options::PassOptions;
+use crate::objects::Objects;
 use slate_ids::{Listed, Millis, OutOfMemory};
 use slate_log::LogKind;
 use slate_model::Checkpoint;
@@ -21,18 +22,19 @@ pub fn is_aged(min_age: u64, now: Millis, modified: Millis) -> bool
     (min_age as i128) < age as i128
 }
 
-/// Of each listed object that is a version of the log its number and the moment at which it was modified, in order.
-pub fn dated(
+/// The objects that are older than `min_age` milliseconds, in their order.
+pub fn aged(
     alloc: Global,
-    log: LogKind,
+    min_age: u64,
+    now: Millis,
     found: &[ObjectMetadata],
-) -> Result<Listed<(u64, Millis)>, OutOfMemory>
-    ensures { IfOk result (λ listed. listed ≡ picking.dated log found.now) }
+) -> Result<Listed<ObjectMetadata>, OutOfMemory>
+    ensures { IfOk result (λ listed. listed ≡ picking.aged min_age now found.now) }
 {
     let mut listed = Listed::new(alloc);
-    for metadata in found {
-        if let Some(n) = log.number_of(&metadata.location) {
-            listed.push((n, metadata.last_modified))?;
+    for object in found {
+        if is_aged(min_age, now, object.last_modified) {
+            listed.push(object.copy(alloc)?)?;
         }
     }
     Ok(listed)
@@ -49,56 +51,47 @@ fn named_versions(alloc: Global, checkpoints: &[Checkpoint]) -> Result<BTreeSet<
     Ok(named)
 }
 
-// Whether a version may go: it is below the greatest, it isn't named, and it is older than `min_age` milliseconds.
-fn may_go(
-    min_age: u64,
-    now: Millis,
-    greatest: u64,
-    named: &BTreeSet<u64>,
-    version: &(u64, Millis),
-) -> bool
+// Whether an object is a version below the greatest that isn't named.
+fn may_go(greatest: u64, named: &BTreeSet<u64>, object: &ObjectMetadata) -> bool
     ensures { (cs : List AnyCheckpoint) → IsSetOf named.now cs
-        → result ≡ picking.is_candidate min_age now greatest cs version.now }
+        → result ≡ picking.is_unneeded greatest cs (number_of logs.Manifest object.now.location) }
 {
-    let (n, modified) = *version;
-    n < greatest && !named.contains(&n) && is_aged(min_age, now, modified)
+    match LogKind::Manifest.number_of(&object.location) {
+        Some(n) => n < greatest && !named.contains(&n),
+        None => false,
+    }
 }
 
-// Adds a number at the end, where it goes.
-fn push_if(goes: bool, numbers: &mut Numbers, n: u64) -> Result<(), OutOfMemory>
-    ensures { OnOk result (numbers.new ≡ (if goes then numbers.old ++ n ∷ [] else numbers.old)) }
-{
-    if goes { numbers.push(n) } else { Ok(()) }
-}
-
-/// The numbers of the versions that may go, in the order of the list.
-pub fn candidates_of(
+// Adds a copy of an object at the end, where it is kept.
+fn push_if(
     alloc: Global,
-    min_age: u64,
-    now: Millis,
+    keeps: bool,
+    objects: &mut Objects,
+    object: &ObjectMetadata,
+) -> Result<(), OutOfMemory>
+    ensures { OnOk result (objects.new
+        ≡ (if keeps then objects.old ++ object.now ∷ [] else objects.old)) }
+{
+    if keeps {
+        objects.push(object.copy(alloc)?)?;
+    }
+    Ok(())
+}
+
+/// Of these objects the versions below the greatest that no checkpoint names, in their order.
+pub fn unneeded(
+    alloc: Global,
     greatest: u64,
     checkpoints: &[Checkpoint],
-    listed: &[(u64, Millis)],
-) -> Result<Numbers, OutOfMemory>
-    ensures { IfOk result (λ numbers. numbers
-        ≡ picking.candidates min_age now greatest checkpoints.now listed.now) }
+    found: &[ObjectMetadata],
+) -> Result<Objects, OutOfMemory>
+    ensures { IfOk result (λ objects. objects ≡ picking.unneeded greatest checkpoints.now found.now) }
 {
     let named = named_versions(alloc, checkpoints)?;
-    let mut numbers = Numbers::new(alloc);
-    for version in listed {
-        let goes = may_go(min_age, now, greatest, &named, version);
-        push_if(goes, &mut numbers, version.0)?;
+    let mut objects = Objects::new(alloc);
+    for object in found {
+        let keeps = may_go(greatest, &named, object);
+        push_if(alloc, keeps, &mut objects, object)?;
     }
-    Ok(numbers)
-}
-
-/// Those of the candidates that are deleted: all, but none in a dry run or where the filter allows none. Takes no memory.
-pub fn picks(alloc: Global, options: &PassOptions, numbers: Numbers) -> Numbers
-    ensures { result ≡ picking.picks options.now numbers }
-{
-    if options.allows && !options.dry_run {
-        numbers
-    } else {
-        Numbers::new(alloc)
-    }
+    Ok(objects)
 }

@@ -2,14 +2,21 @@
 #![tactic(auto)]
 
 mod candidates;
-mod numbers;
+mod filter_word;
+mod gc_pass;
+mod lent;
+mod objects;
 mod onward;
 mod pass_counts;
 mod pass_options;
 mod pass_phase;
+mod picks;
+mod removal;
 
-pub use candidates::{candidates_of, dated, is_aged, picks};
-pub use numbers::Numbers;
+pub use candidates::{aged, is_aged, unneeded};
+pub use filter_word::FilterWord;
+pub use gc_pass::GcPass;
+pub use objects::Objects;
 pub use pass_counts::PassCounts;
 pub use pass_options::PassOptions;
 pub use pass_phase::PassPhase;

@@ -1,9 +1,7 @@
 //! What follows the answer to each call of a pass: the next phase, and the step.
-ghost use Rattle.std.specs.Prelude.{◌≡◌, Err};
+ghost use Rattle.std.specs.Prelude.{◌≡◌, Ok, Err};
 ghost use Rattle.slate_gc.specs.Pass as pass;
-ghost use Rattle.slate_gc.specs.Picks as picking;
 ghost use Rattle.slate_gc.specs.declared.pass_phase.PassPhase.TheVariants as phases;
-ghost use Rattle.slate_ids.specs.Answers.{Gives};
 ghost use Rattle.slate_log.specs.AdvancePhase.{advance_goes};
 ghost use Rattle.slate_log.specs.Boundary as boundaries;
 ghost use Rattle.slate_log.specs.Due.{StillDue, WhereOut, NeverOut};
@@ -11,11 +9,12 @@ ghost use Rattle.slate_log.specs.declared.log_kind.LogKind.TheVariants as logs;
 ghost use Rattle.slate_store.specs.Machines.{GoesOn, GoesOnAlways};
 ghost use Rattle.slate_store.specs.declared.step.Step.TheVariants.{Done};
 
-use crate::candidates::{candidates_of, dated, picks};
-use crate::numbers::Numbers;
+use crate::candidates::{aged, unneeded};
+use crate::objects::Objects;
 use crate::pass_counts::PassCounts;
 use crate::pass_options::PassOptions;
 use crate::pass_phase::PassPhase;
+use crate::picks::{chosen, or_all};
 use slate_ids::{FormatName, Listed, Millis, ObjectCodec, SlateDBError};
 use slate_log::{AdvancePhase, LogKind, boundary_in, greatest};
 use slate_model::Manifest;
@@ -34,16 +33,16 @@ fn refused(e: SlateDBError) -> Onward
 }
 
 // The greatest of the listed versions is to be got, where there is one.
-fn after_found(alloc: Global, now: Millis, found: &[ObjectMetadata]) -> Onward
-    ensures goes { GoesOn (pass.listed_goes now found.now (boundaries.greatest logs.Manifest found.now))
+fn after_found(alloc: Global, min_age: u64, now: Millis, found: &[ObjectMetadata]) -> Onward
+    ensures goes { GoesOn (pass.listed_goes min_age now found.now (boundaries.greatest logs.Manifest found.now))
         phases.Listing result.0 result.1 }
     ensures due { StillDue result.1 (pass.pass_due result.0) }
     ensures memory { WhereOut result.1 (result.0 ≡ phases.Listing) }
 {
     match greatest(LogKind::Manifest, found) {
         None => refused(SlateDBError::LatestTransactionalObjectVersionMissing),
-        Some(n) => match dated(alloc, LogKind::Manifest, found) {
-            Ok(listed) => (PassPhase::Getting(now, n, listed), Step::Again),
+        Some(n) => match aged(alloc, min_age, now, found) {
+            Ok(listed) => (PassPhase::Getting(n, listed), Step::Again),
             Err(_) => (
                 PassPhase::Listing,
                 Step::Done(Err(SlateDBError::OutOfMemory)),
@@ -53,89 +52,120 @@ fn after_found(alloc: Global, now: Millis, found: &[ObjectMetadata]) -> Onward
 }
 
 /// After the list of this moment. Running out of memory leaves the phase as it was.
-pub(crate) fn after_list(alloc: Global, now: Millis, answer: &StoreAnswer) -> Onward
-    ensures goes { GoesOn (pass.list_goes now answer.now) phases.Listing result.0 result.1 }
+pub(crate) fn after_list(alloc: Global, min_age: u64, now: Millis, answer: &StoreAnswer) -> Onward
+    ensures goes { GoesOn (pass.list_goes min_age now answer.now) phases.Listing result.0 result.1 }
     ensures due { StillDue result.1 (pass.pass_due result.0) }
     ensures memory { WhereOut result.1 (result.0 ≡ phases.Listing) }
 {
     match answer {
-        StoreAnswer::Found(found) => after_found(alloc, now, found.as_slice()),
+        StoreAnswer::Found(found) => after_found(alloc, min_age, now, found.as_slice()),
         _ => refused(SlateDBError::StoreFault),
     }
 }
 
-// The candidates by the bytes of the greatest manifest.
-fn candidates_by<C: ObjectCodec<Manifest>>(
+// The candidates by the greatest manifest.
+fn after_manifest(
+    alloc: Global,
+    n: u64,
+    found: Listed<ObjectMetadata>,
+    manifest: &Manifest,
+) -> Onward
+    ensures goes { GoesOn (pass.decoded_goes n found (Ok manifest.now))
+        (phases.Getting n found) result.0 result.1 }
+    ensures due { StillDue result.1 (pass.pass_due result.0) }
+    ensures memory { WhereOut result.1 (result.0 ≡ phases.Getting n found) }
+{
+    let checkpoints = manifest.core.checkpoints.as_slice();
+    match unneeded(alloc, n, checkpoints, found.as_slice()) {
+        Ok(candidates) => (PassPhase::Bounding(n, candidates), Step::Again),
+        Err(_) => (
+            PassPhase::Getting(n, found),
+            Step::Done(Err(SlateDBError::OutOfMemory)),
+        ),
+    }
+}
+
+// The bytes of the greatest manifest are read.
+fn after_bytes<C: ObjectCodec<Manifest>>(
     alloc: Global,
     codec: &C,
-    options: &PassOptions,
-    now: Millis,
     n: u64,
-    listed: &[(u64, Millis)],
+    found: Listed<ObjectMetadata>,
     bytes: &[u8],
-) -> Result<Numbers, SlateDBError>
-    ensures { Gives result (pass.candidates_by options.now now n listed.now (C.decoded codec.now bytes.now)) }
+) -> Onward
+    ensures goes { GoesOn (pass.decoded_goes n found (C.decoded codec.now bytes.now))
+        (phases.Getting n found) result.0 result.1 }
+    ensures due { StillDue result.1 (pass.pass_due result.0) }
+    ensures memory { WhereOut result.1 (result.0 ≡ phases.Getting n found) }
 {
-    let manifest = codec.decode(alloc, bytes)?;
-    let checkpoints = manifest.core.checkpoints.as_slice();
-    Ok(candidates_of(alloc, options.min_age, now, n, checkpoints, listed)?)
+    match codec.decode(alloc, bytes) {
+        Ok(manifest) => after_manifest(alloc, n, found, &manifest),
+        Err(e) => {
+            if e.is_memory() {
+                (PassPhase::Getting(n, found), Step::Done(Err(e)))
+            } else {
+                refused(e)
+            }
+        }
+    }
 }
 
 /// After the get of the greatest manifest. Running out of memory leaves the phase as it was.
 pub(crate) fn after_get<C: ObjectCodec<Manifest>>(
     alloc: Global,
     codec: &C,
-    options: &PassOptions,
-    now: Millis,
     n: u64,
-    listed: Listed<(u64, Millis)>,
+    found: Listed<ObjectMetadata>,
     answer: &StoreAnswer,
 ) -> Onward
-    ensures goes { GoesOn (pass.get_goes (C.decoded codec.now) options.now now n listed answer.now)
-        (phases.Getting now n listed) result.0 result.1 }
+    ensures goes { GoesOn (pass.get_goes (C.decoded codec.now) n found answer.now)
+        (phases.Getting n found) result.0 result.1 }
     ensures due { StillDue result.1 (pass.pass_due result.0) }
-    ensures memory { WhereOut result.1 (result.0 ≡ phases.Getting now n listed) }
+    ensures memory { WhereOut result.1 (result.0 ≡ phases.Getting n found) }
 {
     match answer {
         StoreAnswer::Got(None) => refused(SlateDBError::ManifestMissing(n)),
         StoreAnswer::Got(Some(object)) => {
-            let bytes = object.bytes.as_slice();
-            match candidates_by(alloc, codec, options, now, n, listed.as_slice(), bytes) {
-                Ok(numbers) => (PassPhase::Bounding(n, numbers), Step::Again),
-                Err(e) => {
-                    if e.is_memory() {
-                        (PassPhase::Getting(now, n, listed), Step::Done(Err(e)))
-                    } else {
-                        refused(e)
-                    }
-                }
-            }
+            after_bytes(alloc, codec, n, found, object.bytes.as_slice())
         }
         _ => refused(SlateDBError::StoreFault),
     }
 }
 
-// The boundary is to be moved up to the greatest candidate, where there is one.
-fn after_bounded(numbers: Numbers) -> Onward
-    ensures goes { GoesOnAlways (pass.bounded_next numbers) result.0 result.1 }
+// The boundary is to be moved up to the greatest candidate, where there is one, and the picks are taken.
+fn after_bounded(alloc: Global, options: &PassOptions, n: u64, candidates: Objects) -> Onward
+    ensures goes { GoesOn (pass.bounded_next options.now candidates)
+        (phases.Bounding n candidates) result.0 result.1 }
     ensures due { StillDue result.1 (pass.pass_due result.0) }
-    ensures memory { NeverOut result.1 }
+    ensures memory { WhereOut result.1 (result.0 ≡ phases.Bounding n candidates) }
 {
-    match numbers.greatest() {
+    match candidates.greatest() {
         None => (PassPhase::Over, Step::Done(Ok(PassCounts::of(0)))),
-        Some(k) => (
-            PassPhase::Advancing(AdvancePhase::Bounding(k), numbers),
-            Step::Again,
-        ),
+        Some(k) => match chosen(alloc, options, &candidates) {
+            Ok(some) => (
+                PassPhase::Advancing(AdvancePhase::Bounding(k), or_all(some, candidates)),
+                Step::Again,
+            ),
+            Err(_) => (
+                PassPhase::Bounding(n, candidates),
+                Step::Done(Err(SlateDBError::OutOfMemory)),
+            ),
+        },
     }
 }
 
 // After the boundary: a greatest manifest at or below it counts as gone.
-fn after_boundary(n: u64, numbers: Numbers, object: &Option<StoredObject>) -> Onward
-    ensures goes { GoesOnAlways (pass.bounded_goes n numbers (boundaries.boundary_got object.now))
-        result.0 result.1 }
+fn after_boundary(
+    alloc: Global,
+    options: &PassOptions,
+    n: u64,
+    candidates: Objects,
+    object: &Option<StoredObject>,
+) -> Onward
+    ensures goes { GoesOn (pass.bounded_goes options.now n candidates (boundaries.boundary_got object.now))
+        (phases.Bounding n candidates) result.0 result.1 }
     ensures due { StillDue result.1 (pass.pass_due result.0) }
-    ensures memory { NeverOut result.1 }
+    ensures memory { WhereOut result.1 (result.0 ≡ phases.Bounding n candidates) }
 {
     match boundary_in(object) {
         None => refused(SlateDBError::Corrupt(FormatName::Boundary)),
@@ -143,26 +173,33 @@ fn after_boundary(n: u64, numbers: Numbers, object: &Option<StoredObject>) -> On
             if n <= boundary {
                 refused(SlateDBError::ManifestMissing(n))
             } else {
-                after_bounded(numbers)
+                after_bounded(alloc, options, n, candidates)
             }
         }
     }
 }
 
-/// After the get of the boundary. Takes no memory.
-pub(crate) fn after_bound(n: u64, numbers: Numbers, answer: &StoreAnswer) -> Onward
-    ensures goes { GoesOnAlways (pass.bound_goes n numbers answer.now) result.0 result.1 }
+/// After the get of the boundary. Running out of memory leaves the phase as it was.
+pub(crate) fn after_bound(
+    alloc: Global,
+    options: &PassOptions,
+    n: u64,
+    candidates: Objects,
+    answer: &StoreAnswer,
+) -> Onward
+    ensures goes { GoesOn (pass.bound_goes options.now n candidates answer.now)
+        (phases.Bounding n candidates) result.0 result.1 }
     ensures due { StillDue result.1 (pass.pass_due result.0) }
-    ensures memory { NeverOut result.1 }
+    ensures memory { WhereOut result.1 (result.0 ≡ phases.Bounding n candidates) }
 {
     match answer {
-        StoreAnswer::Got(object) => after_boundary(n, numbers, object),
+        StoreAnswer::Got(object) => after_boundary(alloc, options, n, candidates, object),
         _ => refused(SlateDBError::StoreFault),
     }
 }
 
-// The first of these numbers is to be deleted; after the last the pass ends.
-fn deletes_next(left: Numbers, counts: PassCounts) -> Onward
+// The first of these objects is to be deleted; after the last the pass ends.
+fn deletes_next(left: Objects, counts: PassCounts) -> Onward
     ensures goes { GoesOnAlways (pass.deletes_next left counts) result.0 result.1 }
     ensures due { StillDue result.1 (pass.pass_due result.0) }
     ensures memory { NeverOut result.1 }
@@ -175,39 +212,32 @@ fn deletes_next(left: Numbers, counts: PassCounts) -> Onward
 }
 
 // The picks are to be deleted.
-fn after_advanced(alloc: Global, options: &PassOptions, numbers: Numbers) -> Onward
-    ensures goes { GoesOnAlways (pass.picks_next (picking.picks options.now numbers)) result.0 result.1 }
+fn after_advanced(picked: Objects) -> Onward
+    ensures goes { GoesOnAlways (pass.picks_next picked) result.0 result.1 }
     ensures due { StillDue result.1 (pass.pass_due result.0) }
     ensures memory { NeverOut result.1 }
 {
-    let picked = picks(alloc, options, numbers);
     let counts = PassCounts::of(picked.len());
     deletes_next(picked, counts)
 }
 
 /// After a step of the advance. Takes no memory.
-pub(crate) fn after_advance(
-    alloc: Global,
-    options: &PassOptions,
-    advance: AdvancePhase,
-    numbers: Numbers,
-    answer: &StoreAnswer,
-) -> Onward
-    ensures goes { GoesOnAlways (pass.advanced_goes options.now numbers (advance_goes advance answer.now))
+pub(crate) fn after_advance(advance: AdvancePhase, picked: Objects, answer: &StoreAnswer) -> Onward
+    ensures goes { GoesOnAlways (pass.advanced_goes picked (advance_goes advance answer.now))
         result.0 result.1 }
     ensures due { StillDue result.1 (pass.pass_due result.0) }
     ensures memory { NeverOut result.1 }
 {
     let mut advance = advance;
     match advance.goes_on(answer) {
-        Step::Again => (PassPhase::Advancing(advance, numbers), Step::Again),
-        Step::Done(Ok(())) => after_advanced(alloc, options, numbers),
+        Step::Again => (PassPhase::Advancing(advance, picked), Step::Again),
+        Step::Done(Ok(())) => after_advanced(picked),
         Step::Done(Err(e)) => refused(e),
     }
 }
 
-/// After the delete of the first of the numbers left. A fault is counted. Takes no memory.
-pub(crate) fn after_delete(left: Numbers, counts: PassCounts, answer: &StoreAnswer) -> Onward
+/// After the delete of the first of the objects left. A fault is counted. Takes no memory.
+pub(crate) fn after_delete(left: Objects, counts: PassCounts, answer: &StoreAnswer) -> Onward
     ensures goes { GoesOnAlways (pass.delete_goes left counts answer.now) result.0 result.1 }
     ensures due { StillDue result.1 (pass.pass_due result.0) }
     ensures memory { NeverOut result.1 }

@@ -1,11 +1,11 @@
 //! What a pass has done.
 ghost use Rattle.std.specs.Prelude.{◌≡◌};
-ghost use Rattle.slate_gc.specs.Pass as pass;
+ghost use Rattle.slate_gc.specs.Deletes as pass;
 
 /// What a pass has done so far. Each count stops at 2^64 - 1.
 #[derive(Clone, Copy, Debug)]
 pub struct PassCounts {
-    /// The versions that were picked.
+    /// The objects that were picked.
     pub picked: u64,
     /// Those of them that were deleted.
     pub deleted: u64,

@@ -1,45 +1,48 @@
-//! A pass over the manifests.
-ghost use Rattle.std.specs.Prelude.{◌≡◌, true, IfOk};
+//! The pass over the manifests, from its list on.
+ghost use Rattle.std.specs.Prelude.{◌≡◌, true, option_copied, IfOk};
 ghost use Rattle.slate_gc.specs.Pass.{delete_asks, pass_asks, pass_goes, pass_due, is_reading_phase};
-ghost use Rattle.slate_gc.specs.declared.pass_phase.PassPhase.TheVariants as phases;
 ghost use Rattle.slate_log.specs.Due.{StillDue, FaultRose, NoFault, WhereOut};
-ghost use Rattle.slate_store.specs.Machines.{Steps, Held, GoesOn};
+ghost use Rattle.slate_store.specs.Machines.{Steps, GoesOn};
 
-use crate::numbers::Numbers;
+use crate::objects::Objects;
 use crate::onward::{after_advance, after_bound, after_delete, after_get, after_list};
 use crate::pass_counts::PassCounts;
 use crate::pass_options::PassOptions;
 use slate_ids::{DbPath, Listed, Millis, ObjectCodec, OutOfMemory, SlateDBError};
 use slate_log::{AdvancePhase, LogKind, Sequenced};
 use slate_model::Manifest;
-use slate_store::{ObjectStore, Step, StoreAnswer, StoreCall, perform};
+use slate_store::{ObjectMetadata, ObjectStore, Step, StoreAnswer, StoreCall, perform};
 use std::alloc::Global;
 use std::mem;
 
-/// Where a pass stands.
+/// Where a pass stands, from its list on.
 #[derive(Debug, Drop)]
 pub enum PassPhase {
     /// The versions are to be listed.
     Listing,
-    /// At this moment these were listed. This is the greatest, and is to be got.
-    Getting(Millis, u64, Listed<(u64, Millis)>),
-    /// The greatest, which this is, was read. These are the candidates. The boundary is to be got.
-    Bounding(u64, Numbers),
-    /// The boundary is moved up to the greatest candidate. These are the candidates.
-    Advancing(AdvancePhase, Numbers),
+    /// These aged objects were listed. This is the greatest number, and its version is to be got.
+    Getting(u64, Listed<ObjectMetadata>),
+    /// The greatest version, which this is, was read. These are the candidates. The boundary is to be got.
+    Bounding(u64, Objects),
+    /// The boundary is moved up to the greatest candidate. These are the picks.
+    Advancing(AdvancePhase, Objects),
     /// These are left to be deleted, the first one next. The counts so far.
-    Deleting(Numbers, PassCounts),
+    Deleting(Objects, PassCounts),
     /// It ended.
     Over,
 }
 
-// The call of the deletes: of the first number that is left.
-fn delete_asks(db: DbPath, first: Option<u64>) -> StoreCall
-    ensures { result ≡ delete_asks db first }
+// The call of the deletes: of the first object that is left.
+fn delete_asks(
+    alloc: Global,
+    db: DbPath,
+    first: Option<&ObjectMetadata>,
+) -> Result<StoreCall, OutOfMemory>
+    ensures { IfOk result (λ call. call ≡ delete_asks db (option_copied first.entry)) }
 {
     match first {
-        Some(n) => StoreCall::Delete(LogKind::Manifest.version_path(db, n)),
-        None => StoreCall::Get(LogKind::Manifest.boundary_path(db)),
+        Some(object) => Ok(StoreCall::Delete(object.location.copy(alloc)?)),
+        None => Ok(StoreCall::Get(LogKind::Manifest.boundary_path(db))),
     }
 }
 
@@ -55,15 +58,13 @@ impl PassPhase {
         let db = sequenced.db;
         match self {
             PassPhase::Listing => Ok(StoreCall::List(LogKind::Manifest.folder(db))),
-            PassPhase::Getting(_, n, _) => {
-                Ok(StoreCall::Get(LogKind::Manifest.version_path(db, *n)))
-            }
+            PassPhase::Getting(n, _) => Ok(StoreCall::Get(LogKind::Manifest.version_path(db, *n))),
             PassPhase::Bounding(_, _) => { Ok(StoreCall::Get(LogKind::Manifest.boundary_path(db))) }
             PassPhase::Advancing(advance, _) => {
                 let manifests: Sequenced<Manifest, ()> = Sequenced::new(db, LogKind::Manifest, ());
                 advance.asks(alloc, &manifests)
             }
-            PassPhase::Deleting(left, _) => Ok(delete_asks(db, left.first())),
+            PassPhase::Deleting(left, _) => delete_asks(alloc, db, left.first()),
             PassPhase::Over => Ok(StoreCall::Get(LogKind::Manifest.boundary_path(db))),
         }
     }
@@ -96,21 +97,19 @@ impl PassPhase {
         ensures writes { WhereOut result.1 (is_reading_phase self ≡ true) }
     {
         match self {
-            PassPhase::Listing => after_list(alloc, moment, answer),
-            PassPhase::Getting(listed_at, n, listed) => {
-                after_get(alloc, codec, options, listed_at, n, listed, answer)
+            PassPhase::Listing => after_list(alloc, options.min_age, moment, answer),
+            PassPhase::Getting(n, found) => after_get(alloc, codec, n, found, answer),
+            PassPhase::Bounding(n, candidates) => {
+                after_bound(alloc, options, n, candidates, answer)
             }
-            PassPhase::Bounding(n, numbers) => after_bound(n, numbers, answer),
-            PassPhase::Advancing(advance, numbers) => {
-                after_advance(alloc, options, advance, numbers, answer)
-            }
+            PassPhase::Advancing(advance, picked) => after_advance(advance, picked, answer),
             PassPhase::Deleting(left, counts) => after_delete(left, counts, answer),
             PassPhase::Over => (PassPhase::Over, Step::Done(Err(SlateDBError::StoreFault))),
         }
     }
 
-    /// Goes on from the answer to that call, at the moment of the call. Running out of memory comes only after a list or the get
-    /// of the greatest manifest, never after a write, and leaves the phase as it was.
+    /// Goes on from the answer to that call, at the moment of the call. Running out of memory comes only after a list or a get
+    /// of the first three phases, and leaves the phase as it was.
     pub fn goes_on<C: ObjectCodec<Manifest>>(
         &mut self,
         alloc: Global,

@@ -7,8 +7,8 @@ use Rattle.slate_ids.specs.declared.gc_message.GcMessage.TheVariants as pass
 use Rattle.slate_store.specs.declared.mark.Mark.{Mark}
 use Rattle.slate_store.specs.declared.mark.Mark.TheVariants as mark
 use Rattle.slate_json.specs.Fields.{◌>>=◌}
-use Rattle.slate_events.specs.declared.filter_word.FilterWord.{FilterWord}
-use Rattle.slate_events.specs.declared.filter_word.FilterWord.TheVariants as filter
+use Rattle.slate_gc.specs.declared.filter_word.FilterWord.{FilterWord}
+use Rattle.slate_gc.specs.declared.filter_word.FilterWord.TheVariants as filter
 use Rattle.slate_events.specs.declared.party_kind.PartyKind.{PartyKind}
 use Rattle.slate_events.specs.declared.party_kind.PartyKind.TheVariants as kind
 

@@ -12,7 +12,7 @@ pub enum FilterWord {
     All,
     /// No candidate.
     Nothing,
-    /// Those at these paths, in this order. No collector has such a pass yet, and no script says it.
+    /// Those whose paths have these texts. No script says it yet.
     Paths(Listed<Text>),
 }
 
