@@ -1,49 +1,99 @@
--- A pass that nobody disturbs: the manifests that it leaves are those that it listed, less what it picks.
-use Rattle.std.specs.Prelude.{ℕ, ℤ, ◌==◌, not, Bool, false, List, [], ◌∷◌, filter, Option, Some, None}
-use Rattle.std.specs.List.{list_any}
-use Rattle.slate_store.specs.Store.{Store, object_at, listed}
+-- A pass that nobody disturbs: the objects that it leaves are those that its list found, less what it picks.
+use Rattle.std.specs.Prelude.{◌≡◌, ℕ, ℤ, ◌==◌, ◌&&◌, not, Bool, true, false, List, [], ◌∷◌, ◌++◌, map, filter, length, min, Option, Some, None, is_none}
+use Rattle.std.specs.List.{list_all}
+use Rattle.slate_ids.specs.Limits.{last_number}
+use Rattle.slate_ids.specs.PathText.{path_text}
+use Rattle.slate_ids.specs.declared.error.SlateDBError.TheVariants.{Exhausted}
+use Rattle.slate_ids.specs.declared.gc_message.GcMessage.{GcMessage}
+use Rattle.slate_store.specs.Store.{Store, listed}
 use Rattle.slate_store.specs.declared.list_dir.ListDir.TheVariants.{Manifests}
-use Rattle.slate_store.specs.declared.mark.Mark.TheVariants.{Good}
 use Rattle.slate_store.specs.declared.object.ObjectMetadata.{ObjectMetadata}
-use Rattle.slate_store.specs.declared.object.StoredObject.{StoredObject}
-use Rattle.slate_store.specs.declared.store_answer.StoreAnswer.TheVariants.{Found, Got}
+use Rattle.slate_store.specs.declared.store_answer.StoreAnswer.{StoreAnswer}
+use Rattle.slate_store.specs.declared.store_answer.StoreAnswer.TheVariants.{Found, Fault}
+use Rattle.slate_gc.specs.Filter.{lies_at}
+use Rattle.slate_gc.specs.declared.filter_word.FilterWord.{FilterWord}
+use Rattle.slate_gc.specs.declared.pass_options.PassOptions.{PassOptions}
+use Rattle.slate_events.specs.declared.call.Call.{Call}
+use Rattle.slate_events.specs.declared.call.Call.TheVariants.{Pass}
+use Rattle.slate_events.specs.declared.db_spec.DbSpec.{DbSpec}
 use Rattle.slate_events.specs.declared.entry.Entry.{Entry}
 use Rattle.slate_events.specs.declared.entry.Entry.TheVariants.{Called}
 use Rattle.slate_events.specs.declared.event.Event.{Event}
-use Rattle.slate_events.specs.declared.event.Event.TheVariants.{Step}
 use Rattle.slate_events.specs.declared.reply.Reply.{Reply}
-use Rattle.slate_log.specs.Boundary.{greatest}
-use Rattle.slate_log.specs.LogPaths.{version_path, boundary_path, number_of}
-use Rattle.slate_log.specs.declared.log_kind.LogKind.TheVariants.{Manifest as ManifestLog}
-use Rattle.slate_gc.specs.declared.pass_options.PassOptions.{PassOptions}
-use Rattle.slate_protocol.specs.Passes.{picks_of}
-use Rattle.slate_protocol.specs.Specs.{listed_or_none}
+use Rattle.slate_events.specs.declared.reply.Reply.TheVariants.{Refused}
+use Rattle.slate_events.specs.declared.reply.Reply.TheVariants as reply
+use Rattle.slate_protocol.specs.ByRows.{Answers, AllTold, nobody, entry_by, party_in, all_told_after, entry_store}
+use Rattle.slate_protocol.specs.Calls.{pass_options}
+use Rattle.slate_protocol.specs.Passes.{pass_answers, picked}
+use Rattle.slate_protocol.specs.Rows.{Answered, begin}
+use Rattle.slate_protocol.specs.Runs.{Course}
+use Rattle.slate_protocol.specs.Specs.{opening_world}
+use Rattle.slate_protocol.specs.declared.party.Facts.{Facts}
 
--- the steps of a party alone, at these moments and without a fault
-abbrev pub steps_alone : ℕ → List ℤ → List Event
-steps_alone n [] = []
-steps_alone n (moment ∷ moments) = Step n moment Good ∷ steps_alone n moments
+-- ---- nobody disturbs it
 
--- the reply that an entry has
+-- what is said of each party after these events, of which none is bad
+abbrev pub all_told : List Event → AllTold → Store → AllTold
+all_told [] all s = all
+all_told (e ∷ es) all s =
+    let x = entry_by e (all (party_in e)) s in
+    all_told es (all_told_after e x all) (entry_store x s)
+
+-- whether an answer is no fault
+abbrev pub is_answer : StoreAnswer → Bool
+is_answer Fault = false
+is_answer _ = true
+
+-- whether an entry leaves a party undisturbed: it makes no store call, or it is the party's own, which didn't fault
+abbrev pub is_quiet : ℕ → Entry → Bool
+is_quiet n (Called k asked moment mark answer reply) = k == n && is_answer answer
+is_quiet n _ = true
+
+-- the reply that a store call's entry has
 abbrev pub reply_at : Entry → Option Reply
 reply_at (Called n asked moment mark answer reply) = reply
 reply_at _ = None
 
--- the object of the greatest number listed
-abbrev pub greatest_object : List ℕ → Store → Option ℕ → Option StoredObject
-greatest_object db s None = None
-greatest_object db s (Some n) = object_at (version_path ManifestLog db n) s
+-- the answers that the store calls of these entries had, each with its moment
+abbrev pub answers_in : List Entry → List Answered
+answers_in [] = []
+answers_in (Called n asked moment mark answer reply ∷ xs) = (answer, moment) ∷ answers_in xs
+answers_in (_ ∷ xs) = answers_in xs
 
--- what a pass picks that lists a store at a moment, and reads the version and the boundary of the same store
-abbrev pub picks_in : PassOptions → ℤ → List ℕ → Store → List ℕ
-picks_in options now db s =
-    listed_or_none (picks_of options (Found (listed (Manifests db) s), now) (Got (greatest_object db s (greatest ManifestLog (listed (Manifests db) s))), now) (Got (object_at (boundary_path ManifestLog db) s), now))
+-- after these events a party has started this call and made no store call of it yet; then come these entries, none of which disturbs it,
+-- and with the last of them, and not before, it has its reply
+pub record IsUndisturbed (specs : List DbSpec) (front : List Event) (n : ℕ) (facts : Facts) (call : Call) (between : List Entry) (last : Entry) (r : Reply) : Type 0 where
+  pub begins : all_told front nobody (opening_world specs).store n ≡ Some (record { facts = facts; doing = Answers call [] })
+  pub quiet : list_all (is_quiet n) (between ++ last ∷ []) ≡ true
+  pub goes_on : list_all (λ x. is_none (reply_at x)) between ≡ true
+  pub ends : reply_at last ≡ Some r
 
--- whether a number is one of these
-abbrev pub is_one_of : List ℕ → Option ℕ → Bool
-is_one_of ns None = false
-is_one_of ns (Some n) = list_any (λ k. k == n) ns
+-- ---- what it leaves
 
--- a list without the manifests of these numbers
-abbrev pub without : List ℕ → List ObjectMetadata → List ObjectMetadata
-without ns ms = filter (λ m. not (is_one_of ns (number_of ManifestLog m.location))) ms
+-- these objects without those that lie where picks do
+abbrev pub without : List ObjectMetadata → List ObjectMetadata → List ObjectMetadata
+without picks found = filter (λ m. not (lies_at (map (λ p. path_text p.location) picks) m)) found
+
+-- the pass listed, and ended with the reply of a pass: all that it picked is deleted, and nothing failed. The manifests that are left at its
+-- database are those that it listed, less what it picked
+pub record HasCollected (facts : Facts) (call : Call) (options : PassOptions) (answers : List Answered) (r : Reply) (s : Store) : Type 0 where
+  pub found : List ObjectMetadata
+  pub moment : ℤ
+  pub later : List Answered
+  pub lists : pass_answers call (begin facts call) answers ≡ (Found found, moment) ∷ later
+  pub replied : r ≡ reply.Pass (length (picked facts call options answers)) (min (length (picked facts call options answers)) last_number) 0
+  pub left : listed (Manifests facts.db) s ≡ without (picked facts call options answers) found
+
+-- what a pass that nobody disturbs leaves: it has collected; or the removal of expired checkpoints had no number left for its version, and
+-- ended the pass before its list
+pub data Leaves (facts : Facts) (call : Call) (options : PassOptions) (answers : List Answered) (r : Reply) (s : Store) : Type 0 where
+  Collects : HasCollected facts call options answers r s → Leaves facts call options answers r s
+  Exhausts : pass_answers call (begin facts call) answers ≡ [] → r ≡ Refused (Exhausted last_number) → Leaves facts call options answers r s
+
+-- of each pass that nobody disturbs from the moment after a front of events, where the first course stands, to a later one
+abbrev pub PassesAlone : List DbSpec → List Event → Course → Course → Type 0
+PassesAlone specs front before after =
+    (n : ℕ) (facts : Facts) (pass : GcMessage) (min_age : ℕ) (dry_run : Bool) (filter : FilterWord) (between : List Entry) (last : Entry) (r : Reply)
+    → after.trail ≡ before.trail ++ (between ++ last ∷ [])
+    → IsUndisturbed specs front n facts (Pass pass min_age dry_run filter) between last r
+    → Leaves facts (Pass pass min_age dry_run filter) (pass_options min_age dry_run filter) (answers_in (between ++ last ∷ [])) r after.world.store

@@ -8,8 +8,7 @@ use Rattle.slate_events.specs.declared.event.Event.TheVariants.{Open, Start, Ste
 use Rattle.slate_events.specs.declared.entry.Entry.{Entry}
 use Rattle.slate_events.specs.declared.entry.Entry.TheVariants.{Opened, Started, Called, Stopped, Idle}
 use Rattle.slate_events.specs.declared.reply.Reply.{Reply}
-use Rattle.slate_protocol.specs.Rows.{Answered, Row, Asks, Replies, row}
-use Rattle.slate_protocol.specs.World.{facts_after}
+use Rattle.slate_protocol.specs.Rows.{Answered, Row, Asks, Replies, row, stands_after}
 use Rattle.slate_protocol.specs.declared.party.Facts.{Facts}
 
 -- what the trail says that a party does: it has no call, it has this one with these answers so far, or it was stopped
@@ -18,17 +17,17 @@ pub data Doing : Type 0 where
   Answers : Call → List Answered → Doing
   Stays : Doing
 
--- what the events and their entries say of a party: its facts, and what it does
-pub record Standing : Type 0 where
+-- what the events and their entries say of a party: its facts, which are those at the start of its call where it has one, and what it does
+pub record Told : Type 0 where
   pub facts : Facts
   pub doing : Doing
 
 -- of each party, by its number
-abbrev pub Standings : Type 0
-Standings = ℕ → Option Standing
+abbrev pub AllTold : Type 0
+AllTold = ℕ → Option Told
 
 -- no party has come
-abbrev pub nobody : Standings
+abbrev pub nobody : AllTold
 nobody n = None
 
 -- the reply with which a row ends
@@ -58,44 +57,35 @@ abbrev pub stop_entry : ℕ → Doing → Entry
 stop_entry n Stays = Idle n
 stop_entry n _ = Stopped n
 
--- the entry of an event, for the standing of its party and the store
-abbrev pub entry_by : Event → Option Standing → Store → Entry
-entry_by (Open n kind db) standing s = Opened n
-entry_by (Start n call) (Some standing) s = start_entry n call standing.facts standing.doing
-entry_by (Step n moment mark) (Some standing) s = step_entry n moment mark s standing.facts standing.doing
-entry_by (Stop n) (Some standing) s = stop_entry n standing.doing
+-- the entry of an event, by what is said of its party and the store
+abbrev pub entry_by : Event → Option Told → Store → Entry
+entry_by (Open n kind db) told s = Opened n
+entry_by (Start n call) (Some told) s = start_entry n call told.facts told.doing
+entry_by (Step n moment mark) (Some told) s = step_entry n moment mark s told.facts told.doing
+entry_by (Stop n) (Some told) s = stop_entry n told.doing
 entry_by (Start n call) None s = Idle n
 entry_by (Step n moment mark) None s = Idle n
 entry_by (Stop n) None s = Idle n
 
--- ---- the standing after an entry
+-- ---- what is said after an entry
 
--- the facts after a reply, or none
-abbrev pub facts_by : Facts → Option Reply → Facts
-facts_by facts None = facts
-facts_by facts (Some reply) = facts_after facts reply
-
--- a reply ends the call
-abbrev pub doing_by : Option Reply → Doing → Doing
-doing_by None doing = doing
-doing_by (Some reply) doing = Rests
+-- a call with these answers, where it has no reply yet; and after its reply the facts that its row leaves
+abbrev pub told_call : Facts → Call → List Answered → Option Reply → Told
+told_call facts call answers None = record { facts = facts; doing = Answers call answers }
+told_call facts call answers (Some reply) = record { facts = (stands_after facts call answers).facts; doing = Rests }
 
 -- one answer more to the call under way
-abbrev pub with_answer : Answered → Doing → Doing
-with_answer answer (Answers call answers) = Answers call (answers ++ answer ∷ [])
-with_answer answer doing = doing
-
--- a party after an entry that has a reply, or none
-abbrev pub replied : Standing → Option Reply → Doing → Standing
-replied standing reply doing = record { facts = facts_by standing.facts reply; doing = doing_by reply doing }
+abbrev pub told_answer : Facts → Doing → Answered → Option Reply → Told
+told_answer facts (Answers call answers) answer reply = told_call facts call (answers ++ answer ∷ []) reply
+told_answer facts doing answer reply = record { facts = facts; doing = doing }
 
 -- what is said of the party of an event after its entry
-abbrev pub standing_after : Event → Entry → Option Standing → Option Standing
-standing_after (Open n kind db) (Opened k) standing = Some (record { facts = record { kind = kind; db = db; epoch = None }; doing = Rests })
-standing_after (Start n call) (Started k reply) (Some standing) = Some (replied standing reply (Answers call []))
-standing_after (Step n moment mark) (Called k asked at by answer reply) (Some standing) = Some (replied standing reply (with_answer (answer, at) standing.doing))
-standing_after (Stop n) (Stopped k) (Some standing) = Some (record { facts = standing.facts; doing = Stays })
-standing_after _ _ standing = standing
+abbrev pub told_after : Event → Entry → Option Told → Option Told
+told_after (Open n kind db) (Opened k) told = Some (record { facts = record { kind = kind; db = db; epoch = None }; doing = Rests })
+told_after (Start n call) (Started k reply) (Some told) = Some (told_call told.facts call [] reply)
+told_after (Step n moment mark) (Called k asked at by answer reply) (Some told) = Some (told_answer told.facts told.doing (answer, at) reply)
+told_after (Stop n) (Stopped k) (Some told) = Some (record { facts = told.facts; doing = Stays })
+told_after _ _ told = told
 
 -- the party of an event
 abbrev pub party_in : Event → ℕ
@@ -105,8 +95,8 @@ party_in (Step n moment mark) = n
 party_in (Stop n) = n
 
 -- what is said of each party after an event
-abbrev pub standings_after : Event → Entry → Standings → Standings
-standings_after e x standings = λ n. if n == party_in e then standing_after e x (standings n) else standings n
+abbrev pub all_told_after : Event → Entry → AllTold → AllTold
+all_told_after e x all = λ n. if n == party_in e then told_after e x (all n) else all n
 
 -- the store after an entry
 abbrev pub entry_store : Entry → Store → Store
@@ -114,8 +104,8 @@ entry_store (Called n call moment mark answer reply) s = (effect mark call momen
 entry_store _ s = s
 
 -- the entries of events, of which none is bad
-abbrev pub trail_by : List Event → Standings → Store → List Entry
-trail_by [] standings s = []
-trail_by (e ∷ es) standings s =
-    let x = entry_by e (standings (party_in e)) s in
-    x ∷ trail_by es (standings_after e x standings) (entry_store x s)
+abbrev pub trail_by : List Event → AllTold → Store → List Entry
+trail_by [] all s = []
+trail_by (e ∷ es) all s =
+    let x = entry_by e (all (party_in e)) s in
+    x ∷ trail_by es (all_told_after e x all) (entry_store x s)

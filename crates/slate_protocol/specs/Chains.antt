@@ -35,7 +35,7 @@ abbrev pub with_link : {V A : Type 0} → Link V A → List (Link V A) → List 
 with_link l c = if_new (link_at l.number c) l c
 
 -- a log of any kind of value: where it lies, the bytes of its values, what is read back of a value, its rules, and which numbers a value
--- names; and of an author what it makes of a value, by which right, and whether the fence refuses it
+-- names; and of an author what it makes where there is no version yet, what it makes of one, by which right, and whether the fence refuses it
 pub record Log (V A : Type 0) : Type 0 where
   pub kind : LogKind
   pub encoded : V → Result (List ℕ) SlateDBError
@@ -43,6 +43,7 @@ pub record Log (V A : Type 0) : Type 0 where
   pub normal : V → V
   pub refusal : ℕ → V → V → Right → Option SlateDBError
   pub names : V → ℕ → Bool
+  pub first : A → Result (Option V) SlateDBError
   pub makes : A → ℕ → V → Result (Option V) SlateDBError
   pub right : A → Right
   pub fence : A → V → Option SlateDBError
@@ -60,10 +61,10 @@ pub record Follows {V A : Type 0} (log : Log V A) (old new : Link V A) : Type 0 
   pub lawful : log.refusal old.number old.value new.value (log.right author) ≡ None
   pub passed : log.fence author old.value ≡ None
 
--- the first version, whose value is read of its bytes
-pub record IsFirst {V A : Type 0} (log : Log V A) (first : Link V A) : Type 0 where
-  pub number : first.number ≡ 1
-  pub value : log.decoded first.bytes ≡ Ok first.value
+-- the first version: it was there, with the value that is read of its bytes; or an author made it where there was none
+pub data IsFirst {V A : Type 0} (log : Log V A) (first : Link V A) : Type 0 where
+  Opens : first.number ≡ 1 → first.by ≡ None → log.decoded first.bytes ≡ Ok first.value → IsFirst log first
+  Begins : (author : A) (made : V) → first.number ≡ 1 → first.by ≡ Some author → log.first author ≡ Ok (Some made) → log.encoded made ≡ Ok first.bytes → first.value ≡ log.normal made → IsFirst log first
 
 -- one chain: the numbers go from 1 up without a gap, and each version follows the one before
 abbrev pub IsChain : {V A : Type 0} → Log V A → List (Link V A) → Type 0

@@ -1,78 +1,77 @@
--- The ids of checkpoints that events carry: a call's fresh id must not have been carried before.
-use Rattle.std.specs.Prelude.{ℕ, Bool, false, ◌||◌, List, [], ◌∷◌, ◌++◌, Option, Some, None, is_some, map, bytes_eq, if◌then◌else◌}
+-- The ids that events and opening values carry, in two pools: those of checkpoints, and those of tables, views and compactions. A fresh id
+-- must not have been carried before.
+use Rattle.std.specs.Prelude.{ℕ, Bool, true, false, ◌||◌, List, [], ◌∷◌, ◌++◌, Option, Some, None, is_some, map, bytes_eq, if◌then◌else◌}
 use Rattle.std.specs.List.{list_any}
-use Rattle.std.specs.Map.{lookup}
+use Rattle.std.specs.Map.{lookup, set_value}
 use Rattle.std.specs.BTreeMap.{is_at, insert_entry}
 use Rattle.std.specs.Ordering.{nat_cmp}
 use Rattle.std.specs.Cmp.Lexicographic.{slice_cmp}
 use Rattle.std.specs.declared.cmp.Ordering.{Ordering}
 use Rattle.slate_events.specs.declared.call.Call.{Call}
-use Rattle.slate_events.specs.declared.call.Call.TheVariants.{OpenWriter, Flush, WriteCheckpoint, ReplaceCheckpoint, RefreshCheckpoint, DeleteCheckpoint, Pass}
+use Rattle.slate_protocol.specs.Calls.{fresh_checkpoints, named_checkpoints}
 use Rattle.slate_protocol.specs.declared.carrier.Carrier.{Carrier}
 
--- the ids that were carried, ascending, each with what is known of it
-abbrev pub Carried : Type 0
-Carried = List (List ℕ × Carrier)
+-- a pool of ids: those that were carried, ascending, each with what is known of it
+abbrev pub Pool : Type 0 → Type 0
+Pool K = List (K × Carrier)
 
--- the order of ids: by their bytes
-abbrev pub id_cmp : List ℕ → List ℕ → Ordering
-id_cmp = slice_cmp nat_cmp
+-- the ids that were carried
+pub record Carried : Type 0 where
+  -- of checkpoints
+  pub checkpoints : Pool (List ℕ)
+  -- of tables, views and compactions
+  pub ulids : Pool (ℕ × ℕ)
+
+-- the order of ids of checkpoints: by their bytes
+abbrev pub checkpoint_cmp : List ℕ → List ℕ → Ordering
+checkpoint_cmp = slice_cmp nat_cmp
 
 -- whether an id was carried
-abbrev pub is_carried : List ℕ → Carried → Bool
-is_carried id carried = is_some (lookup (is_at (id_cmp id)) carried)
+abbrev pub is_carried : {K : Type 0} → (K → K → Ordering) → K → Pool K → Bool
+is_carried cmp id pool = is_some (lookup (is_at (cmp id)) pool)
 
--- the id that a call brings anew
-abbrev pub fresh_id : Call → Option (List ℕ)
-fresh_id (WriteCheckpoint id lifetime source name) = Some id
-fresh_id (ReplaceCheckpoint old id lifetime source name) = Some id
-fresh_id _ = None
+-- ---- fresh ids
 
--- the ids that there are: one, or none
-abbrev pub one_or_none : Option (List ℕ) → List (List ℕ)
-one_or_none None = []
-one_or_none (Some id) = id ∷ []
+-- whether one of these ids was carried before, or comes again among themselves or the others that a call names
+abbrev pub is_stale_among : List (List ℕ) → List (List ℕ) → Pool (List ℕ) → Bool
+is_stale_among [] named pool = false
+is_stale_among (id ∷ ids) named pool = is_carried checkpoint_cmp id pool || list_any (bytes_eq id) (ids ++ named) || is_stale_among ids named pool
 
--- the other ids that a call names
-abbrev pub named_ids : Call → List (List ℕ)
-named_ids OpenWriter = []
-named_ids (Flush seq tick) = []
-named_ids (WriteCheckpoint id lifetime source name) = one_or_none source
-named_ids (ReplaceCheckpoint old id lifetime source name) = old ∷ one_or_none source
-named_ids (RefreshCheckpoint id lifetime) = id ∷ []
-named_ids (DeleteCheckpoint id) = id ∷ []
-named_ids (Pass pass min_age dry_run filter) = []
-
--- whether an id that is to be fresh was carried before, or is among these
-abbrev pub is_stale_id : Carried → List (List ℕ) → Option (List ℕ) → Bool
-is_stale_id carried ids None = false
-is_stale_id carried ids (Some id) = is_carried id carried || list_any (bytes_eq id) ids
-
--- whether the fresh id of a call was carried before, or twice by the call itself
+-- whether a fresh id of a call was carried before, or comes twice in the call itself
 abbrev pub is_stale : Carried → Call → Bool
-is_stale carried call = is_stale_id carried (named_ids call) (fresh_id call)
+is_stale carried call = is_stale_among (fresh_checkpoints call) (named_checkpoints call) carried.checkpoints
+
+-- ---- what is carried
 
 -- an id that a party brings
-abbrev pub brought_by : ℕ → List ℕ → List ℕ × Carrier
+abbrev pub brought_by : {K : Type 0} → ℕ → K → K × Carrier
 brought_by n id = (id, record { party = Some n; pin = false })
 
--- what is known of an id that nobody brings
-abbrev pub nobodys : Carrier
-nobodys = record { party = None; pin = false }
-
 -- an id that nobody brings
-abbrev pub only_named : List ℕ → List ℕ × Carrier
-only_named id = (id, nobodys)
+abbrev pub only_named : {K : Type 0} → K → K × Carrier
+only_named id = (id, record { party = None; pin = false })
 
--- the ids that a call of a party carries
+-- a pin that nobody brings
+abbrev pub only_pinned : {K : Type 0} → K → K × Carrier
+only_pinned id = (id, record { party = None; pin = true })
+
+-- the ids of checkpoints that a call of a party carries
 abbrev pub ids_of : ℕ → Call → List (List ℕ × Carrier)
-ids_of n call = map (brought_by n) (one_or_none (fresh_id call)) ++ map only_named (named_ids call)
+ids_of n call = map (brought_by n) (fresh_checkpoints call) ++ map only_named (named_checkpoints call)
 
--- one id more: what is known of an id stays
-abbrev pub with_id : List ℕ × Carrier → Carried → Carried
-with_id id carried = if is_carried id.0 carried then carried else insert_entry id_cmp carried id.0 id.1
+-- what is known of an id once it is carried again: who brought it stays, and a pin stays one
+abbrev pub carried_again : Carrier → Carrier → Carrier
+carried_again old new = record { party = old.party; pin = old.pin || new.pin }
+
+-- one id more
+abbrev pub with_id : {K : Type 0} → (K → K → Ordering) → K × Carrier → Pool K → Pool K
+with_id cmp id pool = elim (lookup (is_at (cmp id.0)) pool) [ None ↦ insert_entry cmp pool id.0 id.1 | Some old ↦ set_value (is_at (cmp id.0)) pool (carried_again old id.1) ]
 
 -- these ids more
-abbrev pub with_ids : List (List ℕ × Carrier) → Carried → Carried
-with_ids [] carried = carried
-with_ids (id ∷ ids) carried = with_ids ids (with_id id carried)
+abbrev pub with_ids : {K : Type 0} → (K → K → Ordering) → List (K × Carrier) → Pool K → Pool K
+with_ids cmp [] pool = pool
+with_ids cmp (id ∷ ids) pool = with_ids cmp ids (with_id cmp id pool)
+
+-- the ids after a start
+abbrev pub with_call : ℕ → Call → Carried → Carried
+with_call n call carried = record carried { checkpoints = with_ids checkpoint_cmp (ids_of n call) carried.checkpoints }

@@ -1,24 +1,32 @@
--- What holds of every run: one chain, fenced epochs, the rows, exact passes, and the safe trail.
-use Rattle.std.specs.Prelude.{◌≡◌, ℕ, ◌≤◌, ◌<◌, true, List, ◌++◌, map, Some, None}
+-- What holds of every run of databases and events, at each moment of it.
+use Rattle.std.specs.Prelude.{◌≡◌, ℕ, ◌≤◌, ◌<◌, ◌^◌, true, List, ◌++◌, length, min, Some, None}
 use Rattle.std.specs.List.{list_all}
+use Rattle.slate_ids.specs.Limits.{last_number}
 use Rattle.slate_ids.specs.declared.object_path.ObjectPath.{ObjectPath}
+use Rattle.slate_log.specs.declared.log_kind.LogKind.{LogKind}
+use Rattle.slate_log.specs.declared.log_kind.LogKind.TheVariants as logs
 use Rattle.slate_events.specs.declared.db_spec.DbSpec.{DbSpec}
 use Rattle.slate_events.specs.declared.event.Event.{Event}
+use Rattle.slate_protocol.specs.Alone.{PassesAlone}
 use Rattle.slate_protocol.specs.ByRows.{nobody, trail_by}
 use Rattle.slate_protocol.specs.Chains.{top, IsChain, bound_in, AgreesAt}
 use Rattle.slate_protocol.specs.Fenced.{IsFenced}
-use Rattle.slate_protocol.specs.Logs.{Chain, Chains, manifests, chains_of, opening_chains, world_after}
+use Rattle.slate_protocol.specs.Logs.{Chain, Chains, log_of, chains_of, opening_chains, world_after}
 use Rattle.slate_protocol.specs.Passes.{ExactPasses}
 use Rattle.slate_protocol.specs.Runs.{Course, opening, run}
 use Rattle.slate_protocol.specs.Safe.{gone, IsSafe}
 use Rattle.slate_protocol.specs.Specs.{is_named_spec, cause_of_specs, opening_world}
-use Rattle.slate_protocol.specs.Trails.{numbered, store_of, told}
-use Rattle.slate_protocol.specs.World.{World, tally_of, HasDb}
+use Rattle.slate_protocol.specs.Trails.{numbers_of, store_of, told}
+use Rattle.slate_protocol.specs.World.{World, number_in, tally_of, HasDb}
 
 -- accepted databases: no cause refuses them, each has a name, and the ids of their tables are ids
 pub record IsAccepted (specs : List DbSpec) : Type 0 where
   pub accepted : cause_of_specs specs ≡ None
   pub named : list_all is_named_spec specs ≡ true
+
+-- where events lead that begin on these databases, up to the first bad one
+abbrev pub course_after : List DbSpec → List Event → Course
+course_after specs events = (run events 0 (opening specs)).course
 
 -- the state after events on these databases, up to the first bad one
 abbrev pub world_at_end : List DbSpec → List Event → World
@@ -28,49 +36,59 @@ world_at_end specs events = world_after events (opening_world specs)
 abbrev pub chains_at_end : List DbSpec → List Event → Chains
 chains_at_end specs events = chains_of events (opening_world specs) (opening_chains specs)
 
+-- none of the events is bad
+abbrev pub AreGood : List DbSpec → List Event → Type 0
+AreGood specs events = (run events 0 (opening specs)).bad ≡ None
+
 -- a course that a run of some events led to
 pub record IsRun (course : Course) : Type 0 where
   pub accepted : IsAccepted course.specs
   pub events : List Event
   pub run : run events 0 (opening course.specs) ≡ record { course = course; bad = None }
 
--- where events lead that begin on these databases, up to the first bad one
-abbrev pub course_after : List DbSpec → List Event → Course
-course_after specs events = (run events 0 (opening specs)).course
-
 -- what was removed after events
 abbrev pub gone_after : List DbSpec → List Event → List ObjectPath
 gone_after specs events = gone (course_after specs events).trail (opening_world specs).store
 
--- what holds of the manifests of a database: the chain, the store and the report's number are one
-pub record IsLawful (course : Course) (db : List ℕ) (c : Chain) : Type 0 where
-  -- the committed numbers go from 1 up without a gap; each value is what its call makes of the one before, and the rules let it
-  pub chain : IsChain manifests c
+-- what holds of a log of a database at a moment: the chain, the store and the report's number are one
+pub record IsLawfulLog (w : World) (k : LogKind) (db : List ℕ) (c : Chain k) : Type 0 where
+  -- the committed numbers go from 1 up without a gap; each value is what its author makes of the one before, and the rules and the fence let it
+  pub chain : IsChain (log_of k) c
   -- the greatest of them is the one that the report tells
-  pub greatest : (t : _) → tally_of db course.world.tallies ≡ Some t → t.manifest ≡ top c
-  -- the boundary can be read, and is below the greatest
+  pub greatest : (t : _) → tally_of db w.tallies ≡ Some t → number_in k t ≡ top c
+  -- the boundary can be read, and is below the greatest where there is one
   pub bound : ℕ
-  pub read : bound_in manifests db course.world.store ≡ Some bound
-  pub below : bound < top c
-  -- at each committed number above it the store has the committed bytes
-  pub stands : (n : ℕ) → bound < n → n ≤ top c → AgreesAt manifests db course.world.store c n
-  -- no writer committed below the writer epoch of an earlier version
-  pub fenced : IsFenced c
+  pub read : bound_in (log_of k) db w.store ≡ Some bound
+  pub below : 0 < top c → bound < top c
+  -- at each number above it the store has the committed bytes, and nothing where none is committed
+  pub stands : (n : ℕ) → bound < n → n < 2 ^ 64 → AgreesAt (log_of k) db w.store c n
 
--- what holds of a course, whatever happened in it
-pub record Lawful (course : Course) : Type 0 where
-  pub past : IsRun course
+-- what holds after events
+pub record LawfulAt (specs : List DbSpec) (events : List Event) : Type 0 where
+  -- each event has one entry
+  pub entries : length (course_after specs events).trail ≡ length events
   -- each step of a party made the one store call that its row names, and each reply is the row's
-  pub rows : course.trail ≡ trail_by past.events nobody (opening_world course.specs).store
+  pub rows : (course_after specs events).trail ≡ trail_by events nobody (opening_world specs).store
   -- each pass has deleted a front of what it picks, and all of it where it ended without a refusal
-  pub passes : ExactPasses past.events nobody (opening_world course.specs).store
+  pub passes : ExactPasses events nobody (opening_world specs).store
   -- the store is what the calls of the trail left
-  pub store : course.world.store ≡ store_of course.trail (opening_world course.specs).store
+  pub store : (course_after specs events).world.store ≡ store_of (course_after specs events).trail (opening_world specs).store
   -- what is committed is what the trail alone tells: the first put of each number
-  pub told : (db : List ℕ) → told course.trail (opening_world course.specs).store (λ d. map numbered (opening_chains course.specs d)) db ≡ map numbered (chains_at_end course.specs past.events db)
-  -- at each moment nothing that was removed is reachable, and all that is reachable stands
-  pub safe : (front back : List Event) → past.events ≡ front ++ back → IsSafe (course_after course.specs front).world (chains_at_end course.specs front) (gone_after course.specs front)
-  -- no boundary falls, from any moment on
-  pub rises : (front back : List Event) → past.events ≡ front ++ back → (db : List ℕ) → HasDb course.world db
-      → (before now : ℕ) → bound_in manifests db (course_after course.specs front).world.store ≡ Some before → bound_in manifests db course.world.store ≡ Some now → before ≤ now
-  pub manifests : (db : List ℕ) → HasDb course.world db → IsLawful course db (chains_at_end course.specs past.events db)
+  pub told : (k : LogKind) (db : List ℕ) → told (course_after specs events).trail (opening_world specs).store (numbers_of (opening_chains specs)) k db ≡ numbers_of (chains_at_end specs events) k db
+  -- the count of deletes is that of the removals in the trail
+  pub deleted : (course_after specs events).world.deleted ≡ min (length (gone_after specs events)) last_number
+  -- nothing that was removed is reachable, and all that is reachable stands
+  pub safe : IsSafe (course_after specs events).world (chains_at_end specs events) (gone_after specs events)
+  -- each log is one chain, which the store bears out
+  pub each_log : (k : LogKind) (db : List ℕ) → HasDb (course_after specs events).world db → IsLawfulLog (course_after specs events).world k db (chains_at_end specs events k db)
+  -- no writer committed below the writer epoch of an earlier version
+  pub fenced : (db : List ℕ) → HasDb (course_after specs events).world db → IsFenced (chains_at_end specs events logs.Manifest db)
+
+-- what holds of a run of events, at each moment up to the first bad one
+pub record Lawful (specs : List DbSpec) (events : List Event) : Type 0 where
+  pub always : (front back : List Event) → events ≡ front ++ back → AreGood specs front → LawfulAt specs front
+  -- no boundary falls between two moments
+  pub rises : (front middle back : List Event) → events ≡ (front ++ middle) ++ back → AreGood specs (front ++ middle) → (k : LogKind) (db : List ℕ) → HasDb (course_after specs front).world db
+      → (before now : ℕ) → bound_in (log_of k) db (course_after specs front).world.store ≡ Some before → bound_in (log_of k) db (course_after specs (front ++ middle)).world.store ≡ Some now → before ≤ now
+  -- between two moments: a pass that nobody disturbs leaves what its list found, less what it picks
+  pub alone : (front middle back : List Event) → events ≡ (front ++ middle) ++ back → AreGood specs (front ++ middle) → PassesAlone specs front (course_after specs front) (course_after specs (front ++ middle))

@@ -1,4 +1,4 @@
-pub mod Phrases
+pub mod Works
 pub mod Calls
 pub mod Rows
 pub mod Ids
@@ -6,6 +6,7 @@ pub mod World
 pub mod Specs
 pub mod Runs
 pub mod Reports
+pub mod Owners
 pub mod Chains
 pub mod Logs
 pub mod ByRows
@@ -17,3 +18,4 @@ pub mod Safe
 pub mod Holding
 pub mod Fenced
 pub mod Lawful
+pub mod Done

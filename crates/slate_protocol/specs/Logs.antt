@@ -1,97 +1,168 @@
--- What a run committed, by database: kept beside the state, event by event.
-use Rattle.std.specs.Prelude.{ℕ, Bool, true, false, List, [], ◌∷◌, Option, Some, None, ℤ, pos, bytes_eq, if◌then◌else◌}
+-- The two logs of a database, and what a run commits to them: kept beside the state, event by event.
+use Rattle.std.specs.Prelude.{ℕ, Bool, true, false, List, [], ◌∷◌, Option, Some, None, Ok, ℤ, bytes_eq, if◌then◌else◌}
 use Rattle.slate_model.specs.declared.manifest.Manifest.{Manifest}
+use Rattle.slate_records.specs.Records.{Record}
+use Rattle.slate_updates.specs.Changes.{made, right_of, fence_of}
 use Rattle.slate_updates.specs.Checkpoints.{is_named}
+use Rattle.slate_updates.specs.Rules.{manifest_refusal, record_refusal}
+use Rattle.slate_updates.specs.declared.manifest_change.ManifestChange.{ManifestChange}
 use Rattle.slate_layout.specs.Codec.{encoded}
+use Rattle.slate_layout.specs.RecordCodec.{record_encoded}
 use Rattle.slate_manifest_parts.specs.Decoding.{decoded_manifest}
 use Rattle.slate_encodable.specs.Normal.{normal_manifest}
+use Rattle.slate_record_bytes.specs.Records.{decoded_record}
+use Rattle.slate_record_bytes.specs.RecordNormal.{normal_record}
 use Rattle.slate_store.specs.Store.{effect}
 use Rattle.slate_store.specs.declared.mark.Mark.{Mark}
+use Rattle.slate_log.specs.declared.commit_phase.CommitPhase.{CommitPhase}
+use Rattle.slate_log.specs.declared.commit_phase.CommitPhase.TheVariants.{Putting}
+use Rattle.slate_log.specs.declared.log_kind.LogKind.{LogKind}
+use Rattle.slate_log.specs.declared.log_kind.LogKind.TheVariants as logs
+use Rattle.slate_log.specs.declared.read_phase.ReadPhase.{ReadPhase}
+use Rattle.slate_log.specs.declared.right.Right.TheVariants.{Plain}
+use Rattle.slate_gc.specs.declared.gc_pass.GcPass.TheVariants as passing
+use Rattle.slate_gc.specs.declared.pass_phase.PassPhase.{PassPhase}
 use Rattle.slate_events.specs.declared.call.Call.{Call}
 use Rattle.slate_events.specs.declared.db_spec.DbSpec.{DbSpec}
 use Rattle.slate_events.specs.declared.event.Event.{Event}
 use Rattle.slate_events.specs.declared.event.Event.TheVariants.{Open, Start, Step, Stop}
-use Rattle.slate_log.specs.declared.commit_phase.CommitPhase.TheVariants.{Putting}
-use Rattle.slate_log.specs.declared.log_kind.LogKind.TheVariants.{Manifest as ManifestLog}
-use Rattle.slate_protocol.specs.Calls.{new_value, right_of, fence_of}
+use Rattle.slate_protocol.specs.Calls.{change_of}
 use Rattle.slate_protocol.specs.Chains.{Link, Log, with_link}
-use Rattle.slate_updates.specs.Rules.{manifest_refusal}
-use Rattle.slate_protocol.specs.Phrases.{asks, is_due}
 use Rattle.slate_protocol.specs.Specs.{first_bytes, listed_or_none}
+use Rattle.slate_protocol.specs.Works.{asks, is_due}
 use Rattle.slate_protocol.specs.World.{World, party_of, wrote, happens}
 use Rattle.slate_protocol.specs.declared.party.Facts.{Facts}
 use Rattle.slate_protocol.specs.declared.party.Party.{Party}
-use Rattle.slate_protocol.specs.declared.party.Purpose.{Purpose}
-use Rattle.slate_protocol.specs.declared.party.Purpose.TheVariants.{Reading, Committing, Passing}
 use Rattle.slate_protocol.specs.declared.party.State.{State}
 use Rattle.slate_protocol.specs.declared.party.State.TheVariants.{Resting, Busy, Halted}
-use Rattle.slate_protocol.specs.declared.position.Phrase.{Phrase}
-use Rattle.slate_protocol.specs.declared.position.Phrase.TheVariants.{Commit}
-use Rattle.slate_protocol.specs.declared.position.Position.{Position}
+use Rattle.slate_protocol.specs.declared.party.Task.{Task}
+use Rattle.slate_protocol.specs.declared.work.Purpose.{Purpose}
+use Rattle.slate_protocol.specs.declared.work.Purpose.TheVariants.{Once}
+use Rattle.slate_protocol.specs.declared.work.Work.{Work}
+use Rattle.slate_protocol.specs.declared.work.Work.TheVariants.{ReadManifest, CommitManifest, Pass}
 
--- who put a version: a party, with its facts at that time, in this call, which made it at this moment
+-- ---- authors
+
+-- who put a version: a party, with its facts at that time, in this call, for a purpose; it made the version at this moment
 pub record Author : Type 0 where
   pub party : ℕ
   pub facts : Facts
   pub call : Call
+  pub purpose : Purpose
   pub now : ℤ
 
--- the moment at which what is committed was made
-abbrev pub made_at : Purpose → ℤ
-made_at Reading = pos 0
-made_at (Committing now) = now
-made_at Passing = pos 0
+-- what an author puts
+abbrev pub change_by : Author → ManifestChange
+change_by a = change_of a.facts a.call a.purpose
 
--- the author of what a party commits
-abbrev pub author_of : ℕ → Facts → Call → Purpose → Author
-author_of n facts call purpose = record { party = n; facts = facts; call = call; now = made_at purpose }
+-- ---- the logs
 
 -- the log of manifests
 abbrev pub manifests : Log Manifest Author
 manifests = record {
-  kind = ManifestLog;
+  kind = logs.Manifest;
   encoded = encoded;
   decoded = decoded_manifest;
   normal = normal_manifest;
   refusal = manifest_refusal;
   names = λ m n. is_named n m.core.checkpoints;
-  makes = λ a n m. new_value a.call a.now n m;
-  right = λ a. right_of a.call;
-  fence = λ a m. fence_of a.facts a.call m;
+  first = λ a. Ok None;
+  makes = λ a n m. made (change_by a) a.now n m;
+  right = λ a. right_of (change_by a);
+  fence = λ a m. fence_of (change_by a) m;
 }
 
--- the chain of a log of manifests
-abbrev pub Chain : Type 0
-Chain = List (Link Manifest Author)
+-- the log of records: no party puts one yet
+abbrev pub records : Log Record Author
+records = record {
+  kind = logs.Compactions;
+  encoded = record_encoded;
+  decoded = decoded_record;
+  normal = normal_record;
+  refusal = record_refusal;
+  names = λ r n. false;
+  first = λ a. Ok None;
+  makes = λ a n r. Ok None;
+  right = λ a. Plain;
+  fence = λ a r. None;
+}
 
--- the chain of each database, by its path
+-- the values of a log
+abbrev pub Held : LogKind → Type 0
+Held logs.Manifest = Manifest
+Held logs.Compactions = Record
+
+-- the log of a kind
+abbrev pub log_of : (k : LogKind) → Log (Held k) Author
+log_of logs.Manifest = manifests
+log_of logs.Compactions = records
+
+-- the chain of a log
+abbrev pub Chain : LogKind → Type 0
+Chain k = List (Link (Held k) Author)
+
+-- the chains of each database, by log and path
 abbrev pub Chains : Type 0
-Chains = List ℕ → Chain
+Chains = (k : LogKind) → List ℕ → Chain k
 
--- what the phrase puts, where it puts a version
-abbrev pub put_by : Author → Phrase → Option (Link Manifest Author)
-put_by author (Commit (Putting n bytes m)) = Some (record { number = n; bytes = bytes; value = manifests.normal m; by = Some author })
-put_by author _ = None
+-- ---- the read or the commit that is under way in any work
 
--- the chain after a put, where there was one
-abbrev pub with_put : Option (Link Manifest Author) → Chain → Chain
-with_put None c = c
-with_put (Some l) c = with_link l c
+pub data Phrase : Type 0 where
+  -- the latest version of a log of a database is read
+  Reads : (k : LogKind) → List ℕ → ReadPhase (Held k) → Phrase
+  -- a version of a log of a database is committed, which was made for a purpose at a moment
+  Commits : (k : LogKind) → List ℕ → Purpose → ℤ → CommitPhase (Held k) → Phrase
+  -- a pass collects at a database
+  Collects : List ℕ → PassPhase → Phrase
 
--- the chains after a put of this database, where it wrote
-abbrev pub chains_put : Bool → List ℕ → Option (Link Manifest Author) → Chains → Chains
-chains_put false db link chains = chains
-chains_put true db link chains = λ d. if bytes_eq d db then with_put link (chains d) else chains d
+abbrev pub phrase_of : Work → Phrase
+phrase_of (ReadManifest purpose db phase) = Reads logs.Manifest db phase
+phrase_of (CommitManifest purpose now db phase) = Commits logs.Manifest db purpose now phase
+phrase_of (Pass db options (passing.Reading phase)) = Reads logs.Manifest db phase
+phrase_of (Pass db options (passing.Committing now phase)) = Commits logs.Manifest db Once now phase
+phrase_of (Pass db options (passing.Collecting phase)) = Collects db phase
+
+-- ---- what is put
+
+-- a version that is put to a log of a database
+pub record Put : Type 0 where
+  pub log : LogKind
+  pub db : List ℕ
+  pub link : Link (Held log) Author
+
+-- what a commit puts, where its phase puts a version
+abbrev pub put_in : (k : LogKind) → List ℕ → Author → CommitPhase (Held k) → Option Put
+put_in k db author (Putting n bytes v) = Some (record { log = k; db = db; link = record { number = n; bytes = bytes; value = (log_of k).normal v; by = Some author } })
+put_in k db author _ = None
+
+-- what the phrase puts, of a party in a call
+abbrev pub put_by : ℕ → Facts → Call → Phrase → Option Put
+put_by n facts call (Commits k db purpose now phase) = put_in k db (record { party = n; facts = facts; call = call; purpose = purpose; now = now }) phase
+put_by n facts call _ = None
+
+-- a chain of a log after a put to a log
+abbrev pub chain_with : (k j : LogKind) → Link (Held j) Author → Chain k → Chain k
+chain_with logs.Manifest logs.Manifest l c = with_link l c
+chain_with logs.Compactions logs.Compactions l c = with_link l c
+chain_with logs.Manifest logs.Compactions l c = c
+chain_with logs.Compactions logs.Manifest l c = c
+
+-- the chains after a put, where it wrote
+abbrev pub chains_put : Bool → Option Put → Chains → Chains
+chains_put true (Some put) chains = λ k d. if bytes_eq d put.db then chain_with k put.log put.link (chains k d) else chains k d
+chains_put _ _ chains = chains
+
+-- ---- event by event
 
 -- the chains after the store call of a step
-abbrev pub chains_stepped : World → ℕ → Facts → Call → Purpose → Position → ℤ → Mark → Chains → Chains
-chains_stepped w n facts call purpose position moment mark chains =
-    chains_put (wrote w.store (effect mark (asks position) moment w.store).store) position.db (put_by (author_of n facts call purpose) position.phrase) chains
+abbrev pub chains_stepped : World → ℕ → Facts → Task → ℤ → Mark → Chains → Chains
+chains_stepped w n facts task moment mark chains =
+    chains_put (wrote w.store (effect mark (asks task.work) moment w.store).store) (put_by n facts task.call (phrase_of task.work)) chains
 
 -- the chains after a step of a party in this state
 abbrev pub chains_state : World → ℕ → Facts → State → ℤ → Mark → Chains → Chains
 chains_state w n facts Resting moment mark chains = chains
-chains_state w n facts (Busy call purpose position) moment mark chains = if is_due position then chains_stepped w n facts call purpose position moment mark chains else chains
+chains_state w n facts (Busy task) moment mark chains = if is_due task.work then chains_stepped w n facts task moment mark chains else chains
 chains_state w n facts Halted moment mark chains = chains
 
 -- the chains after a step of the party that is there
@@ -116,11 +187,18 @@ abbrev pub chains_of : List Event → World → Chains → Chains
 chains_of [] w chains = chains
 chains_of (e ∷ es) w chains = elim (happens w e) [ None ↦ chains | Some done ↦ chains_of es done.world (chains_after w e chains) ]
 
--- the first version of a database
+-- ---- as a run begins
+
+-- the first manifest of a database
 abbrev pub opening_link : DbSpec → Link Manifest Author
 opening_link spec = record { number = 1; bytes = listed_or_none (first_bytes spec.manifest); value = spec.manifest; by = None }
 
--- the chains as a run begins: the first manifest of each database
+-- the first manifest of the database at a path, where there is one
+abbrev pub opening_manifests : List DbSpec → List ℕ → Chain logs.Manifest
+opening_manifests [] d = []
+opening_manifests (spec ∷ specs) d = if bytes_eq d spec.path then opening_link spec ∷ [] else opening_manifests specs d
+
+-- the chains as a run begins: no database has a record yet
 abbrev pub opening_chains : List DbSpec → Chains
-opening_chains [] = λ d. []
-opening_chains (spec ∷ specs) = λ d. if bytes_eq d spec.path then opening_link spec ∷ [] else opening_chains specs d
+opening_chains specs logs.Manifest d = opening_manifests specs d
+opening_chains specs logs.Compactions d = []

@@ -1,9 +1,10 @@
 -- What may not be deleted: the versions that a log needs, and the paths in reach of a database.
 use Rattle.std.specs.Prelude.{◌≡◌, ℕ, ◌<◌, Bool, true, false, List, [], ◌∷◌}
 use Rattle.slate_ids.specs.declared.object_path.ObjectPath.{ObjectPath}
-use Rattle.slate_ids.specs.declared.object_path.ObjectPath.TheVariants.{Manifest as ManifestPath}
+use Rattle.slate_log.specs.LogPaths.{version_path}
+use Rattle.slate_log.specs.declared.log_kind.LogKind.{LogKind}
 use Rattle.slate_protocol.specs.Chains.{Link, Log, top}
-use Rattle.slate_protocol.specs.Logs.{Chain, Chains, manifests}
+use Rattle.slate_protocol.specs.Logs.{Chains, log_of}
 use Rattle.slate_protocol.specs.World.{World, HasDb}
 
 -- whether the greatest version of a chain names a number
@@ -13,7 +14,7 @@ names_top log (l ∷ c) n = log.names l.value n
 
 -- a version that is needed: the greatest, or one that the greatest names
 pub data IsNeeded {V A : Type 0} (log : Log V A) (c : List (Link V A)) (n : ℕ) : Type 0 where
-  Greatest : n ≡ top c → IsNeeded log c n
+  Greatest : 0 < n → n ≡ top c → IsNeeded log c n
   Named : names_top log c n ≡ true → IsNeeded log c n
 
 -- a version that nobody needs, nor will: it is below the greatest, which doesn't name it
@@ -21,12 +22,12 @@ pub record IsSpare {V A : Type 0} (log : Log V A) (c : List (Link V A)) (n : ℕ
   pub below : n < top c
   pub unnamed : names_top log c n ≡ false
 
--- a path in reach of a database, by kind of path: the manifest of a version that is needed
-pub data InReach (c : Chain) (db : List ℕ) (path : ObjectPath) : Type 0 where
-  OfManifest : (n : ℕ) → path ≡ ManifestPath db n → IsNeeded manifests c n → InReach c db path
+-- a path in reach of a database, by kind of path: the version of a log that is needed
+pub data InReach (chains : Chains) (db : List ℕ) (path : ObjectPath) : Type 0 where
+  OfVersion : (k : LogKind) (n : ℕ) → path ≡ version_path k db n → IsNeeded (log_of k) (chains k db) n → InReach chains db path
 
 -- a path that may not be deleted: one in reach of a database of the cluster
 pub record Reachable (w : World) (chains : Chains) (path : ObjectPath) : Type 0 where
   pub db : List ℕ
   pub has : HasDb w db
-  pub reach : InReach (chains db) db path
+  pub reach : InReach chains db path

@@ -1,27 +1,91 @@
--- The row of a call: the next store call or the reply, from the facts of the party, the call, and the answers so far, each with
--- the moment of its step.
-use Rattle.std.specs.Prelude.{ℤ, List, [], ◌∷◌}
+-- The row of a call, read off the table: how it begins, how it goes on, and so the next store call or the reply after the answers so far.
+use Rattle.std.specs.Prelude.{ℕ, ℤ, List, [], ◌∷◌, Option, Some, None, Result, Ok, Err}
+use Rattle.slate_ids.specs.declared.error.SlateDBError.{SlateDBError}
+use Rattle.slate_ids.specs.declared.error.SlateDBError.TheVariants.{LatestTransactionalObjectVersionMissing}
+use Rattle.slate_model.specs.declared.manifest.Manifest.{Manifest}
+use Rattle.slate_layout.specs.Codec.{encoded}
+use Rattle.slate_log.specs.declared.commit_phase.CommitPhase.{CommitPhase}
+use Rattle.slate_store.specs.Machines.{Goes, Stay, End}
 use Rattle.slate_store.specs.declared.store_answer.StoreAnswer.{StoreAnswer}
 use Rattle.slate_store.specs.declared.store_call.StoreCall.{StoreCall}
+use Rattle.slate_updates.specs.Changes.{commit_of}
 use Rattle.slate_events.specs.declared.call.Call.{Call}
 use Rattle.slate_events.specs.declared.reply.Reply.{Reply}
-use Rattle.slate_protocol.specs.Phrases.{asks, goes}
-use Rattle.slate_protocol.specs.Calls.{Next, Go, Finish, begin, follow}
+use Rattle.slate_events.specs.declared.reply.Reply.TheVariants.{Refused}
+use Rattle.slate_events.specs.declared.reply.Reply.TheVariants as reply
+use Rattle.slate_protocol.specs.Calls.{refusal_at_start, first_work, change_of, done, facts_after, Next, Go, Finish}
+use Rattle.slate_protocol.specs.Works.{WorkGoes, asks, goes}
 use Rattle.slate_protocol.specs.declared.party.Facts.{Facts}
+use Rattle.slate_protocol.specs.declared.work.Ended.{Ended}
+use Rattle.slate_protocol.specs.declared.work.Ended.TheVariants.{NoManifest, ManifestRead, ManifestCommitted, Passed}
+use Rattle.slate_protocol.specs.declared.work.Purpose.{Purpose}
+use Rattle.slate_protocol.specs.declared.work.Work.{Work}
+use Rattle.slate_protocol.specs.declared.work.Work.TheVariants.{CommitManifest}
+
+-- where a call stands: what is known of its party, and how the call goes on
+pub record Standing : Type 0 where
+  pub facts : Facts
+  pub next : Next
+
+-- ---- how a call begins
+
+-- a call that is refused at its start, or its first work
+abbrev pub begin_unless : Option SlateDBError → Facts → Call → Next
+begin_unless (Some e) facts call = Finish (Refused e)
+begin_unless None facts call = Go (first_work facts call)
+
+-- how a call begins
+abbrev pub begin : Facts → Call → Standing
+begin facts call = record { facts = facts; next = begin_unless (refusal_at_start facts call) facts call }
+
+-- ---- how it goes on
+
+-- the commit of what a call makes, at a moment, of the version that was read for a purpose
+abbrev pub commit_for : Facts → Call → Purpose → ℤ → ℕ → Manifest → Result (Option (CommitPhase Manifest)) SlateDBError
+commit_for facts call purpose now n m = commit_of encoded (change_of facts call purpose) now n m
+
+-- after a read at a database: the commit there, or what follows where nothing is to be committed, or the refusal
+abbrev pub commit_next : Facts → Call → Purpose → List ℕ → ℤ → Manifest → Result (Option (CommitPhase Manifest)) SlateDBError → Next
+commit_next facts call purpose db now m (Ok (Some commit)) = Go (CommitManifest purpose now db commit)
+commit_next facts call purpose db now m (Ok None) = done facts call purpose m
+commit_next facts call purpose db now m (Err e) = Finish (Refused e)
+
+-- what follows the end of a phrase, which came at a moment
+abbrev pub after : Facts → Call → ℤ → Ended → Next
+after facts call now (NoManifest purpose) = Finish (Refused LatestTransactionalObjectVersionMissing)
+after facts call now (ManifestRead purpose db n m) = commit_next facts call purpose db now m (commit_for facts call purpose now n m)
+after facts call now (ManifestCommitted purpose db n m) = done facts call purpose m
+after facts call now (Passed counts) = Finish (reply.Pass counts.picked counts.deleted counts.failed)
+
+-- where a call stands once its phrase has ended
+abbrev pub ended : Facts → Call → ℤ → Ended → Standing
+ended facts call now end = let known = facts_after facts call end in record { facts = known; next = after known call now end }
+
+-- where a call stands once its work has gone on, at a moment: facts change at the end of a phrase alone
+abbrev pub follow : Facts → Call → ℤ → WorkGoes → Standing
+follow facts call now (Stay work) = record { facts = facts; next = Go work }
+follow facts call now (End work (Ok end)) = ended facts call now end
+follow facts call now (End work (Err e)) = record { facts = facts; next = Finish (Refused e) }
+
+-- ---- the row
 
 -- an answer, and the moment of its step
 abbrev pub Answered : Type 0
 Answered = StoreAnswer × ℤ
 
--- where a call stands after these answers more
-abbrev pub after_answers : Facts → Call → Next → List Answered → Next
-after_answers facts call next [] = next
-after_answers facts call (Finish reply) (a ∷ answers) = Finish reply
-after_answers facts call (Go purpose position) (a ∷ answers) = after_answers facts call (follow facts call purpose a.1 (goes position a.1 a.0)) answers
+-- where a call stands after one answer more
+abbrev pub answered : Call → Facts → Next → Answered → Standing
+answered call facts (Go work) a = follow facts call a.1 (goes work a.1 a.0)
+answered call facts (Finish reply) a = record { facts = facts; next = Finish reply }
 
--- where a call stands after its answers so far
-abbrev pub stands_after : Facts → Call → List Answered → Next
-stands_after facts call answers = after_answers facts call (begin facts call) answers
+-- where a call stands after these answers more
+abbrev pub after_answers : Call → Standing → List Answered → Standing
+after_answers call standing [] = standing
+after_answers call standing (a ∷ answers) = after_answers call (answered call standing.facts standing.next a) answers
+
+-- where a call of a party with these facts stands after its answers so far
+abbrev pub stands_after : Facts → Call → List Answered → Standing
+stands_after facts call answers = after_answers call (begin facts call) answers
 
 -- either the next store call, or the reply
 pub data Row : Type 0 where
@@ -30,9 +94,9 @@ pub data Row : Type 0 where
 
 -- the row where a call stands so
 abbrev pub row_of : Next → Row
-row_of (Go purpose position) = Asks (asks position)
+row_of (Go work) = Asks (asks work)
 row_of (Finish reply) = Replies reply
 
 -- the row of a call of a party with these facts, after these answers
 abbrev pub row : Facts → Call → List Answered → Row
-row facts call answers = row_of (stands_after facts call answers)
+row facts call answers = row_of (stands_after facts call answers).next

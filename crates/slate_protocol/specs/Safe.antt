@@ -6,10 +6,11 @@ use Rattle.slate_store.specs.declared.store_call.StoreCall.{StoreCall}
 use Rattle.slate_store.specs.declared.store_call.StoreCall.TheVariants.{Delete}
 use Rattle.slate_events.specs.declared.entry.Entry.{Entry}
 use Rattle.slate_events.specs.declared.entry.Entry.TheVariants.{Called}
-use Rattle.slate_ids.specs.declared.object_path.ObjectPath.TheVariants.{Manifest as ManifestPath}
+use Rattle.slate_log.specs.LogPaths.{version_path}
+use Rattle.slate_log.specs.declared.log_kind.LogKind.{LogKind}
 use Rattle.slate_protocol.specs.ByRows.{entry_store}
 use Rattle.slate_protocol.specs.Chains.{Link, link_at, bytes_of, bound_in}
-use Rattle.slate_protocol.specs.Logs.{Author, Chains, manifests}
+use Rattle.slate_protocol.specs.Logs.{Author, Chains, Held, log_of}
 use Rattle.slate_protocol.specs.Reach.{IsNeeded, IsSpare, Reachable}
 use Rattle.slate_protocol.specs.World.{World, HasDb}
 
@@ -46,31 +47,32 @@ abbrev pub NoneReachable : World → Chains → List ObjectPath → Type 0
 NoneReachable w chains [] = Unit {0}
 NoneReachable w chains (path ∷ paths) = (Reachable w chains path → ⊥) × NoneReachable w chains paths
 
--- a removed path is the manifest of a number that is spare, and at or below the boundary of its log
+-- a removed path is the version of a log at a number that is spare, and at or below the boundary of its log
 pub record IsCollected (w : World) (chains : Chains) (path : ObjectPath) : Type 0 where
+  pub log : LogKind
   pub db : List ℕ
   pub number : ℕ
-  pub is : path ≡ ManifestPath db number
+  pub is : path ≡ version_path log db number
   pub has : HasDb w db
-  pub spare : IsSpare manifests (chains db) number
-  pub bounded : (bound : ℕ) → bound_in manifests db w.store ≡ Some bound → number ≤ bound
+  pub spare : IsSpare (log_of log) (chains log db) number
+  pub bounded : (bound : ℕ) → bound_in (log_of log) db w.store ≡ Some bound → number ≤ bound
 
 -- each of these paths
 abbrev pub AllCollected : World → Chains → List ObjectPath → Type 0
 AllCollected w chains [] = Unit {0}
 AllCollected w chains (path ∷ paths) = IsCollected w chains path × AllCollected w chains paths
 
--- a manifest that is needed was committed, and is there with the bytes that were committed
-pub record IsPresent (w : World) (chains : Chains) (db : List ℕ) (n : ℕ) : Type 0 where
-  pub link : Link _ Author
-  pub committed : link_at n (chains db) ≡ Some link
-  pub stands : bytes_of (object_at (ManifestPath db n) w.store) ≡ Some link.bytes
+-- a version that is needed was committed, and is there with the bytes that were committed
+pub record IsPresent (w : World) (chains : Chains) (k : LogKind) (db : List ℕ) (n : ℕ) : Type 0 where
+  pub link : Link (Held k) Author
+  pub committed : link_at n (chains k db) ≡ Some link
+  pub stands : bytes_of (object_at (version_path k db n) w.store) ≡ Some link.bytes
 
 -- what holds at a moment, of what was removed up to then
 pub record IsSafe (w : World) (chains : Chains) (removed : List ObjectPath) : Type 0 where
   -- nothing that was removed is reachable
   pub unreachable : NoneReachable w chains removed
-  -- each manifest that is reachable stands with its committed bytes
-  pub stands : (db : List ℕ) (n : ℕ) → HasDb w db → IsNeeded manifests (chains db) n → IsPresent w chains db n
+  -- each version that is reachable stands with its committed bytes
+  pub stands : (k : LogKind) (db : List ℕ) (n : ℕ) → HasDb w db → IsNeeded (log_of k) (chains k db) n → IsPresent w chains k db n
   -- each collected number is spare, and at or below the boundary of its log
   pub collected : AllCollected w chains removed

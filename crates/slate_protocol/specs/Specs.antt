@@ -1,6 +1,6 @@
 -- Databases as a run begins: why they are refused, and the state in which they stand.
-use Rattle.std.specs.Prelude.{ℕ, ◌==◌, nat_lt, ◌&&◌, ℤ, Bool, true, false, not, List, [], ◌∷◌, map, Option, Some, None, is_some, Result, Ok, Err, if◌then◌else◌}
-use Rattle.std.specs.List.{list_any, list_all}
+use Rattle.std.specs.Prelude.{ℕ, ◌==◌, nat_lt, ◌&&◌, ℤ, Bool, true, false, not, List, [], ◌∷◌, ◌++◌, map, Option, Some, None, is_some, option_to_list, Result, Ok, Err, if◌then◌else◌}
+use Rattle.std.specs.List.{list_any, list_all, flat_map, filter_map}
 use Rattle.std.specs.Map.{lookup}
 use Rattle.std.specs.BTreeMap.{is_at, insert_entry}
 use Rattle.std.specs.BTreeSet.{insert_key}
@@ -29,7 +29,10 @@ use Rattle.slate_store.specs.Store.{Store, stored}
 use Rattle.slate_events.specs.declared.cluster_cause.ClusterCause.{ClusterCause}
 use Rattle.slate_events.specs.declared.cluster_cause.ClusterCause.TheVariants as cause
 use Rattle.slate_events.specs.declared.db_spec.DbSpec.{DbSpec}
-use Rattle.slate_protocol.specs.Ids.{Carried, id_cmp, is_carried, nobodys}
+use Rattle.slate_model.specs.Trees.{views_of}
+use Rattle.slate_tables.specs.Views.{View}
+use Rattle.slate_protocol.specs.Ids.{Carried, Pool, checkpoint_cmp, is_carried, only_named, only_pinned, with_ids}
+use Rattle.slate_protocol.specs.declared.carrier.Carrier.{Carrier}
 use Rattle.slate_protocol.specs.World.{World, db_cmp, tally_of}
 use Rattle.slate_protocol.specs.declared.tally.Tally.{Tally}
 
@@ -53,9 +56,9 @@ tallies_from tallies (spec ∷ specs) = if is_some (tally_of spec.path tallies) 
 -- ---- ids of checkpoints
 
 -- the ids, beside those that were carried: none where one was carried already
-abbrev pub ids_from : Carried → List Checkpoint → Option Carried
-ids_from carried [] = Some carried
-ids_from carried (c ∷ cs) = if is_carried c.id carried then None else ids_from (insert_entry id_cmp carried c.id nobodys) cs
+abbrev pub ids_from : Pool (List ℕ) → List Checkpoint → Option (Pool (List ℕ))
+ids_from pool [] = Some pool
+ids_from pool (c ∷ cs) = if is_carried checkpoint_cmp c.id pool then None else ids_from (insert_entry checkpoint_cmp pool c.id (only_named c.id).1) cs
 
 -- what there is, and more, where there is something
 abbrev pub and_more : {X : Type 0} → Option X → (X → Option X) → Option X
@@ -63,9 +66,9 @@ and_more None f = None
 and_more (Some x) f = f x
 
 -- the ids of all checkpoints: none where one comes twice
-abbrev pub carried_from : Carried → List DbSpec → Option Carried
-carried_from carried [] = Some carried
-carried_from carried (spec ∷ specs) = and_more (ids_from carried spec.manifest.core.checkpoints) (λ more. carried_from more specs)
+abbrev pub checkpoints_from : Pool (List ℕ) → List DbSpec → Option (Pool (List ℕ))
+checkpoints_from pool [] = Some pool
+checkpoints_from pool (spec ∷ specs) = and_more (ids_from pool spec.manifest.core.checkpoints) (λ more. checkpoints_from more specs)
 
 -- ---- ids of tables, views and runs
 
@@ -103,7 +106,7 @@ are_trees_in_order spec = list_all is_tree_in_order (trees_of spec.manifest.core
 
 -- whether no id of a checkpoint or of a table comes twice, and the trees are in order
 abbrev pub are_ids_fine : List DbSpec → Bool
-are_ids_fine specs = is_some (carried_from [] specs) && (is_some (tables_seen_from [] specs) && list_all are_trees_in_order specs)
+are_ids_fine specs = is_some (checkpoints_from [] specs) && (is_some (tables_seen_from [] specs) && list_all are_trees_in_order specs)
 
 -- ---- values
 
@@ -214,6 +217,42 @@ cause_of_specs specs =
     else (if not (is_some (objects_of specs)) then Some cause.Value
     else cause_beside (listed_or_none (objects_of specs)) specs))
 
+-- ---- ids that are carried
+
+-- the ids of checkpoints that an entry of another database names: its source, and its pin where it has one
+abbrev pub entry_checkpoints : ExternalDb → List (List ℕ × Carrier)
+entry_checkpoints entry = only_named entry.source_checkpoint_id ∷ map only_pinned (option_to_list entry.final_checkpoint_id)
+
+-- the id of a table that has one
+abbrev pub ulid_of : SsTableId → Option (ℕ × ℕ)
+ulid_of (Wal number) = None
+ulid_of (Compacted id) = Some id
+
+-- the ids of a view and of its table
+abbrev pub view_ulids : View → List (ℕ × ℕ)
+view_ulids view = view.id ∷ option_to_list (ulid_of view.sst.id)
+
+-- the ids of the last view and the last table that were compacted of a tree
+abbrev pub marker_ulids : LsmTreeState → List (ℕ × ℕ)
+marker_ulids tree = option_to_list tree.last_compacted_l0_sst_view_id ++ option_to_list tree.last_compacted_l0_sst_id
+
+-- the ids of tables and views that a database names: of its tables, its views, the markers of its trees, and its entries
+abbrev pub spec_ulids : DbSpec → List (ℕ × ℕ)
+spec_ulids spec =
+    map (λ t. t.0) spec.tables
+    ++ (flat_map view_ulids (views_of spec.manifest.core)
+    ++ (flat_map marker_ulids (trees_of spec.manifest.core)
+    ++ flat_map (λ entry. filter_map ulid_of entry.sst_ids) spec.manifest.external_dbs))
+
+-- the ids that databases carry, and nobody brings
+abbrev pub opening_carried : List DbSpec → Carried
+opening_carried specs = record {
+  checkpoints = with_ids checkpoint_cmp (flat_map (λ spec. flat_map entry_checkpoints spec.manifest.external_dbs) specs) (listed_or_none (checkpoints_from [] specs));
+  ulids = with_ids ulid_cmp (map only_named (flat_map spec_ulids specs)) [];
+}
+
+-- ---- the state
+
 -- an empty store
 abbrev pub no_objects : Store
 no_objects = record { objects = []; last_tag = 0 }
@@ -230,5 +269,5 @@ opening_world specs = record {
   deleted = 0;
   store = store_from no_objects (listed_or_none (objects_of specs));
   parties = [];
-  carried = listed_or_none (carried_from [] specs);
+  carried = opening_carried specs;
 }

@@ -19,16 +19,17 @@ use Rattle.slate_events.specs.declared.event.Event.TheVariants.{Open, Start, Ste
 use Rattle.slate_events.specs.declared.entry.Entry.{Entry}
 use Rattle.slate_events.specs.declared.entry.Entry.TheVariants.{Opened, Started, Called, Stopped, Idle}
 use Rattle.slate_events.specs.declared.reply.Reply.{Reply}
-use Rattle.slate_events.specs.declared.reply.Reply.TheVariants.{Epoch}
-use Rattle.slate_protocol.specs.Phrases.{asks, goes, is_due}
-use Rattle.slate_protocol.specs.Ids.{Carried, is_stale, ids_of, with_ids}
-use Rattle.slate_protocol.specs.Calls.{Next, Go, Finish, has_call, begin, follow}
+use Rattle.slate_log.specs.declared.log_kind.LogKind.{LogKind}
+use Rattle.slate_log.specs.declared.log_kind.LogKind.TheVariants as logs
+use Rattle.slate_protocol.specs.Calls.{has_call, Next, Go, Finish}
+use Rattle.slate_protocol.specs.Ids.{Carried, is_stale, with_call}
+use Rattle.slate_protocol.specs.Rows.{Standing, begin, follow}
+use Rattle.slate_protocol.specs.Works.{asks, goes, is_due}
 use Rattle.slate_protocol.specs.declared.party.Facts.{Facts}
 use Rattle.slate_protocol.specs.declared.party.Party.{Party}
-use Rattle.slate_protocol.specs.declared.party.Purpose.{Purpose}
 use Rattle.slate_protocol.specs.declared.party.State.{State}
 use Rattle.slate_protocol.specs.declared.party.State.TheVariants.{Resting, Busy, Halted}
-use Rattle.slate_protocol.specs.declared.position.Position.{Position}
+use Rattle.slate_protocol.specs.declared.party.Task.{Task}
 use Rattle.slate_protocol.specs.declared.tally.Tally.{Tally}
 
 -- the databases by path with their greatest committed numbers, how many deletes removed an object, the store, the parties by
@@ -59,6 +60,11 @@ party_of n parties = lookup (is_at (nat_cmp n)) parties
 -- the parties with another one in the place of the one of this number
 abbrev pub with_party : ℕ → Party → List (ℕ × Party) → List (ℕ × Party)
 with_party n party parties = set_value (is_at (nat_cmp n)) parties party
+
+-- the greatest committed number of a log
+abbrev pub number_in : LogKind → Tally → ℕ
+number_in logs.Manifest tally = tally.manifest
+number_in logs.Compactions tally = tally.compactions
 
 -- ---- what a store call counts for
 
@@ -110,42 +116,37 @@ pub record Transition : Type 0 where
 abbrev pub noted : ℕ → World → Transition
 noted n w = record { entry = Idle n; world = w }
 
--- the epoch after a reply: an open that was done gives one
-abbrev pub epoch_after : Option ℕ → Reply → Option ℕ
-epoch_after epoch (Epoch e) = Some e
-epoch_after epoch _ = epoch
-
--- the facts after a reply
-abbrev pub facts_after : Facts → Reply → Facts
-facts_after facts reply = record facts { epoch = epoch_after facts.epoch reply }
+-- what a party does where its call stands so: a reply ends the call
+abbrev pub state_after : Call → Next → State
+state_after call (Go work) = Busy (record { call = call; work = work })
+state_after call (Finish reply) = Resting
 
 -- the party where its call stands so
-abbrev pub settled : Facts → Call → Next → Party
-settled facts call (Go purpose position) = record { facts = facts; state = Busy call purpose position }
-settled facts call (Finish reply) = record { facts = facts_after facts reply; state = Resting }
+abbrev pub settled : Call → Standing → Party
+settled call standing = record { facts = standing.facts; state = state_after call standing.next }
 
 -- the reply, where the call has ended
 abbrev pub reply_of : Next → Option Reply
-reply_of (Go purpose position) = None
+reply_of (Go work) = None
 reply_of (Finish reply) = Some reply
 
 -- a party that comes
 abbrev pub newcomer : PartyKind → List ℕ → Party
 newcomer kind db = record { facts = record { kind = kind; db = db; epoch = None }; state = Resting }
 
--- the one store call of a step, which the position asks
-abbrev pub stepped : World → ℕ → Facts → Call → Purpose → Position → ℤ → Mark → Transition
-stepped w n facts call purpose position moment mark =
-    let asked = asks position in
+-- the one store call of a step, which the work asks
+abbrev pub stepped : World → ℕ → Facts → Task → ℤ → Mark → Transition
+stepped w n facts task moment mark =
+    let asked = asks task.work in
     let outcome = effect mark asked moment w.store in
-    let next = follow facts call purpose moment (goes position moment outcome.answer) in
+    let standing = follow facts task.call moment (goes task.work moment outcome.answer) in
     record {
-      entry = Called n asked moment mark outcome.answer (reply_of next);
+      entry = Called n asked moment mark outcome.answer (reply_of standing.next);
       world = record {
         tallies = tallied asked (wrote w.store outcome.store) w.tallies;
         deleted = counted asked (lost_one w.store outcome.store) w.deleted;
         store = outcome.store;
-        parties = with_party n (settled facts call next) w.parties;
+        parties = with_party n (settled task.call standing) w.parties;
         carried = w.carried;
       };
     }
@@ -153,15 +154,15 @@ stepped w n facts call purpose position moment mark =
 -- a step of a party with no call, or in whose call none is due, is noted idle, and so is one of a party that was stopped
 abbrev pub step_state : World → ℕ → Facts → State → ℤ → Mark → Transition
 step_state w n facts Resting moment mark = noted n w
-step_state w n facts (Busy call purpose position) moment mark = if is_due position then stepped w n facts call purpose position moment mark else noted n w
+step_state w n facts (Busy task) moment mark = if is_due task.work then stepped w n facts task moment mark else noted n w
 step_state w n facts Halted moment mark = noted n w
 
 -- a start of a party that has a call, or was stopped, is noted idle
 abbrev pub start_state : World → ℕ → Facts → State → Call → Transition
 start_state w n facts Resting call =
-    let next = begin facts call in
-    record { entry = Started n (reply_of next); world = record w { parties = with_party n (settled facts call next) w.parties } }
-start_state w n facts (Busy under purpose position) call = noted n w
+    let standing = begin facts call in
+    record { entry = Started n (reply_of standing.next); world = record w { parties = with_party n (settled call standing) w.parties } }
+start_state w n facts (Busy task) call = noted n w
 start_state w n facts Halted call = noted n w
 
 -- a party that was stopped
@@ -175,7 +176,7 @@ stop_state w n facts _ = record { entry = Stopped n; world = record w { parties 
 
 -- the state in which a start's ids were carried
 abbrev pub carrying : ℕ → Call → World → World
-carrying n call w = record w { carried = with_ids (ids_of n call) w.carried }
+carrying n call w = record w { carried = with_call n call w.carried }
 
 -- an open, by whether the number came before and the database is there
 abbrev pub open_at : World → ℕ → PartyKind → List ℕ → Option Party → Option Tally → Option Transition

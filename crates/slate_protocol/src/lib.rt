@@ -5,11 +5,11 @@
 mod carrier;
 mod laws;
 mod party;
-mod position;
 mod tally;
+mod work;
 
 pub use carrier::Carrier;
 pub use laws::bad_events;
-pub use party::{Facts, Party, Purpose, State};
-pub use position::{Ended, Phrase, Position};
+pub use party::{Facts, Party, State, Task};
 pub use tally::Tally;
+pub use work::{Ended, Purpose, Work};

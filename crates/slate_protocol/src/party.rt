@@ -1,11 +1,11 @@
 //! Parties of a cluster.
 
-use crate::position::Position;
+use crate::work::Work;
 use slate_events::{Call, PartyKind};
-use slate_ids::{DbPath, Millis};
+use slate_ids::DbPath;
 
-/// What is known of a party between its calls.
-#[derive(Clone, Copy, Debug)]
+/// What is known of a party between its calls. It changes at the end of phrases alone.
+#[derive(Debug, Drop)]
 pub struct Facts {
     pub kind: PartyKind,
     pub db: DbPath,
@@ -13,15 +13,12 @@ pub struct Facts {
     pub epoch: Option<u64>,
 }
 
-/// What the call does with the phrase under way.
-#[derive(Clone, Copy, Debug)]
-pub enum Purpose {
-    /// The latest manifest is read, and the call goes on from it.
-    Reading,
-    /// What the call made of the manifest read is committed. It was made at this moment, the one at which the read ended.
-    Committing(Millis),
-    /// What is no longer needed is picked and deleted.
-    Passing,
+/// A call under way.
+#[derive(Debug, Drop)]
+pub struct Task {
+    pub call: Call,
+    /// What it is at.
+    pub work: Work,
 }
 
 /// What a party does.
@@ -29,8 +26,8 @@ pub enum Purpose {
 pub enum State {
     /// It has no call.
     Resting,
-    /// It has this call, which stands here.
-    Busy(Call, Purpose, Position),
+    /// It has this call.
+    Busy(Task),
     /// It was stopped, and does nothing any more.
     Halted,
 }

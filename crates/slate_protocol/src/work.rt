@@ -1,0 +1,37 @@
+//! What a call is at: the phrase under way.
+
+use slate_gc::{GcPass, PassCounts, PassOptions};
+use slate_ids::{DbPath, Millis};
+use slate_log::{CommitPhase, ReadPhase};
+use slate_model::Manifest;
+
+/// Which read or commit of its call this is.
+#[derive(Clone, Copy, Debug)]
+pub enum Purpose {
+    /// The one read, or the one commit, of its call.
+    Once,
+}
+
+/// The phrase under way at its phase, with the database whose objects it speaks of.
+#[derive(Debug, Drop)]
+pub enum Work {
+    /// The latest manifest is read, and the call goes on from it.
+    ReadManifest(Purpose, DbPath, ReadPhase<Manifest>),
+    /// What the call made of the manifest read is committed. It was made at this moment, the one at which the read ended.
+    CommitManifest(Purpose, Millis, DbPath, CommitPhase<Manifest>),
+    /// A pass of the garbage collector, with these options.
+    Pass(DbPath, PassOptions, GcPass),
+}
+
+/// What a phrase ends with.
+#[derive(Debug, Drop)]
+pub enum Ended {
+    /// A read that found no manifest.
+    NoManifest(Purpose),
+    /// A read at this database: the number and the value of the latest manifest.
+    ManifestRead(Purpose, DbPath, u64, Manifest),
+    /// A commit at this database: the number and the value that were put.
+    ManifestCommitted(Purpose, DbPath, u64, Manifest),
+    /// A pass: how many objects it picked, deleted, and failed to delete.
+    Passed(PassCounts),
+}
