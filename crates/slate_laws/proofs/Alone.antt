@@ -1,200 +1,482 @@
--- A pass that nobody disturbs leaves what its list found, less what it picks.
-use Rattle.std.proofs.Common.{◌≡◌, ℕ, ◌<◌, ◌^◌, ℤ, nat_le, Bool, true, false, List, [], ◌∷◌, Option, Some, None, Result, Ok, Err, refl, sym, ap, ◌∙◌, subst}
-use Rattle.std.specs.Prelude.{if◌then◌else◌, ◌++◌, ◌&&◌, not}
+-- A pass that nobody disturbs, phase by phase: what it knows, and what it leaves from there on.
+use Rattle.std.proofs.Common.{◌≡◌, ℕ, ◌+◌, ◌<◌, ◌≤◌, ◌^◌, ℤ, max, nat_le, nat_lt, Bool, true, false, List, [], ◌∷◌, length, filter, Option, Some, None, Result, Ok, Err, refl, sym, ap, ◌∙◌, subst, arith}
+use Rattle.std.proofs.lemmas.Bool.Decides.{nat_tests}
+use Rattle.std.specs.Prelude.{◌==◌, ◌||◌, ◌&&◌, not, min, decimal, if◌then◌else◌}
+use Rattle.std.specs.List.{list_any, list_all}
 use Rattle.slate_ids.specs.Ids.{is_db_path}
+use Rattle.slate_ids.specs.Limits.{last_number, next_count}
 use Rattle.slate_ids.specs.declared.error.SlateDBError.{SlateDBError}
-use Rattle.slate_ids.specs.declared.error.SlateDBError.TheVariants.{ManifestMissing}
+use Rattle.slate_ids.specs.declared.error.SlateDBError.TheVariants.{Exhausted, ManifestMissing, TransactionalObjectVersionExists}
+use Rattle.slate_ids.specs.declared.error.UpdateRule.TheVariants.{U1, U2}
+use Rattle.slate_ids.specs.declared.object_path.ObjectPath.TheVariants as paths
+use Rattle.slate_ids.proofs.PathsApart.{same_path}
 use Rattle.slate_manifest_parts.specs.Decoding.{decoded_manifest}
+use Rattle.slate_encodable.specs.Normal.{normal_manifest}
+use Rattle.slate_layout.specs.Codec.{encoded}
+use Rattle.slate_model.specs.Watermark.{watermark}
+use Rattle.slate_model.specs.declared.checkpoint.Checkpoint.{Checkpoint}
 use Rattle.slate_model.specs.declared.manifest.Manifest.{Manifest}
 use Rattle.slate_store.specs.Machines.{Stay, End}
-use Rattle.slate_store.specs.Store.{Store, Outcome, object_at, removed, listed, effect}
+use Rattle.slate_store.specs.Store.{Store, object_at, has_tag, listed, stored, put_new, replace, whole}
 use Rattle.slate_store.specs.declared.list_dir.ListDir.TheVariants.{Manifests}
-use Rattle.slate_store.specs.declared.mark.Mark.TheVariants.{Good}
 use Rattle.slate_store.specs.declared.object.ObjectMetadata.{ObjectMetadata}
 use Rattle.slate_store.specs.declared.object.StoredObject.{StoredObject}
 use Rattle.slate_store.specs.declared.store_answer.StoreAnswer.TheVariants.{Found, Got}
 use Rattle.slate_log.specs.AdvancePhase.{AdvanceGoes, advance_asks, advance_goes}
-use Rattle.slate_log.specs.Boundary.{boundary_got, greater, greatest}
+use Rattle.slate_log.specs.AdvancePhase.{read_goes_to, bound_goes as to_bound}
+use Rattle.slate_log.specs.Boundary.{boundary_got, greatest}
+use Rattle.slate_log.specs.CommitPhase.{commit_asks, commit_goes, checked_commit, encoded_commit, prepared}
+use Rattle.slate_log.specs.CommitPhase.{bounded_goes as commit_bounded}
+use Rattle.slate_log.specs.Change.{some_commit, wanted}
 use Rattle.slate_log.specs.LogPaths.{version_path, boundary_path}
+use Rattle.slate_log.specs.ReadPhase.{read_asks, read_goes}
+use Rattle.slate_log.specs.ReadPhase.{listed_goes as read_listed, got_goes as read_got, decoded_goes as read_decoded, boundary_goes as read_bounded}
+use Rattle.slate_log.specs.declared.advance_phase.AdvancePhase.{AdvancePhase}
+use Rattle.slate_log.specs.declared.advance_phase.AdvancePhase.TheVariants as advancing
+use Rattle.slate_log.specs.declared.commit_phase.CommitPhase.{CommitPhase}
+use Rattle.slate_log.specs.declared.commit_phase.CommitPhase.TheVariants as committing
 use Rattle.slate_log.specs.declared.log_kind.LogKind.TheVariants.{Manifest as ManifestLog}
-use Rattle.slate_gc.specs.Pass.{PassGoes, pass_asks, pass_goes, listed_goes, got_goes, candidates_by, decoded_goes, bounded_goes, bounded_next, moves_to, deletes_next, advanced_goes}
-use Rattle.slate_gc.specs.Picks.{Dated, dated, candidates, greatest_number, picks}
+use Rattle.slate_log.specs.declared.read_phase.ReadPhase.{ReadPhase}
+use Rattle.slate_log.specs.declared.read_phase.ReadPhase.TheVariants as reading
+use Rattle.slate_log.specs.declared.right.Right.TheVariants.{Plain}
+use Rattle.slate_gc.specs.Deletes.{has_object}
+use Rattle.slate_gc.specs.GcPass.{GcGoes, gc_asks, gc_goes, gc_due, read_on, commit_on, collect_on, removal_goes}
+use Rattle.slate_gc.specs.Pass.{pass_asks, pass_goes, listed_goes, decoded_goes, got_goes, bounded_goes, bounded_next, moves_to, picks_next, advanced_goes}
+use Rattle.slate_gc.specs.Picks.{unneeded, picks}
+use Rattle.slate_gc.specs.declared.gc_pass.GcPass.{GcPass}
+use Rattle.slate_gc.specs.declared.gc_pass.GcPass.TheVariants.{Reading, Committing, Collecting}
 use Rattle.slate_gc.specs.declared.pass_counts.PassCounts.{PassCounts}
 use Rattle.slate_gc.specs.declared.pass_options.PassOptions.{PassOptions}
-use Rattle.slate_gc.specs.declared.pass_phase.PassPhase.{PassPhase}
-use Rattle.slate_gc.specs.declared.pass_phase.PassPhase.TheVariants.{Listing, Getting, Bounding, Advancing, Deleting, Over}
-use Rattle.slate_protocol.specs.Alone.{greatest_object, picks_in, without}
-use Rattle.slate_protocol.specs.Passes.{picks_at, picks_of}
-use Rattle.slate_protocol.specs.Specs.{listed_or_none}
+use Rattle.slate_gc.specs.declared.pass_phase.PassPhase.TheVariants as passing
+use Rattle.slate_updates.specs.Changes.{commit_of, floored, with_floor}
+use Rattle.slate_updates.specs.Checkpoints.{is_named, is_expired, with_checkpoints}
+use Rattle.slate_updates.specs.Rules.{names_known, manifest_refusal, refused_by, refusal_of_update}
+use Rattle.slate_updates.specs.declared.manifest_change.ManifestChange.TheVariants.{DropExpired}
+use Rattle.slate_events.specs.declared.call.Call.{Call}
+use Rattle.slate_events.specs.declared.reply.Reply.{Reply}
+use Rattle.slate_events.specs.declared.reply.Reply.TheVariants.{Refused}
+use Rattle.slate_events.specs.declared.reply.Reply.TheVariants as reply
+use Rattle.slate_protocol.specs.Alone.{without}
+use Rattle.slate_protocol.specs.Calls.{Go}
+use Rattle.slate_protocol.specs.Passes.{pass_answers}
+use Rattle.slate_protocol.specs.Rows.{Answered, Standing, follow}
+use Rattle.slate_protocol.specs.Works.{pass_on}
+use Rattle.slate_protocol.specs.declared.party.Facts.{Facts}
+use Rattle.slate_protocol.specs.declared.work.Work.TheVariants.{Pass}
+use Rattle.slate_laws.proofs.Encodable.{HasBytes, removal_bytes}
+use Rattle.slate_laws.proofs.Exact.{IsRemoval, bound_picks, bounded_picks, get_picks, decoded_picks, listed_picks, list_picks, none_unneeded, none_picked}
 use Rattle.slate_laws.proofs.Left.{without_none, without_one, advance_listed, delete_listed}
 use Rattle.slate_laws.proofs.Ordered.{IsOrdered}
-use Rattle.slate_laws.proofs.Stores.{IsTidy}
+use Rattle.slate_laws.proofs.Stores.{IsTidy, at_else}
 
--- where there is no greatest number there is none
-none_greatest : (ns : List ℕ) → greatest_number ns ≡ None → ns ≡ []
-none_greatest [] h = refl
-none_greatest (n ∷ ns) h = absurd (by_rest (greatest_number ns) h)
+not_at_most : (n b : ℕ) → b < n → nat_le n b ≡ false
+not_at_most n b lt = grind (arith, nat_tests)
+
+-- ---- the removal is lawful, and has bytes
+
+-- what is left of checkpoints is named
+left_named : (id : ℕ) (cs : List Checkpoint) (keep : Checkpoint → Bool) (all : List Checkpoint) → ((n : ℕ) → is_named n cs ≡ true → is_named n all ≡ true)
+    → list_all (λ c. c.manifest_id == id + 1 || is_named c.manifest_id all) (filter keep cs) ≡ true
+left_named id [] keep all h = refl
+left_named id (c ∷ cs) keep all h =
+    step (keep c) (h c.manifest_id (first_is c.manifest_id (is_named c.manifest_id cs))) (left_named id cs keep all (λ n e. h n (later_is (c.manifest_id == n) (is_named n cs) e)))
   where
-    by_rest : (o : Option ℕ) → greater (Some n) o ≡ None → ⊥
-    by_rest None e = absurd cc
-    by_rest (Some j) e = absurd cc
+    first_is : (n : ℕ) (b : Bool) → ((n == n) || b) ≡ true
+    first_is n b = let e : (n == n) ≡ true = grind (arith, nat_tests) in ap (λ (x : Bool). x || b) e
 
--- of no candidates none is picked
-none_picked : (options : PassOptions) → picks options [] ≡ []
-none_picked options = test [] (options.allows && not options.dry_run) refl
+    later_is : (a b : Bool) → b ≡ true → (a || b) ≡ true
+    later_is true b e = refl
+    later_is false b e = e
+
+    both : (a b r : Bool) → b ≡ true → r ≡ true → ((a || b) && r) ≡ true
+    both true b r e f = f
+    both false true r e f = f
+    both false false r e f = absurd cc
+
+    step : (b : Bool) → is_named c.manifest_id all ≡ true → list_all (λ x. x.manifest_id == id + 1 || is_named x.manifest_id all) (filter keep cs) ≡ true
+        → list_all (λ x. x.manifest_id == id + 1 || is_named x.manifest_id all) (if b then c ∷ filter keep cs else filter keep cs) ≡ true
+    step true e rest = both (c.manifest_id == id + 1) (is_named c.manifest_id all) _ e rest
+    step false e rest = rest
+
+-- the manifest without some checkpoints, with the floor that it asks for
+abbrev less : (Checkpoint → Bool) → Manifest → Manifest
+less keep m = with_floor m.core.floor (with_checkpoints (filter keep m.core.checkpoints) m)
+
+-- no rule refuses it
+less_lawful : (n : ℕ) (m : Manifest) (keep : Checkpoint → Bool) → refusal_of_update n m (less keep m) ≡ None
+less_lawful n m keep =
+    by_tests (nat_lt m.writer_epoch m.writer_epoch) (nat_lt m.compactor_epoch m.compactor_epoch) (nat_lt (less keep m).core.floor m.core.floor) (names_known n m (less keep m))
+    (not_less m.writer_epoch) (not_less m.compactor_epoch) (not_above m.core.floor (watermark (with_checkpoints (filter keep m.core.checkpoints) m).core))
+    (left_named n m.core.checkpoints keep m.core.checkpoints (λ k e. e))
   where
-    test : (ns : List ℕ) (b : Bool) → ns ≡ [] → (if b then ns else []) ≡ []
-    test ns true e = e
-    test ns false e = refl
+    not_less : (k : ℕ) → nat_lt k k ≡ false
+    not_less k = grind (arith, nat_tests)
 
-after_gone : (gone : List ℕ) (k : ℕ) (rest : List ℕ) → (gone ++ k ∷ []) ++ rest ≡ gone ++ k ∷ rest
-after_gone [] k rest = refl
-after_gone (g ∷ gone) k rest = ap (λ (ns : List ℕ). g ∷ ns) (after_gone gone k rest)
+    not_above : (a b : ℕ) → nat_lt (max a b) a ≡ false
+    not_above a b = grind (arith, nat_tests)
 
-all_gone : (gone : List ℕ) → gone ++ [] ≡ gone
-all_gone [] = refl
-all_gone (g ∷ gone) = ap (λ (ns : List ℕ). g ∷ ns) (all_gone gone)
+    by_tests : (a b c d : Bool) → a ≡ false → b ≡ false → c ≡ false → d ≡ true → (if a || b || c then Some U1 else if d then None else Some U2) ≡ None
+    by_tests false false false true h k l e = refl
+    by_tests true b c d h k l e = absurd cc
+    by_tests false true c d h k l e = absurd cc
+    by_tests false false true d h k l e = absurd cc
+    by_tests false false false false h k l e = absurd cc
 
--- what is to be deleted next is a number of 64 bits
-abbrev pub IsNextSmall : PassPhase → Type 0
-IsNextSmall (Deleting (n ∷ ns) counts) = n < 2 ^ 64
-IsNextSmall phase = Unit {0}
+-- ---- counts
 
-module _ (db : List ℕ) (options : PassOptions) (now : ℤ) (s0 : Store) where
-  -- what the list found
-  abbrev found : List ObjectMetadata
-  found = listed (Manifests db) s0
+more_deleted : (d k n : ℕ) → k + 1 ≡ n → min (min (d + 1) last_number + k) last_number ≡ min (d + n) last_number
+more_deleted d k n e = grind (arith, nat_tests)
 
-  -- what the pass picks
-  abbrev picked : List ℕ
-  picked = picks_in options now db s0
+from_none : (k : ℕ) → min (0 + k) last_number ≡ min k last_number
+from_none k = grind (arith, nat_tests)
 
-  -- the greatest manifest listed, with its value
-  pub record IsGreatest (n : ℕ) (m : Manifest) : Type 0 where
-    pub greatest : greatest ManifestLog found ≡ Some n
-    pub object : StoredObject
-    pub at : object_at (version_path ManifestLog db n) s0 ≡ Some object
-    pub value : decoded_manifest object.bytes ≡ Ok m
+count_small : (d : ℕ) → next_count d ≤ last_number
+count_small d = grind (arith, nat_tests)
 
-  -- the candidates by it
-  pub record IsBounding (n : ℕ) (ns : List ℕ) : Type 0 where
-    pub value : Manifest
-    pub is : IsGreatest n value
-    pub candidates : ns ≡ candidates options.min_age now n value.core.checkpoints (dated ManifestLog found)
+-- ---- what is known, and what is left
 
-  -- some of the picks are deleted, and these are left
-  pub record IsDeleting (s : Store) (left : List ℕ) : Type 0 where
-    pub gone : List ℕ
-    pub all : gone ++ left ≡ picked
-    pub lists : listed (Manifests db) s ≡ without gone found
+-- the latest manifest of a database, as the store has it: it has bytes, and no object is at the next number
+pub record IsLatest (db : List ℕ) (s : Store) (n : ℕ) (v : Manifest) : Type 0 where
+  pub object : StoredObject
+  pub at : object_at (version_path ManifestLog db n) s ≡ Some object
+  pub value : decoded_manifest object.bytes ≡ Ok v
+  pub source : Manifest
+  pub bytes : List ℕ
+  pub encodes : encoded source ≡ Ok bytes
+  pub normal : v ≡ normal_manifest source
+  pub small : n < 2 ^ 64
+  pub free : n + 1 < 2 ^ 64 → object_at (version_path ManifestLog db (n + 1)) s ≡ None
 
-  -- how far a pass has come that nobody disturbed since its list
-  abbrev pub AloneKnows : Store → PassPhase → Type 0
-  AloneKnows s Listing = ⊥
-  AloneKnows s (Getting at n dates) = (s ≡ s0) × (at ≡ now) × (greatest ManifestLog found ≡ Some n) × (dates ≡ dated ManifestLog found)
-  AloneKnows s (Bounding n ns) = (s ≡ s0) × IsBounding n ns
-  AloneKnows s (Advancing phase ns) = (listed (Manifests db) s ≡ found) × (picked ≡ picks options ns)
-  AloneKnows s (Deleting left counts) = IsDeleting s left
-  AloneKnows s Over = ⊥
+-- a number above the boundary
+abbrev pub IsUp : List ℕ → Store → ℕ → Type 0
+IsUp db s n = (b : ℕ) → boundary_got (object_at (boundary_path ManifestLog db) s) ≡ Some b → b < n
 
-  -- what it leaves
-  abbrev pub AloneLeaves : Store → Type 0
-  AloneLeaves s = listed (Manifests db) s ≡ without picked found
+-- what holds of the manifests of a database at each moment
+pub record IsFine (db : List ℕ) (s : Store) : Type 0 where
+  pub tidy : IsTidy s.objects
+  pub ordered : IsOrdered s.objects
+  pub bound : ℕ
+  pub read : boundary_got (object_at (boundary_path ManifestLog db) s) ≡ Some bound
+  pub top : ℕ
+  pub value : Manifest
+  pub latest : IsLatest db s top value
+  pub greatest : greatest ManifestLog (listed (Manifests db) s) ≡ Some top
+  pub below : bound < top
 
-  -- what a step of it brings
-  abbrev pub AloneBrings : Store → PassGoes → Type 0
-  AloneBrings s (Stay phase) = AloneKnows s phase
-  AloneBrings s (End phase (Ok counts)) = AloneLeaves s
-  AloneBrings s (End phase (Err e)) = Unit {0}
+-- candidates of some objects, by some checkpoints
+pub record AreUnneeded (n : ℕ) (candidates : List ObjectMetadata) : Type 0 where
+  pub checkpoints : List Checkpoint
+  pub found : List ObjectMetadata
+  pub is : candidates ≡ unneeded n checkpoints found
 
-  -- ---- the list
+-- the object of the boundary is as it was read
+abbrev AdvanceCan : List ℕ → Store → AdvancePhase → Type 0
+AdvanceCan db s (advancing.Bounding n) = Unit {0}
+AdvanceCan db s (advancing.Creating n) = object_at (boundary_path ManifestLog db) s ≡ None
+AdvanceCan db s (advancing.Replacing n tag) = has_tag tag (object_at (boundary_path ManifestLog db) s) ≡ true
+AdvanceCan db s advancing.Over = ⊥
 
-  listed_brings : (n : Option ℕ) → greatest ManifestLog found ≡ n → AloneBrings s0 (listed_goes now found n)
-  listed_brings None is = tt
-  listed_brings (Some n) is = (refl, refl, is, refl)
+-- what is known in a phase
+abbrev pub Knows : List ℕ → Store → GcPass → Type 0
+Knows db s (Reading reading.Listing) = Unit {0}
+Knows db s (Reading (reading.Getting n)) = (v : Manifest) × IsLatest db s n v × IsUp db s n
+Knows db s (Reading (reading.Bounding n v)) = IsLatest db s n v × IsUp db s n
+Knows db s (Reading reading.Over) = ⊥
+Knows db s (Committing now (committing.Putting n bytes v)) = (n < 2 ^ 64) × (object_at (version_path ManifestLog db n) s ≡ None) × IsUp db s n
+Knows db s (Committing now (committing.Bounding n v)) = IsUp db s n
+Knows db s (Committing now committing.Over) = ⊥
+Knows db s (Collecting passing.Listing) = Unit {0}
+Knows db s (Collecting (passing.Getting n found)) = (v : Manifest) × IsLatest db s n v × IsUp db s n
+Knows db s (Collecting (passing.Bounding n candidates)) = IsUp db s n × AreUnneeded n candidates
+Knows db s (Collecting (passing.Advancing advance picked)) = AdvanceCan db s advance
+Knows db s (Collecting (passing.Deleting left counts)) = (has_object left ≡ true) × (counts.deleted ≤ last_number)
+Knows db s (Collecting passing.Over) = ⊥
 
-  pub list_brings : AloneBrings s0 (pass_goes decoded_manifest options now Listing (effect Good (pass_asks db Listing) now s0).answer)
-  list_brings = listed_brings (greatest ManifestLog found) refl
+-- where so much is known a call is due
+pub known_due : (db : List ℕ) (s : Store) (phase : GcPass) → Knows db s phase → gc_due phase ≡ true
+known_due db s (Reading reading.Listing) h = refl
+known_due db s (Reading (reading.Getting n)) h = refl
+known_due db s (Reading (reading.Bounding n v)) h = refl
+known_due db s (Reading reading.Over) h = absurd h
+known_due db s (Committing now (committing.Putting n bytes v)) h = refl
+known_due db s (Committing now (committing.Bounding n v)) h = refl
+known_due db s (Committing now committing.Over) h = absurd h
+known_due db s (Collecting passing.Listing) h = refl
+known_due db s (Collecting (passing.Getting n found)) h = refl
+known_due db s (Collecting (passing.Bounding n candidates)) h = refl
+known_due db s (Collecting (passing.Advancing (advancing.Bounding n) picked)) h = refl
+known_due db s (Collecting (passing.Advancing (advancing.Creating n) picked)) h = refl
+known_due db s (Collecting (passing.Advancing (advancing.Replacing n tag) picked)) h = refl
+known_due db s (Collecting (passing.Advancing advancing.Over picked)) h = absurd h
+known_due db s (Collecting (passing.Deleting left counts)) h = h.0
+known_due db s (Collecting passing.Over) h = absurd h
 
-  -- ---- the get of the greatest
+-- the reply of a pass that deleted all of these objects, and left of those that were found the others
+pub record EndsWith (db : List ℕ) (ps found : List ObjectMetadata) (r : Reply) (s : Store) : Type 0 where
+  pub replied : r ≡ reply.Pass (length ps) (min (length ps) last_number) 0
+  pub left : listed (Manifests db) s ≡ without ps found
 
-  decoded_brings : (n : ℕ) (object : StoredObject) (r : Result Manifest SlateDBError)
-      → greatest ManifestLog found ≡ Some n → object_at (version_path ManifestLog db n) s0 ≡ Some object → decoded_manifest object.bytes ≡ r
-      → AloneBrings s0 (decoded_goes n (candidates_by options now n (dated ManifestLog found) r))
-  decoded_brings n object (Ok m) top at is = (refl, record { value = m; is = record { greatest = top; object = object; at = at; value = is }; candidates = refl })
-  decoded_brings n object (Err e) top at is = tt
+-- the same, where some were deleted before
+pub record DeletesEnd (db : List ℕ) (ps : List ObjectMetadata) (counts : PassCounts) (found : List ObjectMetadata) (r : Reply) (s : Store) : Type 0 where
+  pub replied : r ≡ reply.Pass counts.picked (min (counts.deleted + length ps) last_number) counts.failed
+  pub left : listed (Manifests db) s ≡ without ps found
 
-  got_brings : (n : ℕ) (o : Option StoredObject) → greatest ManifestLog found ≡ Some n → object_at (version_path ManifestLog db n) s0 ≡ o
-      → AloneBrings s0 (got_goes decoded_manifest options now n (dated ManifestLog found) o)
-  got_brings n None top at = tt
-  got_brings n (Some object) top at = decoded_brings n object (decoded_manifest object.bytes) top at refl
+-- by the answers from its list on: the pass ended, or there was no list
+pub data RemovalEnds (db : List ℕ) (options : PassOptions) (answers : List Answered) (r : Reply) (s : Store) : Type 0 where
+  Lists : (found : List ObjectMetadata) (moment : ℤ) (later : List Answered) → answers ≡ (Found found, moment) ∷ later → EndsWith db (list_picks options answers) found r s
+      → RemovalEnds db options answers r s
+  Lacks : answers ≡ [] → r ≡ Refused (Exhausted last_number) → RemovalEnds db options answers r s
 
-  -- ---- the get of the boundary
+module _ (facts : Facts) (call : Call) (db : List ℕ) (options : PassOptions) where
+  -- where a call stands in a phase
+  abbrev pub standing : GcPass → Standing
+  standing phase = record { facts = facts; next = Go (Pass db options phase) }
 
-  -- what the pass picks, by what it has read
-  picked_is : (n b : ℕ) (ns : List ℕ) → IsBounding n ns → boundary_got (object_at (boundary_path ManifestLog db) s0) ≡ Some b → nat_le n b ≡ false → picked ≡ picks options ns
-  picked_is n b ns h read above =
-      let g = h.is in
-      ap (λ (o : Option ℕ). listed_or_none (picks_of options (Found found, now) (Got (greatest_object db s0 o), now) (Got (object_at (boundary_path ManifestLog db) s0), now))) g.greatest
-      ∙ (ap (λ (o : Option StoredObject). listed_or_none (picks_of options (Found found, now) (Got o, now) (Got (object_at (boundary_path ManifestLog db) s0), now))) g.at
-      ∙ (ap (λ (o : Option ℕ). listed_or_none (picks_at options now found o (decoded_manifest g.object.bytes) (boundary_got (object_at (boundary_path ManifestLog db) s0)))) g.greatest
-      ∙ (ap (λ (r : Result Manifest SlateDBError). listed_or_none (picks_at options now found (Some n) r (boundary_got (object_at (boundary_path ManifestLog db) s0)))) g.value
-      ∙ (ap (λ (o : Option ℕ). listed_or_none (picks_at options now found (Some n) (Ok h.value) o)) read
-      ∙ (ap (λ (t : Bool). listed_or_none (if t then None else Some (picks options (candidates options.min_age now n h.value.core.checkpoints (dated ManifestLog found))))) above
-      ∙ ap (picks options) (sym h.candidates))))))
+  -- where a call stands once its pass has gone on
+  abbrev pub next_of : ℤ → GcGoes → Standing
+  next_of moment g = follow facts call moment (pass_on db options g)
 
-  -- where nothing is picked the list stays
-  none_leaves : (s : Store) → listed (Manifests db) s ≡ found → picked ≡ [] → AloneLeaves s
-  none_leaves s same none = same ∙ (sym (without_none found) ∙ ap (λ (ns : List ℕ). without ns found) (sym none))
+  -- what a pass leaves, from a phase on: by the store there, the answers from there on, the reply, and the store at the end
+  abbrev pub Ends : GcPass → Store → List Answered → Reply → Store → Type 0
+  Ends (Reading phase) s answers r t = RemovalEnds db options (pass_answers call (standing (Reading phase)) answers) r t
+  Ends (Committing now phase) s answers r t = RemovalEnds db options (pass_answers call (standing (Committing now phase)) answers) r t
+  Ends (Collecting passing.Listing) s answers r t = RemovalEnds db options (pass_answers call (standing (Collecting passing.Listing)) answers) r t
+  Ends (Collecting (passing.Getting n found)) s answers r t = EndsWith db (get_picks options n found answers) (listed (Manifests db) s) r t
+  Ends (Collecting (passing.Bounding n candidates)) s answers r t = EndsWith db (bound_picks options n candidates answers) (listed (Manifests db) s) r t
+  Ends (Collecting (passing.Advancing advance picked)) s answers r t = EndsWith db picked (listed (Manifests db) s) r t
+  Ends (Collecting (passing.Deleting left counts)) s answers r t = DeletesEnd db left counts (listed (Manifests db) s) r t
+  Ends (Collecting passing.Over) s answers r t = ⊥
 
-  moves_bring : (ns : List ℕ) (k : Option ℕ) → greatest_number ns ≡ k → picked ≡ picks options ns → AloneBrings s0 (moves_to ns k)
-  moves_bring ns None is h = none_leaves s0 refl (h ∙ (ap (picks options) (none_greatest ns is) ∙ none_picked options))
-  moves_bring ns (Some k) is h = (refl, h)
+  -- what a step brings: what is known after it, with which the end from there on is the end from here on; or the end
+  abbrev pub Brings : Store → (List Answered → Reply → Store → Type 0) → GcGoes → Type 0
+  Brings s P (Stay phase) = Knows db s phase × ((answers : List Answered) (r : Reply) (t : Store) → Ends phase s answers r t → P answers r t)
+  Brings s P (End phase (Ok counts)) = P [] (reply.Pass counts.picked counts.deleted counts.failed) s
+  Brings s P (End phase (Err e)) = P [] (Refused e) s
 
-  bound_brings : (n : ℕ) (ns : List ℕ) (o : Option ℕ) → IsBounding n ns → boundary_got (object_at (boundary_path ManifestLog db) s0) ≡ o → AloneBrings s0 (bounded_goes n ns o)
-  bound_brings n ns None h read = tt
-  bound_brings n ns (Some b) h read = test (nat_le n b) refl
+  -- ---- the removal
+
+  -- the removal goes on, or has no number left
+  abbrev Removed : Store → GcGoes → Type 0
+  Removed s (Stay phase) = Knows db s phase × IsRemoval phase
+  Removed s (End phase (Ok counts)) = ⊥
+  Removed s (End phase (Err e)) = e ≡ Exhausted last_number
+
+  removal_brings : (s : Store) (moment : ℤ) (g : GcGoes) → Removed s g → Brings s (λ answers r t. RemovalEnds db options (pass_answers call (next_of moment g) answers) r t) g
+  removal_brings s moment (Stay (Reading phase)) h = (h.0, λ answers r t e. e)
+  removal_brings s moment (Stay (Committing now phase)) h = (h.0, λ answers r t e. e)
+  removal_brings s moment (Stay (Collecting passing.Listing)) h = (h.0, λ answers r t e. e)
+  removal_brings s moment (Stay (Collecting _)) h = absurd h.1
+  removal_brings s moment (End phase (Ok counts)) h = absurd h
+  removal_brings s moment (End phase (Err e)) h = Lacks refl (ap (λ (x : SlateDBError). Refused x) h)
+
+  -- what is made without the expired checkpoints is committed, or there is no number left for it
+  removal_made : (s : Store) (now : ℤ) (n : ℕ) (v : Manifest) → IsLatest db s n v → IsUp db s n → Removed s (removal_goes now (commit_of encoded DropExpired now n v))
+  removal_made s now n v h up = by_expired (list_any (is_expired now) v.core.checkpoints)
     where
-      test : (t : Bool) → nat_le n b ≡ t → AloneBrings s0 (if t then End Over (Err (ManifestMissing n)) else bounded_next ns)
-      test true is = tt
-      test false is = moves_bring ns (greatest_number ns) refl (picked_is n b ns h read is)
+      keep : Checkpoint → Bool
+      keep c = not (is_expired now c)
 
-  -- ---- the deletes
+      new : Manifest
+      new = less (λ c. not (is_expired now c)) v
 
-  deletes_bring : (s : Store) (left : List ℕ) (counts : PassCounts) → IsDeleting s left → AloneBrings s (deletes_next left counts)
-  deletes_bring s [] counts h = h.lists ∙ ap (λ (ns : List ℕ). without ns found) (sym (all_gone h.gone) ∙ h.all)
-  deletes_bring s (n ∷ ns) counts h = h
+      by_number : HasBytes new → (b : Bool) → (n == last_number) ≡ b
+          → Removed s (removal_goes now (some_commit (if b then Err (Exhausted n) else checked_commit (manifest_refusal n v new Plain) (n + 1) new (encoded new))))
+      by_number k true is = ap (λ (i : ℕ). Exhausted i) (is_last n is)
+        where
+          is_last : (i : ℕ) → (i == last_number) ≡ true → i ≡ last_number
+          is_last i e = grind (arith, nat_tests)
+      by_number k false is =
+          subst (λ (o : Option SlateDBError). Removed s (removal_goes now (some_commit (checked_commit o (n + 1) new (encoded new))))) (sym (ap refused_by (less_lawful n v keep)))
+          (subst (λ (r : Result (List ℕ) SlateDBError). Removed s (removal_goes now (some_commit (encoded_commit (n + 1) new r)))) (sym k.is) ((fits n is h.small, h.free (fits n is h.small), λ b e. above b n (up b e)), tt))
+        where
+          fits : (i : ℕ) → (i == last_number) ≡ false → i < 2 ^ 64 → i + 1 < 2 ^ 64
+          fits i e lt = grind (arith, nat_tests)
 
-  advanced_brings : (s : Store) (ns : List ℕ) (g : AdvanceGoes) → listed (Manifests db) s ≡ found → picked ≡ picks options ns → AloneBrings s (advanced_goes options ns g)
-  advanced_brings s ns (Stay phase) same h = (same, h)
-  advanced_brings s ns (End phase (Ok done)) same h = deletes_bring s (picks options ns) _ (record { gone = []; all = sym h; lists = same ∙ sym (without_none found) })
-  advanced_brings s ns (End phase (Err e)) same h = tt
+          above : (b i : ℕ) → b < i → b < i + 1
+          above b i lt = omega arith
 
-  module _ (named : is_db_path db ≡ true) (s : Store) (tidy : IsTidy s.objects) (ordered : IsOrdered s.objects) where
-    -- a number more is gone
-    one_gone : (k : ℕ) (rest : List ℕ) → k < 2 ^ 64 → IsDeleting s (k ∷ rest) → IsDeleting (removed (version_path ManifestLog db k) s) rest
-    one_gone k rest small h = record {
-      gone = h.gone ++ k ∷ [];
-      all = after_gone h.gone k rest ∙ h.all;
-      lists = delete_listed db named k small s tidy ordered ∙ (ap (without (k ∷ [])) h.lists ∙ sym (without_one k h.gone found));
+      by_expired : (b : Bool) → Removed s (removal_goes now (wanted (λ m. prepared manifest_refusal encoded n v m Plain) (floored v.core.floor (if b then Ok (Some (with_checkpoints (filter (λ c. not (is_expired now c)) v.core.checkpoints) v)) else Ok None))))
+      by_expired false = (tt, tt)
+      by_expired true = by_number (subst (λ (m : Manifest). HasBytes (less (λ c. not (is_expired now c)) m)) (sym h.normal) (removal_bytes h.source h.bytes (λ c. not (is_expired now c)) h.encodes)) (n == last_number) refl
+
+  -- ---- the steps of the removal
+
+  module _ (s : Store) (fine : IsFine db s) (moment : ℤ) where
+    top_up : IsUp db s fine.top
+    top_up b is =
+        let same : fine.bound ≡ b = some_same (sym fine.read ∙ is) in
+        subst (λ (i : ℕ). i < fine.top) same fine.below
+      where
+        some_same : {a b : ℕ} → Some a ≡ Some b → a ≡ b
+        some_same e = cc
+
+    above_test : (n : ℕ) → IsUp db s n → nat_le n fine.bound ≡ false
+    above_test n up = not_at_most n fine.bound (up fine.bound fine.read)
+
+    read_step : (phase : ReadPhase Manifest) → Knows db s (Reading phase)
+        → Removed s (read_on encoded moment (read_goes ManifestLog decoded_manifest phase (whole (read_asks db ManifestLog phase) moment s).answer))
+    read_step reading.Listing h =
+        subst (λ (o : Option ℕ). Removed s (read_on encoded moment (read_listed o))) (sym fine.greatest) ((fine.value, fine.latest, top_up), tt)
+    read_step (reading.Getting n) h =
+        subst (λ (o : Option StoredObject). Removed s (read_on encoded moment (read_got decoded_manifest n o))) (sym h.1.at)
+        (subst (λ (r : Result Manifest SlateDBError). Removed s (read_on encoded moment (read_decoded n r))) (sym h.1.value) ((h.1, h.2), tt))
+    read_step (reading.Bounding n v) h =
+        subst (λ (o : Option ℕ). Removed s (read_on encoded moment (read_bounded n v o))) (sym fine.read)
+        (subst (λ (b : Bool). Removed s (read_on encoded moment (if b then Stay reading.Listing else End reading.Over (Ok (Some (n, v)))))) (sym (above_test n h.1)) (removal_made s moment n v h.0 h.1))
+    read_step reading.Over h = absurd h
+
+    module _ (named : is_db_path db ≡ true) where
+      boundary_else : (n : ℕ) (bytes : List ℕ) → n < 2 ^ 64 → object_at (boundary_path ManifestLog db) (stored (version_path ManifestLog db n) bytes moment s) ≡ object_at (boundary_path ManifestLog db) s
+      boundary_else n bytes small = at_else (paths.Manifest db n) (paths.ManifestBoundary db) bytes moment s (λ e. apart (same_path (paths.ManifestBoundary db) (paths.Manifest db n) named (named, small) e))
+        where
+          apart : paths.ManifestBoundary db ≡ paths.Manifest db n → ⊥
+          apart e = absurd cc
+
+      commit_step : (since : ℤ) (phase : CommitPhase Manifest) → Knows db s (Committing since phase)
+          → Removed (whole (commit_asks db ManifestLog phase) moment s).store (commit_on since (commit_goes phase (whole (commit_asks db ManifestLog phase) moment s).answer))
+      commit_step since (committing.Putting n bytes v) h =
+          subst (λ (o : Option StoredObject). Removed (put_new o (version_path ManifestLog db n) bytes moment s).store (commit_on since (commit_goes (committing.Putting n bytes v) (put_new o (version_path ManifestLog db n) bytes moment s).answer))) (sym h.1)
+          ((λ b is. h.2 b (sym (ap boundary_got (boundary_else n bytes h.0)) ∙ is)), tt)
+      commit_step since (committing.Bounding n v) h =
+          subst (λ (o : Option ℕ). Removed s (commit_on since (commit_bounded n v o))) (sym fine.read)
+          (subst (λ (b : Bool). Removed s (commit_on since (if b then End committing.Over (Err (TransactionalObjectVersionExists n (Some fine.bound))) else End committing.Over (Ok (n, v))))) (sym (above_test n h)) (tt, tt))
+      commit_step since committing.Over h = absurd h
+
+    -- ---- the steps of what follows
+
+    list_step : Brings s (λ answers r t. RemovalEnds db options ((Found (listed (Manifests db) s), moment) ∷ answers) r t) (collect_on (listed_goes options.min_age moment (listed (Manifests db) s) (greatest ManifestLog (listed (Manifests db) s))))
+    list_step = by_greatest (greatest ManifestLog (listed (Manifests db) s)) refl (sym fine.greatest)
+      where
+        by_greatest : (o : Option ℕ) → greatest ManifestLog (listed (Manifests db) s) ≡ o → Some fine.top ≡ greatest ManifestLog (listed (Manifests db) s)
+            → Brings s (λ answers r t. RemovalEnds db options ((Found (listed (Manifests db) s), moment) ∷ answers) r t) (collect_on (listed_goes options.min_age moment (listed (Manifests db) s) o))
+        by_greatest None is top = absurd cc
+        by_greatest (Some n) is top =
+            let same : fine.top ≡ n = cc in (
+              subst (λ (i : ℕ). (v : Manifest) × IsLatest db s i v × IsUp db s i) same (fine.value, fine.latest, top_up),
+              λ answers r t e. Lists (listed (Manifests db) s) moment answers refl
+                  (subst (λ (o : Option ℕ). EndsWith db (listed_picks options moment (listed (Manifests db) s) o answers) (listed (Manifests db) s) r t) (sym is) e),
+            )
+
+    get_step : (n : ℕ) (found : List ObjectMetadata) → Knows db s (Collecting (passing.Getting n found))
+        → Brings s (λ answers r t. EndsWith db (get_picks options n found ((Got (object_at (version_path ManifestLog db n) s), moment) ∷ answers)) (listed (Manifests db) s) r t)
+        (collect_on (got_goes decoded_manifest n found (object_at (version_path ManifestLog db n) s)))
+    get_step n found h =
+        subst (λ (o : Option StoredObject). Brings s (λ answers r t. EndsWith db (get_picks options n found ((Got o, moment) ∷ answers)) (listed (Manifests db) s) r t) (collect_on (got_goes decoded_manifest n found o)))
+        (sym h.1.at)
+        (subst (λ (res : Result Manifest SlateDBError). Brings s (λ answers r t. EndsWith db (decoded_picks options n found res answers) (listed (Manifests db) s) r t) (collect_on (decoded_goes n found res)))
+        (sym h.1.value)
+        ((h.2, record { checkpoints = h.0.core.checkpoints; found = found; is = refl }), λ answers r t e. e))
+
+    -- where nothing is picked nothing is left out
+    none_ends : (ps : List ObjectMetadata) → ps ≡ [] → EndsWith db ps (listed (Manifests db) s) (reply.Pass 0 0 0) s
+    none_ends ps is = subst (λ (qs : List ObjectMetadata). EndsWith db qs (listed (Manifests db) s) (reply.Pass 0 0 0) s) (sym is) (record { replied = refl; left = sym (without_none (listed (Manifests db) s)) })
+
+    bound_step : (n : ℕ) (candidates : List ObjectMetadata) → Knows db s (Collecting (passing.Bounding n candidates))
+        → Brings s (λ answers r t. EndsWith db (bounded_picks options n candidates (boundary_got (object_at (boundary_path ManifestLog db) s))) (listed (Manifests db) s) r t)
+        (collect_on (bounded_goes options n candidates (boundary_got (object_at (boundary_path ManifestLog db) s))))
+    bound_step n candidates h =
+        subst (λ (o : Option ℕ). Brings s (λ answers r t. EndsWith db (bounded_picks options n candidates o) (listed (Manifests db) s) r t) (collect_on (bounded_goes options n candidates o))) (sym fine.read)
+        (subst (λ (b : Bool). Brings s (λ answers r t. EndsWith db (if b then [] else picks options candidates) (listed (Manifests db) s) r t) (collect_on (if b then End passing.Over (Err (ManifestMissing n)) else bounded_next options candidates)))
+        (sym (above_test n h.0)) (by_greatest (greatest ManifestLog candidates) refl))
+      where
+        by_greatest : (k : Option ℕ) → greatest ManifestLog candidates ≡ k
+            → Brings s (λ answers r t. EndsWith db (picks options candidates) (listed (Manifests db) s) r t) (collect_on (moves_to (picks options candidates) k))
+        by_greatest (Some k) is = (tt, λ answers r t e. e)
+        by_greatest None is =
+            let u = h.1 in
+            let none : candidates ≡ [] = u.is ∙ none_unneeded n u.checkpoints u.found (sym (ap (greatest ManifestLog) u.is) ∙ is) in
+            none_ends (picks options candidates) (ap (picks options) none ∙ none_picked options)
+
+    -- ---- the boundary moves up
+
+    -- an advance goes on, or is done
+    abbrev Moved : Store → AdvanceGoes → Type 0
+    Moved t (Stay advance) = AdvanceCan db t advance
+    Moved t (End advance (Ok done)) = Unit {0}
+    Moved t (End advance (Err e)) = ⊥
+
+    got_step : (k : ℕ) (o : Option StoredObject) → object_at (boundary_path ManifestLog db) s ≡ o → boundary_got o ≡ Some fine.bound → Moved s (to_bound k o)
+    got_step k None at read = by_zero (k == 0)
+      where
+        by_zero : (b : Bool) → Moved s (if b then End advancing.Over (Ok tt) else Stay (advancing.Creating k))
+        by_zero true = tt
+        by_zero false = at
+    got_step k (Some object) at read = subst (λ (o : Option ℕ). Moved s (read_goes_to k object.e_tag o)) (sym read) (by_reached (nat_le k fine.bound))
+      where
+        own_tag : (i : ℕ) → (i == i) ≡ true
+        own_tag i = grind (arith, nat_tests)
+
+        by_reached : (b : Bool) → Moved s (if b then End advancing.Over (Ok tt) else Stay (advancing.Replacing k object.e_tag))
+        by_reached true = tt
+        by_reached false = ap (has_tag object.e_tag) at ∙ own_tag object.e_tag
+
+    move_step : (advance : AdvancePhase) → AdvanceCan db s advance → Moved (whole (advance_asks db ManifestLog advance) moment s).store (advance_goes advance (whole (advance_asks db ManifestLog advance) moment s).answer)
+    move_step (advancing.Bounding k) h = got_step k (object_at (boundary_path ManifestLog db) s) refl fine.read
+    move_step (advancing.Creating k) h =
+        subst (λ (o : Option StoredObject). Moved (put_new o (boundary_path ManifestLog db) (decimal k) moment s).store (advance_goes (advancing.Creating k) (put_new o (boundary_path ManifestLog db) (decimal k) moment s).answer)) (sym h) tt
+    move_step (advancing.Replacing k tag) h =
+        subst (λ (b : Bool). Moved (replace b (boundary_path ManifestLog db) (decimal k) moment s).store (advance_goes (advancing.Replacing k tag) (replace b (boundary_path ManifestLog db) (decimal k) moment s).answer)) (sym h) tt
+    move_step advancing.Over h = absurd h
+
+    -- the picks are to be deleted
+    picks_bring : (t : Store) (ps : List ObjectMetadata) → listed (Manifests db) t ≡ listed (Manifests db) s → Brings t (λ answers r u. EndsWith db ps (listed (Manifests db) s) r u) (collect_on (picks_next ps))
+    picks_bring t [] same = record { replied = refl; left = same ∙ sym (without_none (listed (Manifests db) s)) }
+    picks_bring t (p ∷ ps) same = (
+      (refl, zero_small last_number),
+      λ answers r u e. record {
+        replied = e.replied ∙ ap (λ (i : ℕ). reply.Pass (length (p ∷ ps)) i 0) (from_none (length (p ∷ ps)));
+        left = e.left ∙ ap (without (p ∷ ps)) same;
+      },
+    )
+      where
+        zero_small : (i : ℕ) → 0 ≤ i
+        zero_small i = omega arith
+
+    moved_brings : (t : Store) (ps : List ObjectMetadata) → listed (Manifests db) t ≡ listed (Manifests db) s → (g : AdvanceGoes) → Moved t g
+        → Brings t (λ answers r u. EndsWith db ps (listed (Manifests db) s) r u) (collect_on (advanced_goes ps g))
+    moved_brings t ps same (Stay advance) h = (h, λ answers r u e. subst (λ (found : List ObjectMetadata). EndsWith db ps found r u) same e)
+    moved_brings t ps same (End advance (Ok done)) h = picks_bring t ps same
+    moved_brings t ps same (End advance (Err e)) h = absurd h
+
+    -- ---- a delete
+
+    delete_step : (left : List ObjectMetadata) (counts : PassCounts) → Knows db s (Collecting (passing.Deleting left counts))
+        → Brings (whole (pass_asks db (passing.Deleting left counts)) moment s).store (λ answers r t. DeletesEnd db left counts (listed (Manifests db) s) r t)
+        (collect_on (pass_goes decoded_manifest options moment (passing.Deleting left counts) (whole (pass_asks db (passing.Deleting left counts)) moment s).answer))
+    delete_step [] counts h = absurd (cc (h.0))
+    delete_step (p ∷ []) counts h = record {
+      replied = refl;
+      left = delete_listed db p s fine.ordered;
     }
+    delete_step (p ∷ q ∷ ps) counts h = (
+      (refl, count_small counts.deleted),
+      λ answers r t e. record {
+        replied = e.replied ∙ ap (λ (i : ℕ). reply.Pass counts.picked i counts.failed) (more_deleted counts.deleted (length (q ∷ ps)) (length (p ∷ q ∷ ps)) (omega arith));
+        left = e.left ∙ (ap (without (q ∷ ps)) (delete_listed db p s fine.ordered) ∙ without_one p (q ∷ ps) (listed (Manifests db) s));
+      },
+    )
 
-    -- a step without a fault
-    pub alone_brings : (phase : PassPhase) (moment : ℤ) → IsNextSmall phase → AloneKnows s phase
-        → AloneBrings (effect Good (pass_asks db phase) moment s).store (pass_goes decoded_manifest options moment phase (effect Good (pass_asks db phase) moment s).answer)
-    alone_brings Listing moment small h = absurd h
-    alone_brings (Getting at n dates) moment small h =
-        let by = λ (t : Store) (m : ℤ) (ds : List Dated). AloneBrings t (got_goes decoded_manifest options m n ds (object_at (version_path ManifestLog db n) t)) in
-        let went : by s0 now (dated ManifestLog found) = got_brings n (object_at (version_path ManifestLog db n) s0) h.2 refl in
-        let of_store : by s now (dated ManifestLog found) = subst (λ (t : Store). by t now (dated ManifestLog found)) (sym h.0) went in
-        let of_moment : by s at (dated ManifestLog found) = subst (λ (m : ℤ). by s m (dated ManifestLog found)) (sym h.1) of_store in
-        subst (λ (ds : List Dated). by s at ds) (sym h.3) of_moment
-    alone_brings (Bounding n ns) moment small h =
-        subst (λ (t : Store). AloneBrings t (bounded_goes n ns (boundary_got (object_at (boundary_path ManifestLog db) t)))) (sym h.0)
-        (bound_brings n ns (boundary_got (object_at (boundary_path ManifestLog db) s0)) h.1 refl)
-    alone_brings (Advancing phase ns) moment small h =
-        let o : Outcome = effect Good (advance_asks db ManifestLog phase) moment s in
-        advanced_brings o.store ns (advance_goes phase o.answer) (advance_listed db named Good moment s tidy phase ∙ h.0) h.1
-    alone_brings (Deleting [] counts) moment small h = tt
-    alone_brings (Deleting (k ∷ rest) counts) moment small h = deletes_bring (removed (version_path ManifestLog db k) s) rest _ (one_gone k rest small h)
-    alone_brings Over moment small h = absurd h
+    -- ---- any step without a fault
+
+    pub step_brings : is_db_path db ≡ true → (phase : GcPass) → Knows db s phase
+        → Brings (whole (gc_asks db phase) moment s).store (λ answers r t. Ends phase s (((whole (gc_asks db phase) moment s).answer, moment) ∷ answers) r t)
+        (gc_goes decoded_manifest encoded options moment phase (whole (gc_asks db phase) moment s).answer)
+    step_brings named (Reading phase) h =
+        removal_brings (whole (read_asks db ManifestLog phase) moment s).store moment (read_on encoded moment (read_goes ManifestLog decoded_manifest phase (whole (read_asks db ManifestLog phase) moment s).answer))
+        (subst (λ (t : Store). Removed t (read_on encoded moment (read_goes ManifestLog decoded_manifest phase (whole (read_asks db ManifestLog phase) moment s).answer))) (read_same phase) (read_step phase h))
+      where
+        read_same : (p : ReadPhase Manifest) → s ≡ (whole (read_asks db ManifestLog p) moment s).store
+        read_same reading.Listing = refl
+        read_same (reading.Getting n) = refl
+        read_same (reading.Bounding n v) = refl
+        read_same reading.Over = refl
+    step_brings named (Committing since phase) h =
+        removal_brings (whole (commit_asks db ManifestLog phase) moment s).store moment (commit_on since (commit_goes phase (whole (commit_asks db ManifestLog phase) moment s).answer))
+        (commit_step named since phase h)
+    step_brings named (Collecting passing.Listing) h = list_step
+    step_brings named (Collecting (passing.Getting n found)) h = get_step n found h
+    step_brings named (Collecting (passing.Bounding n candidates)) h = bound_step n candidates h
+    step_brings named (Collecting (passing.Advancing advance picked)) h =
+        moved_brings (whole (advance_asks db ManifestLog advance) moment s).store picked (advance_listed db named moment s fine.tidy advance) _ (move_step advance h)
+    step_brings named (Collecting (passing.Deleting left counts)) h = delete_step left counts h
+    step_brings named (Collecting passing.Over) h = absurd h

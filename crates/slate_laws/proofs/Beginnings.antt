@@ -12,6 +12,7 @@ use Rattle.slate_ids.specs.FinePath.{IsFine}
 use Rattle.slate_ids.specs.Ids.{is_db_path}
 use Rattle.slate_ids.specs.PathText.{path_text, path_cmp}
 use Rattle.slate_ids.specs.declared.object_path.ObjectPath.{ObjectPath}
+use Rattle.slate_ids.proofs.PathsApart.{same_path}
 use Rattle.slate_log.specs.LogPaths.{version_path}
 use Rattle.slate_log.specs.declared.log_kind.LogKind.TheVariants.{Manifest as ManifestLog}
 use Rattle.slate_store.specs.Store.{Store, object_at, stored}
@@ -23,7 +24,7 @@ use Rattle.slate_protocol.specs.World.{db_cmp, tally_of}
 use Rattle.slate_protocol.specs.declared.tally.Tally.{Tally}
 use Rattle.slate_laws.proofs.Stores.{IsTidy, bytes_same, no_bytes, same_name, finds, passes_by, same_found, tidy_put, put_object, at_put, at_else}
 use Rattle.slate_laws.proofs.Maps.{name_order, insert_here, insert_else}
-use Rattle.slate_laws.proofs.Paths.{manifest_elsewhere, version_fine}
+use Rattle.slate_laws.proofs.Paths.{version_fine}
 
 -- the database of a path
 abbrev pub spec_of : List ℕ → List DbSpec → Option DbSpec
@@ -189,7 +190,7 @@ module _ (d : List ℕ) (named : is_db_path d ≡ true) where
 
   -- the path of another database's first manifest
   apart : (spec : DbSpec) → is_db_path spec.path ≡ true → d ≢ spec.path → path_text own ≢ path_text (first_path spec)
-  apart spec other ne = (manifest_elsewhere d named spec.path 1 other (omega arith) ne).version 1 (omega arith)
+  apart spec other ne = λ e. let same : own ≡ first_path spec = same_path own (first_path spec) (named, omega arith) (other, omega arith) e in ne cc
 
   pub firsts_found : (tallies : Tallies) (firsts : Firsts) (specs : List DbSpec) (all : Tallies) (objects : Firsts) → AllNamed specs → tallies_from tallies specs ≡ Some all → firsts_from firsts specs ≡ Some objects
       → (is_some (tally_of d tallies) ≡ false → last_at own firsts ≡ None) → last_at own objects ≡ first_for (spec_of d specs) (last_at own firsts)

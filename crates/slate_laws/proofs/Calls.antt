@@ -1,110 +1,209 @@
--- What a call makes of its phrase's end.
-use Rattle.std.proofs.Common.{◌≡◌, ℕ, ℤ, ◌+◌, ◌-◌, ◌<◌, ◌≤◌, ◌^◌, ◌==◌, false, Option, Some, None, Result, Ok, Err, refl, sym, ap, ◌∙◌, subst, arith}
+-- What a call makes of its work's end.
+use Rattle.std.proofs.Common.{◌≡◌, ℕ, ℤ, ◌+◌, ◌<◌, ◌≤◌, ◌^◌, ◌==◌, false, List, Option, Some, None, Result, Ok, Err, refl, sym, ap, ◌∙◌, subst, arith}
 use Rattle.std.proofs.lemmas.Bool.Decides.{nat_tests}
 use Rattle.slate_ids.specs.Limits.{last_number}
 use Rattle.slate_ids.specs.declared.error.SlateDBError.{SlateDBError}
+use Rattle.slate_layout.specs.Codec.{encoded}
+use Rattle.slate_manifest_parts.specs.Decoding.{decoded_manifest}
 use Rattle.slate_model.specs.declared.manifest.Manifest.{Manifest}
 use Rattle.slate_store.specs.Machines.{Goes, Stay, End}
 use Rattle.slate_store.specs.Store.{Store}
-use Rattle.slate_events.specs.declared.call.Call.{Call}
-use Rattle.slate_events.specs.declared.call.Call.TheVariants.{OpenWriter, Flush, WriteCheckpoint, ReplaceCheckpoint, RefreshCheckpoint, DeleteCheckpoint, Pass}
-use Rattle.slate_gc.specs.declared.pass_counts.PassCounts.{PassCounts}
-use Rattle.slate_log.specs.declared.commit_phase.CommitPhase.{CommitPhase}
-use Rattle.slate_protocol.specs.Calls.{Next, Go, Finish, new_value, right_of, fence_of, commit_of, done_next, commit_next, after_version, after_commit, after_pass, after_phrase, follow, read_next, once_open, begin}
-use Rattle.slate_protocol.specs.Chains.{link_at, top}
-use Rattle.slate_protocol.specs.Logs.{Chain, author_of, manifests}
+use Rattle.slate_store.specs.declared.store_answer.StoreAnswer.{StoreAnswer}
+use Rattle.slate_updates.specs.Changes.{made, right_of, fence_of, commit_of}
 use Rattle.slate_updates.specs.Rules.{manifest_refusal}
+use Rattle.slate_updates.specs.declared.manifest_change.ManifestChange.{ManifestChange}
+use Rattle.slate_updates.specs.declared.manifest_change.ManifestChange.TheVariants.{DropExpired}
+use Rattle.slate_log.specs.CommitPhase.{CommitGoes, commit_goes}
+use Rattle.slate_log.specs.ReadPhase.{Reply, read_goes}
+use Rattle.slate_log.specs.declared.commit_phase.CommitPhase.{CommitPhase}
+use Rattle.slate_log.specs.declared.log_kind.LogKind.TheVariants as logs
+use Rattle.slate_gc.specs.GcPass.{GcGoes, gc_goes, removal_goes}
+use Rattle.slate_gc.specs.GcPass as whole
+use Rattle.slate_gc.specs.Pass.{PassGoes, pass_goes}
+use Rattle.slate_gc.specs.declared.gc_pass.GcPass.{GcPass}
+use Rattle.slate_gc.specs.declared.gc_pass.GcPass.TheVariants.{Reading, Committing, Collecting}
+use Rattle.slate_gc.specs.declared.pass_options.PassOptions.{PassOptions}
+use Rattle.slate_events.specs.declared.call.Call.{Call}
+use Rattle.slate_events.specs.declared.call.Call.TheVariants.{OpenWriter, Pass}
+use Rattle.slate_protocol.specs.Calls.{refusal_at_start, first_work, change_of, done, facts_after, Next, Go, Finish}
+use Rattle.slate_protocol.specs.Chains.{link_at, top}
+use Rattle.slate_protocol.specs.Logs.{Chain, Chains, manifests, log_of, phrase_of}
+use Rattle.slate_protocol.specs.Rows.{Standing, begin_unless, begin, commit_for, commit_next, after, ended, follow}
+use Rattle.slate_protocol.specs.Works.{WorkGoes, db_of, read_on, commit_on, pass_on, goes}
 use Rattle.slate_protocol.specs.declared.party.Facts.{Facts}
-use Rattle.slate_protocol.specs.declared.party.Purpose.{Purpose}
-use Rattle.slate_protocol.specs.declared.party.Purpose.TheVariants.{Reading, Committing, Passing}
-use Rattle.slate_protocol.specs.declared.position.Position.{Position}
-use Rattle.slate_protocol.specs.declared.position.Ended.{Ended}
-use Rattle.slate_protocol.specs.declared.position.Ended.TheVariants.{NoVersion, Version, Committed, Passed}
+use Rattle.slate_protocol.specs.declared.work.Ended.{Ended}
+use Rattle.slate_protocol.specs.declared.work.Ended.TheVariants.{NoManifest, ManifestRead, ManifestCommitted, Passed}
+use Rattle.slate_protocol.specs.declared.work.Purpose.{Purpose}
+use Rattle.slate_protocol.specs.declared.work.Purpose.TheVariants.{Once}
+use Rattle.slate_protocol.specs.declared.work.Work.{Work}
+use Rattle.slate_protocol.specs.declared.work.Work.TheVariants as works
 use Rattle.slate_laws.proofs.Links.{link_number, at_most}
-use Rattle.slate_laws.proofs.Facts.{IsSound, IsValue, IsNext, CommitKnows}
-use Rattle.slate_laws.proofs.Manifests.{call_made}
-use Rattle.slate_laws.proofs.Steps.{PhraseKnows, EndBrings, PhraseBrings}
+use Rattle.slate_laws.proofs.Facts.{IsSound, IsValue, IsNext, ReadBrings, CommitKnows, CommitBrings}
+use Rattle.slate_laws.proofs.Facts.IsMade.{OfVersion}
+use Rattle.slate_laws.proofs.Manifests.{change_commits}
+use Rattle.slate_laws.proofs.Passes.{PassBrings}
+use Rattle.slate_laws.proofs.Steps.{author_of, PhraseKnows, PhraseBrings}
 
--- where a call is after its phrase's end: at a position of the party's database, of which it knows what its phrase says
-abbrev pub NextKnows : Store → Chain → ℕ → Facts → Call → Next → Type 0
-NextKnows s c n facts call (Go purpose position) = (position.db ≡ facts.db) × PhraseKnows s c facts.db (author_of n facts call purpose) purpose position.phrase
-NextKnows s c n facts call (Finish reply) = Unit {0}
+-- the work of a pass is that of a call that drops the expired checkpoints
+abbrev pub Fits : Call → Work → Type 0
+Fits call (works.Pass db options phase) = (facts : Facts) → change_of facts call Once ≡ DropExpired
+Fits call (works.ReadManifest purpose db phase) = Unit {0}
+Fits call (works.CommitManifest purpose now db phase) = Unit {0}
+
+-- what a party knows in its work: the database is one of the cluster
+pub record WorkKnows (Has : List ℕ → Type 0) (s : Store) (chains : Chains) (n : ℕ) (facts : Facts) (call : Call) (work : Work) : Type 0 where
+  pub has : Has (db_of work)
+  pub fits : Fits call work
+  pub knows : PhraseKnows s chains n facts call (phrase_of work)
+
+-- where a call stands: in work that it knows, or at its end
+abbrev pub NextKnows : (List ℕ → Type 0) → Store → Chains → ℕ → Facts → Call → Next → Type 0
+NextKnows Has s chains n facts call (Go work) = WorkKnows Has s chains n facts call work
+NextKnows Has s chains n facts call (Finish reply) = Unit {0}
 
 room_for : (n top : ℕ) → n ≤ top → top < 2 ^ 64 → (n == last_number) ≡ false → n + 1 < 2 ^ 64
 room_for n top le small room = grind (arith, nat_tests)
 
-module _ (s : Store) (c : Chain) (n : ℕ) (facts : Facts) (call : Call) (i : IsSound manifests facts.db s c) where
-  -- the commit of what the call makes of a committed version
-  made_next : (now : ℤ) (k : ℕ) (m : Manifest) (commit : CommitPhase Manifest) → IsValue c k m → commit_of facts call now k m ≡ Ok (Some commit) → CommitKnows manifests facts.db s c (author_of n facts call (Committing now)) commit
-  made_next now k m commit v h =
-      let made = call_made facts call now k m commit h in
-      let p = made.prepared in
+-- facts change, but for the database
+pub same_db : (facts : Facts) (call : Call) (end : Ended) → (facts_after facts call end).db ≡ facts.db
+same_db facts OpenWriter (ManifestCommitted Once db n m) = refl
+same_db facts OpenWriter (ManifestRead purpose db n m) = refl
+same_db facts OpenWriter (NoManifest purpose) = refl
+same_db facts OpenWriter (Passed counts) = refl
+same_db facts _ end = refl
+
+module _ (Has : List ℕ → Type 0) (s : Store) (chains : Chains) (n : ℕ) (call : Call) where
+  -- the commit of what a change makes of a committed version
+  made_next : (facts : Facts) (purpose : Purpose) (db : List ℕ) → IsSound manifests db s (chains logs.Manifest db) → (now : ℤ) (k : ℕ) (m : Manifest) (commit : CommitPhase Manifest) → IsValue (chains logs.Manifest db) k m
+      → commit_for facts call purpose now k m ≡ Ok (Some commit) → CommitKnows manifests db s (chains logs.Manifest db) (author_of n facts call purpose now) commit
+  made_next facts purpose db i now k m commit v h =
+      let c = chains logs.Manifest db in
+      let change = change_of facts call purpose in
+      let changed = change_commits encoded change now k m commit h in
+      let p = changed.prepared in
       let same = link_number k v.link c v.at in
       let le = at_most manifests k v.link c i.chain v.at in
-      let next : IsNext manifests c (author_of n facts call (Committing now)) (k + 1) p.bytes made.new = record {
-        old = v.link;
-        at = subst (λ j. link_at j c ≡ Some v.link) (sym same) v.at;
-        number = omega arith;
+      let next : IsNext manifests c (author_of n facts call purpose now) (k + 1) p.bytes changed.new = record {
         small = room_for k (top c) le i.small p.room;
-        made = ap (λ (j : ℕ). new_value call now j v.link.value) same ∙ (ap (new_value call now k) v.value ∙ made.makes);
         encodes = p.encodes;
-        lawful = ap (λ (j : ℕ). manifest_refusal j v.link.value made.new (right_of call)) same ∙ (ap (λ (o : Manifest). manifest_refusal k o made.new (right_of call)) v.value ∙ p.lawful);
-        passed = ap (fence_of facts call) v.value ∙ made.passed;
+        made = OfVersion v.link (subst (λ j. link_at j c ≡ Some v.link) (sym same) v.at) (omega arith)
+            (ap (λ (j : ℕ). made change now j v.link.value) same ∙ (ap (made change now k) v.value ∙ changed.makes))
+            (ap (λ (j : ℕ). manifest_refusal j v.link.value changed.new (right_of change)) same ∙ (ap (λ (o : Manifest). manifest_refusal k o changed.new (right_of change)) v.value ∙ p.lawful))
+            (ap (fence_of change) v.value ∙ changed.passed);
       } in
-      subst (λ (x : CommitPhase Manifest). CommitKnows manifests facts.db s c (author_of n facts call (Committing now)) x) (sym p.is) next
+      subst (λ (x : CommitPhase Manifest). CommitKnows manifests db s c (author_of n facts call purpose now) x) (sym p.is) next
 
   -- what follows a commit, or a read after which none is needed
-  done_reaches : (m : Manifest) (by : Call) → NextKnows s c n facts by (done_next facts by m)
-  done_reaches m OpenWriter = tt
-  done_reaches m (Flush seq tick) = tt
-  done_reaches m (WriteCheckpoint id lifetime source name) = tt
-  done_reaches m (ReplaceCheckpoint old id lifetime source name) = tt
-  done_reaches m (RefreshCheckpoint id lifetime) = tt
-  done_reaches m (DeleteCheckpoint id) = tt
-  done_reaches m (Pass pass min_age dry_run filter) = (refl, tt)
+  done_reaches : (facts : Facts) (by : Call) (purpose : Purpose) (m : Manifest) → Has facts.db → NextKnows Has s chains n facts by (done facts by purpose m)
+  done_reaches facts (Pass pass min_age dry_run filter) Once m has = record { has = has; fits = λ f. refl; knows = tt }
+  done_reaches facts _ Once m has = tt
 
-  commit_reaches : (now : ℤ) (k : ℕ) (m : Manifest) (r : Result (Option (CommitPhase Manifest)) SlateDBError) → IsValue c k m → commit_of facts call now k m ≡ r → NextKnows s c n facts call (commit_next facts call now m r)
-  commit_reaches now k m (Ok (Some commit)) v h = (refl, made_next now k m commit v h)
-  commit_reaches now k m (Ok None) v h = done_reaches m call
-  commit_reaches now k m (Err e) v h = tt
+  commit_reaches : (facts : Facts) (purpose : Purpose) (db : List ℕ) → Has facts.db → Has db → IsSound manifests db s (chains logs.Manifest db) → (now : ℤ) (k : ℕ) (m : Manifest) (r : Result (Option (CommitPhase Manifest)) SlateDBError)
+      → IsValue (chains logs.Manifest db) k m → commit_for facts call purpose now k m ≡ r → NextKnows Has s chains n facts call (commit_next facts call purpose db now m r)
+  commit_reaches facts purpose db own has i now k m (Ok (Some commit)) v h = record { has = has; fits = tt; knows = made_next facts purpose db i now k m commit v h }
+  commit_reaches facts purpose db own has i now k m (Ok None) v h = done_reaches facts call purpose m own
+  commit_reaches facts purpose db own has i now k m (Err e) v h = tt
 
-  version_reaches : (purpose : Purpose) (now : ℤ) (k : ℕ) (m : Manifest) → IsValue c k m → NextKnows s c n facts call (after_version facts call purpose now k m)
-  version_reaches Reading now k m v = commit_reaches now k m (commit_of facts call now k m) v refl
-  version_reaches (Committing made) now k m v = tt
-  version_reaches Passing now k m v = tt
+  -- what an end brings
+  abbrev EndBrings : Ended → Type 0
+  EndBrings (NoManifest purpose) = Unit {0}
+  EndBrings (ManifestRead purpose db k m) = Has db × (IsSound manifests db s (chains logs.Manifest db) × IsValue (chains logs.Manifest db) k m)
+  EndBrings (ManifestCommitted purpose db k m) = Unit {0}
+  EndBrings (Passed counts) = Unit {0}
 
-  commit_ends : (purpose : Purpose) (k : ℕ) (m : Manifest) → NextKnows s c n facts call (after_commit facts call purpose k m)
-  commit_ends Reading k m = tt
-  commit_ends (Committing made) k m = done_reaches m call
-  commit_ends Passing k m = tt
+  after_reaches : (facts : Facts) (now : ℤ) (end : Ended) → Has facts.db → EndBrings end → NextKnows Has s chains n facts call (after facts call now end)
+  after_reaches facts now (NoManifest purpose) own b = tt
+  after_reaches facts now (ManifestRead purpose db k m) own b = commit_reaches facts purpose db own b.0 b.1.0 now k m (commit_for facts call purpose now k m) b.1.1 refl
+  after_reaches facts now (ManifestCommitted purpose db k m) own b = done_reaches facts call purpose m own
+  after_reaches facts now (Passed counts) own b = tt
 
-  pass_ends : (purpose : Purpose) (counts : PassCounts) → NextKnows s c n facts call (after_pass purpose counts)
-  pass_ends Reading counts = tt
-  pass_ends (Committing made) counts = tt
-  pass_ends Passing counts = tt
+  -- where a call stands
+  abbrev pub Reaches : Standing → Type 0
+  Reaches standing = Has standing.facts.db × NextKnows Has s chains n standing.facts call standing.next
 
-  ended_reaches : (purpose : Purpose) (now : ℤ) (ended : Ended) → EndBrings c ended → NextKnows s c n facts call (after_phrase facts call purpose now ended)
-  ended_reaches purpose now NoVersion b = tt
-  ended_reaches purpose now (Version k m) b = version_reaches purpose now k m b
-  ended_reaches purpose now (Committed k m) b = commit_ends purpose k m
-  ended_reaches purpose now (Passed counts) b = pass_ends purpose counts
+  ended_reaches : (facts : Facts) (now : ℤ) (end : Ended) → Has facts.db → EndBrings end → Reaches (ended facts call now end)
+  ended_reaches facts now end own b =
+      let own' = subst Has (sym (same_db facts call end)) own in
+      (own', after_reaches (facts_after facts call end) now end own' b)
+
+  -- how work goes on
+  abbrev GoesOn : Facts → WorkGoes → Type 0
+  GoesOn facts (Stay work) = WorkKnows Has s chains n facts call work
+  GoesOn facts (End work (Ok end)) = EndBrings end
+  GoesOn facts (End work (Err e)) = Unit {0}
+
+  followed : (facts : Facts) (now : ℤ) (g : WorkGoes) → Has facts.db → GoesOn facts g → Reaches (follow facts call now g)
+  followed facts now (Stay work) own b = (own, b)
+  followed facts now (End work (Ok end)) own b = ended_reaches facts now end own b
+  followed facts now (End work (Err e)) own b = (own, tt)
+
+  module _ (facts : Facts) (db : List ℕ) (has : Has db) (i : IsSound manifests db s (chains logs.Manifest db)) where
+    read_goes_on : (purpose : Purpose) (g : Reply Manifest) → ReadBrings manifests db s (chains logs.Manifest db) g → GoesOn facts (read_on purpose db g)
+    read_goes_on purpose (Stay phase) b = record { has = has; fits = tt; knows = b }
+    read_goes_on purpose (End phase (Ok None)) b = tt
+    read_goes_on purpose (End phase (Ok (Some version))) b = (has, (i, b))
+    read_goes_on purpose (End phase (Err e)) b = tt
+
+    commit_goes_on : (purpose : Purpose) (now : ℤ) (g : CommitGoes Manifest) → CommitBrings manifests db s (chains logs.Manifest db) (author_of n facts call purpose now) g → GoesOn facts (commit_on purpose now db g)
+    commit_goes_on purpose now (Stay phase) b = record { has = has; fits = tt; knows = b }
+    commit_goes_on purpose now (End phase (Ok version)) b = tt
+    commit_goes_on purpose now (End phase (Err e)) b = tt
+
+    -- ---- a whole pass
+    module _ (options : PassOptions) (fits : (f : Facts) → change_of f call Once ≡ DropExpired) where
+      abbrev GcBrings : GcGoes → Type 0
+      GcBrings (Stay phase) = PhraseKnows s chains n facts call (phrase_of (works.Pass db options phase))
+      GcBrings (End phase r) = Unit {0}
+
+      pass_goes_on : (g : GcGoes) → GcBrings g → GoesOn facts (pass_on db options g)
+      pass_goes_on (Stay phase) b = record { has = has; fits = fits; knows = b }
+      pass_goes_on (End phase (Ok counts)) b = tt
+      pass_goes_on (End phase (Err e)) b = tt
+
+      removal_brings : (now : ℤ) (k : ℕ) (m : Manifest) (r : Result (Option (CommitPhase Manifest)) SlateDBError) → IsValue (chains logs.Manifest db) k m → commit_of encoded DropExpired now k m ≡ r → GcBrings (removal_goes now r)
+      removal_brings now k m (Ok (Some commit)) v h = made_next facts Once db i now k m commit v (ap (λ (change : ManifestChange). commit_of encoded change now k m) (fits facts) ∙ h)
+      removal_brings now k m (Ok None) v h = tt
+      removal_brings now k m (Err e) v h = tt
+
+      gc_read : (now : ℤ) (g : Reply Manifest) → ReadBrings manifests db s (chains logs.Manifest db) g → GcBrings (whole.read_on encoded now g)
+      gc_read now (Stay phase) b = b
+      gc_read now (End phase (Ok None)) b = tt
+      gc_read now (End phase (Ok (Some version))) b = removal_brings now version.0 version.1 (commit_of encoded DropExpired now version.0 version.1) b refl
+      gc_read now (End phase (Err e)) b = tt
+
+      gc_commit : (now : ℤ) (g : CommitGoes Manifest) → CommitBrings manifests db s (chains logs.Manifest db) (author_of n facts call Once now) g → GcBrings (whole.commit_on now g)
+      gc_commit now (Stay phase) b = b
+      gc_commit now (End phase (Ok version)) b = tt
+      gc_commit now (End phase (Err e)) b = tt
+
+      gc_collect : (g : PassGoes) → PassBrings s (chains logs.Manifest db) db g → GcBrings (whole.collect_on g)
+      gc_collect (Stay phase) b = b
+      gc_collect (End phase r) b = tt
+
+      gc_brings : (phase : GcPass) (now : ℤ) (answer : StoreAnswer) → PhraseBrings s chains n facts call (phrase_of (works.Pass db options phase)) now answer → GcBrings (gc_goes decoded_manifest encoded options now phase answer)
+      gc_brings (Reading phase) now answer b = gc_read now (read_goes logs.Manifest decoded_manifest phase answer) b
+      gc_brings (Committing at phase) now answer b = gc_commit at (commit_goes phase answer) b
+      gc_brings (Collecting phase) now answer b = gc_collect (pass_goes decoded_manifest options now phase answer) (b options)
+
+  work_goes_on : (facts : Facts) (work : Work) (now : ℤ) (answer : StoreAnswer) → Has (db_of work) → IsSound manifests (db_of work) s (chains logs.Manifest (db_of work)) → Fits call work → PhraseBrings s chains n facts call (phrase_of work) now answer
+      → GoesOn facts (goes work now answer)
+  work_goes_on facts (works.ReadManifest purpose db phase) now answer has i fits b = read_goes_on facts db has i purpose (read_goes logs.Manifest decoded_manifest phase answer) b
+  work_goes_on facts (works.CommitManifest purpose at db phase) now answer has i fits b = commit_goes_on facts db has i purpose at (commit_goes phase answer) b
+  work_goes_on facts (works.Pass db options phase) now answer has i fits b = pass_goes_on facts db has i options fits (gc_goes decoded_manifest encoded options now phase answer) (gc_brings facts db has i options fits phase now answer b)
 
   -- how the call goes on
-  pub follow_reaches : (purpose : Purpose) (now : ℤ) (g : Goes Position Ended) → PhraseBrings s c facts.db (author_of n facts call purpose) purpose g → NextKnows s c n facts call (follow facts call purpose now g)
-  follow_reaches purpose now (Stay position) b = b
-  follow_reaches purpose now (End position (Ok ended)) b = ended_reaches purpose now ended b
-  follow_reaches purpose now (End position (Err e)) b = tt
-
-  open_reaches : (epoch : Option ℕ) → NextKnows s c n facts call (once_open epoch (read_next facts))
-  open_reaches None = tt
-  open_reaches (Some e) = (refl, tt)
+  pub follow_reaches : (facts : Facts) (work : Work) (now : ℤ) (answer : StoreAnswer) → Has facts.db → Has (db_of work) → IsSound manifests (db_of work) s (chains logs.Manifest (db_of work)) → Fits call work
+      → PhraseBrings s chains n facts call (phrase_of work) now answer → Reaches (follow facts call now (goes work now answer))
+  follow_reaches facts work now answer own has i fits b = followed facts now (goes work now answer) own (work_goes_on facts work now answer has i fits b)
 
 -- how a call begins
-pub begin_reaches : (s : Store) (c : Chain) (n : ℕ) (facts : Facts) (call : Call) (i : IsSound manifests facts.db s c) → NextKnows s c n facts call (begin facts call)
-begin_reaches s c n facts (Flush seq tick) i = open_reaches s c n facts (Flush seq tick) i facts.epoch
-begin_reaches s c n facts OpenWriter i = (refl, tt)
-begin_reaches s c n facts (WriteCheckpoint id lifetime source name) i = (refl, tt)
-begin_reaches s c n facts (ReplaceCheckpoint old id lifetime source name) i = (refl, tt)
-begin_reaches s c n facts (RefreshCheckpoint id lifetime) i = (refl, tt)
-begin_reaches s c n facts (DeleteCheckpoint id) i = (refl, tt)
-begin_reaches s c n facts (Pass pass min_age dry_run filter) i = (refl, tt)
+first_reaches : (Has : List ℕ → Type 0) (s : Store) (chains : Chains) (n : ℕ) (facts : Facts) (call : Call) → Has facts.db → WorkKnows Has s chains n facts call (first_work facts call)
+first_reaches Has s chains n facts (Pass pass min_age dry_run filter) own = record { has = own; fits = λ f. refl; knows = tt }
+first_reaches Has s chains n facts _ own = record { has = own; fits = tt; knows = tt }
+
+pub begin_reaches : (Has : List ℕ → Type 0) (s : Store) (chains : Chains) (n : ℕ) (facts : Facts) (call : Call) → Has facts.db → NextKnows Has s chains n facts call (begin facts call).next
+begin_reaches Has s chains n facts call own = unless (refusal_at_start facts call)
+  where
+    unless : (o : Option SlateDBError) → NextKnows Has s chains n facts call (begin_unless o facts call)
+    unless (Some e) = tt
+    unless None = first_reaches Has s chains n facts call own

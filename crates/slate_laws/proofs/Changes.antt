@@ -12,43 +12,44 @@ use Rattle.slate_events.specs.declared.event.Event.TheVariants.{Open, Start, Ste
 use Rattle.slate_protocol.specs.ByRows.{party_in}
 use Rattle.slate_protocol.specs.Chains.{Changed}
 use Rattle.slate_protocol.specs.Chains.Changed.{Stays, Gets}
-use Rattle.slate_protocol.specs.Logs.{Author, Chain, Chains, author_of, chains_stepped, chains_state, chains_at, chains_after}
-use Rattle.slate_protocol.specs.Phrases.{is_due}
+use Rattle.slate_protocol.specs.Logs.{Author, Chain, Chains, phrase_of, chains_stepped, chains_state, chains_at, chains_after}
+use Rattle.slate_log.specs.declared.log_kind.LogKind.{LogKind}
+use Rattle.slate_protocol.specs.Works.{is_due}
 use Rattle.slate_protocol.specs.World.{World, party_of, HasDb}
 use Rattle.slate_protocol.specs.declared.party.Party.{Party}
 use Rattle.slate_protocol.specs.declared.party.State.{State}
 use Rattle.slate_protocol.specs.declared.party.State.TheVariants.{Resting, Busy, Halted}
 use Rattle.slate_laws.proofs.Runs.{StateKnows, Inv, log_after}
+use Rattle.slate_laws.proofs.Steps.{author_party}
 
 -- by a party of this number
 abbrev pub By : ℕ → Author → Type 0
 By n author = author.party ≡ n
 
-by_party : (n : ℕ) (author : Author) (c c' : Chain) → author.party ≡ n → Changed (λ (a : Author). a ≡ author) c c' → Changed (By n) c c'
-by_party n author c c' e (Stays same) = Stays same
-by_party n author c c' e (Gets l a is same grown) = Gets l a is (ap (λ (x : Author). x.party) same ∙ e) grown
+by_party : (k : LogKind) (n : ℕ) (author : Author) (c c' : Chain k) → author.party ≡ n → Changed (λ (a : Author). a ≡ author) c c' → Changed (By n) c c'
+by_party k n author c c' e (Stays same) = Stays same
+by_party k n author c c' e (Gets l a is same grown) = Gets l a is (ap (λ (x : Author). x.party) same ∙ e) grown
 
-step_changes : (w : World) (chains : Chains) (i : Inv w chains) (n : ℕ) (p : Party) (at : party_of n w.parties ≡ Some p) (moment : ℤ) (mark : Mark) (state : State) → StateKnows w.store chains n p.facts state → (d : List ℕ) → HasDb w d
-    → Changed (By n) (chains d) (chains_state w n p.facts state moment mark chains d)
-step_changes w chains i n p at moment mark Resting k d h = Stays refl
-step_changes w chains i n p at moment mark Halted k d h = Stays refl
-step_changes w chains i n p at moment mark (Busy call purpose position) k d h =
-    test (is_due position) (by_party n (author_of n p.facts call purpose) (chains d) (chains_stepped w n p.facts call purpose position moment mark chains d) refl (log_after w chains i n p at call purpose position k moment mark d h).changed)
+step_changes : (w : World) (chains : Chains) (i : Inv w chains) (n : ℕ) (p : Party) (at : party_of n w.parties ≡ Some p) (moment : ℤ) (mark : Mark) (state : State) → StateKnows (HasDb w) w.store chains n p.facts state → (k : LogKind) (d : List ℕ) → HasDb w d
+    → Changed (By n) (chains k d) (chains_state w n p.facts state moment mark chains k d)
+step_changes w chains i n p at moment mark Resting known k d h = Stays refl
+step_changes w chains i n p at moment mark Halted known k d h = Stays refl
+step_changes w chains i n p at moment mark (Busy task) known k d h = test (is_due task.work) (by_party k n _ (chains k d) (chains_stepped w n p.facts task moment mark chains k d) (author_party n p.facts task.call (phrase_of task.work)) (log_after w chains i n p at task known moment mark k d h).changed)
   where
-    test : (b : Bool) → Changed (By n) (chains d) (chains_stepped w n p.facts call purpose position moment mark chains d)
-        → Changed (By n) (chains d) ((if b then chains_stepped w n p.facts call purpose position moment mark chains else chains) d)
+    test : (b : Bool) → Changed (By n) (chains k d) (chains_stepped w n p.facts task moment mark chains k d)
+        → Changed (By n) (chains k d) ((if b then chains_stepped w n p.facts task moment mark chains else chains) k d)
     test true c = c
     test false c = Stays refl
 
-pub event_changes : (w : World) (chains : Chains) (e : Event) → Inv w chains → (d : List ℕ) → HasDb w d → Changed (By (party_in e)) (chains d) (chains_after w e chains d)
-event_changes w chains (Open n kind db) i d h = Stays refl
-event_changes w chains (Start n call) i d h = Stays refl
-event_changes w chains (Stop n) i d h = Stays refl
-event_changes w chains (Step n moment mark) i d h = went (party_of n w.parties) refl
+pub event_changes : (w : World) (chains : Chains) (e : Event) → Inv w chains → (k : LogKind) (d : List ℕ) → HasDb w d → Changed (By (party_in e)) (chains k d) (chains_after w e chains k d)
+event_changes w chains (Open n kind db) i k d h = Stays refl
+event_changes w chains (Start n call) i k d h = Stays refl
+event_changes w chains (Stop n) i k d h = Stays refl
+event_changes w chains (Step n moment mark) i k d h = went (party_of n w.parties) refl
   where
-    went : (o : Option Party) → party_of n w.parties ≡ o → Changed (By n) (chains d) (chains_at w n o moment mark chains d)
+    went : (o : Option Party) → party_of n w.parties ≡ o → Changed (By n) (chains k d) (chains_at w n o moment mark chains k d)
     went None at = Stays refl
-    went (Some p) at = step_changes w chains i n p at moment mark p.state (i.parties n p at).knows d h
+    went (Some p) at = step_changes w chains i n p at moment mark p.state (i.parties n p at).knows k d h
 
 -- a put at a path that is taken changes nothing, whatever its mark
 pub taken_path : (path : ObjectPath) (bytes : List ℕ) (moment : ℤ) (mark : Mark) (s : Store) → stands_at path s ≡ true → (effect mark (PutNew path bytes) moment s).store ≡ s

@@ -1,8 +1,10 @@
 -- In a call under way a store call is due.
-use Rattle.std.proofs.Common.{◌≡◌, ℕ, ℤ, ◌==◌, nat_le, Bool, true, false, List, [], ◌∷◌, Option, Some, None, Result, Ok, Err, refl, ap}
+use Rattle.std.proofs.Common.{◌≡◌, ℕ, ℤ, ◌+◌, ◌==◌, nat_le, Bool, true, false, List, [], ◌∷◌, Option, Some, None, Result, Ok, Err, refl}
 use Rattle.std.specs.Prelude.{if◌then◌else◌}
+use Rattle.slate_ids.specs.Limits.{last_number}
 use Rattle.slate_ids.specs.declared.error.SlateDBError.{SlateDBError}
-use Rattle.slate_ids.specs.declared.error.SlateDBError.TheVariants.{TransactionalObjectVersionExists, ManifestMissing}
+use Rattle.slate_ids.specs.declared.error.SlateDBError.TheVariants.{TransactionalObjectVersionExists, ManifestMissing, Exhausted}
+use Rattle.slate_layout.specs.Codec.{encoded}
 use Rattle.slate_manifest_parts.specs.Decoding.{decoded_manifest}
 use Rattle.slate_model.specs.declared.manifest.Manifest.{Manifest}
 use Rattle.slate_store.specs.Machines.{Goes, Stay, End}
@@ -11,36 +13,46 @@ use Rattle.slate_store.specs.declared.object.StoredObject.{StoredObject}
 use Rattle.slate_store.specs.declared.store_answer.StoreAnswer.{StoreAnswer}
 use Rattle.slate_store.specs.declared.store_answer.StoreAnswer.TheVariants.{Found, Got, Created, Replaced, Deleted, Fault}
 use Rattle.slate_events.specs.declared.call.Call.{Call}
-use Rattle.slate_events.specs.declared.call.Call.TheVariants.{OpenWriter, Flush, WriteCheckpoint, ReplaceCheckpoint, RefreshCheckpoint, DeleteCheckpoint, Pass}
+use Rattle.slate_events.specs.declared.call.Call.TheVariants.{Flush, Pass}
 use Rattle.slate_log.specs.AdvancePhase.{AdvanceGoes, advance_goes, advance_due, read_goes_to, bound_goes, written_goes}
+use Rattle.slate_log.specs.Boundary.{boundary_of, boundary_got, greatest}
+use Rattle.slate_log.specs.Change.{wanted, some_commit}
+use Rattle.slate_log.specs.CommitPhase.{commit_goes, commit_due, created_goes, bounded_goes, prepared, checked_commit, encoded_commit}
+use Rattle.slate_log.specs.Fence.{unless}
+use Rattle.slate_log.specs.ReadPhase.{read_goes, read_due, listed_goes, got_goes, decoded_goes, boundary_goes}
 use Rattle.slate_log.specs.declared.advance_phase.AdvancePhase.{AdvancePhase}
 use Rattle.slate_log.specs.declared.advance_phase.AdvancePhase.TheVariants as advancing
-use Rattle.slate_log.specs.Boundary.{boundary_of, boundary_got, greatest}
-use Rattle.slate_log.specs.CommitPhase.{commit_goes, commit_due, created_goes, bounded_goes}
-use Rattle.slate_log.specs.ReadPhase.{read_goes, read_due, listed_goes, got_goes, decoded_goes, boundary_goes}
-use Rattle.slate_gc.specs.Pass as gc
-use Rattle.slate_gc.specs.Pass.{PassGoes, pass_goes, pass_due}
-use Rattle.slate_gc.specs.Picks.{Dated, greatest_number, picks}
-use Rattle.slate_gc.specs.declared.pass_counts.PassCounts.{PassCounts}
-use Rattle.slate_gc.specs.declared.pass_options.PassOptions.{PassOptions}
-use Rattle.slate_gc.specs.declared.pass_phase.PassPhase.{PassPhase}
-use Rattle.slate_gc.specs.declared.pass_phase.PassPhase.TheVariants as passing
 use Rattle.slate_log.specs.declared.commit_phase.CommitPhase.{CommitPhase}
 use Rattle.slate_log.specs.declared.commit_phase.CommitPhase.TheVariants as committing
 use Rattle.slate_log.specs.declared.log_kind.LogKind.TheVariants.{Manifest as ManifestLog}
 use Rattle.slate_log.specs.declared.read_phase.ReadPhase.{ReadPhase}
 use Rattle.slate_log.specs.declared.read_phase.ReadPhase.TheVariants as reading
-use Rattle.slate_protocol.specs.Calls.{Next, Go, Finish, commit_of, done_next, commit_next, after_phrase, follow, read_next, once_open, begin}
-use Rattle.slate_protocol.specs.Phrases.{goes, is_due, phrase_goes, read_on, commit_on, pass_on}
+use Rattle.slate_log.specs.declared.right.Right.{Right}
+use Rattle.slate_updates.specs.Changes.{made, right_of, fence_of, commit_of}
+use Rattle.slate_updates.specs.Rules.{manifest_refusal}
+use Rattle.slate_updates.specs.declared.manifest_change.ManifestChange.{ManifestChange}
+use Rattle.slate_updates.specs.declared.manifest_change.ManifestChange.TheVariants.{DropExpired}
+use Rattle.slate_gc.specs.GcPass as whole
+use Rattle.slate_gc.specs.GcPass.{GcGoes, gc_goes, gc_due}
+use Rattle.slate_gc.specs.Pass as gc
+use Rattle.slate_gc.specs.Pass.{PassGoes, pass_goes, pass_due}
+use Rattle.slate_gc.specs.Picks.{picks}
+use Rattle.slate_gc.specs.declared.gc_pass.GcPass.{GcPass}
+use Rattle.slate_gc.specs.declared.gc_pass.GcPass.TheVariants as removing
+use Rattle.slate_gc.specs.declared.pass_counts.PassCounts.{PassCounts}
+use Rattle.slate_gc.specs.declared.pass_options.PassOptions.{PassOptions}
+use Rattle.slate_gc.specs.declared.pass_phase.PassPhase.{PassPhase}
+use Rattle.slate_gc.specs.declared.pass_phase.PassPhase.TheVariants as passing
+use Rattle.slate_protocol.specs.Calls.{unless_open, change_of, done, facts_after, Next, Go, Finish}
+use Rattle.slate_protocol.specs.Rows.{commit_for, commit_next, after, follow, begin_unless, begin}
+use Rattle.slate_protocol.specs.Works.{WorkGoes, goes, is_due, read_on, commit_on, pass_on}
 use Rattle.slate_protocol.specs.declared.party.Facts.{Facts}
-use Rattle.slate_protocol.specs.declared.party.Purpose.{Purpose}
-use Rattle.slate_protocol.specs.declared.party.Purpose.TheVariants.{Reading, Committing, Passing}
-use Rattle.slate_protocol.specs.declared.position.Ended.{Ended}
-use Rattle.slate_protocol.specs.declared.position.Ended.TheVariants.{NoVersion, Version, Committed, Passed}
-use Rattle.slate_protocol.specs.declared.position.Phrase.{Phrase}
-use Rattle.slate_protocol.specs.declared.position.Phrase.TheVariants.{Read, Commit, Pass}
-use Rattle.slate_protocol.specs.declared.position.Position.{Position}
-use Rattle.slate_laws.proofs.Manifests.{call_made}
+use Rattle.slate_protocol.specs.declared.work.Ended.{Ended}
+use Rattle.slate_protocol.specs.declared.work.Ended.TheVariants.{NoManifest, ManifestRead, ManifestCommitted, Passed}
+use Rattle.slate_protocol.specs.declared.work.Purpose.{Purpose}
+use Rattle.slate_protocol.specs.declared.work.Purpose.TheVariants.{Once}
+use Rattle.slate_protocol.specs.declared.work.Work.{Work}
+use Rattle.slate_protocol.specs.declared.work.Work.TheVariants as work
 
 -- where a machine stays, a call is due
 abbrev DueAt : {P R : Type 0} → (P → Bool) → Goes P R → Type 0
@@ -96,6 +108,39 @@ commits_due (committing.Putting n bytes m) (Created tag) = created_due n m tag
 commits_due (committing.Bounding n m) (Got o) = bounded_due n m (boundary_got o)
 commits_due _ _ = tt
 
+-- ---- a commit that is made begins with its put
+
+-- where a commit is made, a call is due
+abbrev DueCommit : Result (Option (CommitPhase Manifest)) SlateDBError → Type 0
+DueCommit (Ok (Some commit)) = commit_due commit ≡ true
+DueCommit (Ok None) = Unit {0}
+DueCommit (Err e) = Unit {0}
+
+module _ (n : ℕ) (old new : Manifest) (right : Right) where
+  bytes_due : (r : Result (List ℕ) SlateDBError) → DueCommit (some_commit (encoded_commit (n + 1) new r))
+  bytes_due (Ok bytes) = refl
+  bytes_due (Err e) = tt
+
+  rules_due : (o : Option SlateDBError) → DueCommit (some_commit (checked_commit o (n + 1) new (encoded new)))
+  rules_due (Some e) = tt
+  rules_due None = bytes_due (encoded new)
+
+  prepared_due : (b : Bool) → DueCommit (some_commit (if b then Err (Exhausted n) else checked_commit (manifest_refusal n old new right) (n + 1) new (encoded new)))
+  prepared_due true = tt
+  prepared_due false = rules_due (manifest_refusal n old new right)
+
+wanted_due : (n : ℕ) (old : Manifest) (right : Right) (r : Result (Option Manifest) SlateDBError) → DueCommit (wanted (λ (new : Manifest). prepared manifest_refusal encoded n old new right) r)
+wanted_due n old right (Ok (Some new)) = prepared_due n old new right (n == last_number)
+wanted_due n old right (Ok None) = tt
+wanted_due n old right (Err e) = tt
+
+unfenced_due : (o : Option SlateDBError) (r : Result (Option (CommitPhase Manifest)) SlateDBError) → DueCommit r → DueCommit (unless o r)
+unfenced_due (Some e) r h = tt
+unfenced_due None r h = h
+
+made_due : (change : ManifestChange) (now : ℤ) (n : ℕ) (m : Manifest) → DueCommit (commit_of encoded change now n m)
+made_due change now n m = unfenced_due (fence_of change m) _ (wanted_due n m (right_of change) (made change now n m))
+
 -- ---- passes
 
 abbrev AdvanceAt : AdvanceGoes → Type 0
@@ -130,132 +175,150 @@ advances_due _ _ = tt
 abbrev PassAt : PassGoes → Type 0
 PassAt g = DueAt pass_due g
 
-pass_listed_due : (now : ℤ) (found : List ObjectMetadata) (n : Option ℕ) → PassAt (gc.listed_goes now found n)
-pass_listed_due now found None = tt
-pass_listed_due now found (Some n) = refl
+pass_listed_due : (min_age : ℕ) (now : ℤ) (found : List ObjectMetadata) (n : Option ℕ) → PassAt (gc.listed_goes min_age now found n)
+pass_listed_due min_age now found None = tt
+pass_listed_due min_age now found (Some n) = refl
 
-pass_list_due : (now : ℤ) (answer : StoreAnswer) → PassAt (gc.list_goes now answer)
-pass_list_due now (Found found) = pass_listed_due now found (greatest ManifestLog found)
-pass_list_due now _ = tt
+pass_list_due : (min_age : ℕ) (now : ℤ) (answer : StoreAnswer) → PassAt (gc.list_goes min_age now answer)
+pass_list_due min_age now (Found found) = pass_listed_due min_age now found (greatest ManifestLog found)
+pass_list_due min_age now _ = tt
 
-pass_decoded_due : (options : PassOptions) (now : ℤ) (n : ℕ) (dates : List Dated) (r : Result Manifest SlateDBError) → PassAt (gc.decoded_goes n (gc.candidates_by options now n dates r))
-pass_decoded_due options now n dates (Ok m) = refl
-pass_decoded_due options now n dates (Err e) = tt
+pass_decoded_due : (n : ℕ) (found : List ObjectMetadata) (r : Result Manifest SlateDBError) → PassAt (gc.decoded_goes n found r)
+pass_decoded_due n found (Ok m) = refl
+pass_decoded_due n found (Err e) = tt
 
-pass_get_due : (options : PassOptions) (now : ℤ) (n : ℕ) (dates : List Dated) (answer : StoreAnswer) → PassAt (gc.get_goes decoded_manifest options now n dates answer)
-pass_get_due options now n dates (Got None) = tt
-pass_get_due options now n dates (Got (Some object)) = pass_decoded_due options now n dates (decoded_manifest object.bytes)
-pass_get_due options now n dates _ = tt
+pass_get_due : (n : ℕ) (found : List ObjectMetadata) (answer : StoreAnswer) → PassAt (gc.get_goes decoded_manifest n found answer)
+pass_get_due n found (Got None) = tt
+pass_get_due n found (Got (Some object)) = pass_decoded_due n found (decoded_manifest object.bytes)
+pass_get_due n found _ = tt
 
-next_due : (ns : List ℕ) (k : Option ℕ) → PassAt (gc.moves_to ns k)
-next_due ns None = tt
-next_due ns (Some k) = refl
+next_due : (picked : List ObjectMetadata) (k : Option ℕ) → PassAt (gc.moves_to picked k)
+next_due picked None = tt
+next_due picked (Some k) = refl
 
-pass_above_due : (n : ℕ) (ns : List ℕ) (b : Bool) → PassAt (if b then End passing.Over (Err (ManifestMissing n)) else gc.bounded_next ns)
-pass_above_due n ns true = tt
-pass_above_due n ns false = next_due ns (greatest_number ns)
+pass_above_due : (options : PassOptions) (n : ℕ) (found : List ObjectMetadata) (b : Bool) → PassAt (if b then End passing.Over (Err (ManifestMissing n)) else gc.bounded_next options found)
+pass_above_due options n found true = tt
+pass_above_due options n found false = next_due (picks options found) (greatest ManifestLog found)
 
-pass_bounded_due : (n : ℕ) (ns : List ℕ) (b : Option ℕ) → PassAt (gc.bounded_goes n ns b)
-pass_bounded_due n ns None = tt
-pass_bounded_due n ns (Some b) = pass_above_due n ns (nat_le n b)
+pass_bounded_due : (options : PassOptions) (n : ℕ) (found : List ObjectMetadata) (b : Option ℕ) → PassAt (gc.bounded_goes options n found b)
+pass_bounded_due options n found None = tt
+pass_bounded_due options n found (Some b) = pass_above_due options n found (nat_le n b)
 
-pass_bound_due : (n : ℕ) (ns : List ℕ) (answer : StoreAnswer) → PassAt (gc.bound_goes n ns answer)
-pass_bound_due n ns (Got o) = pass_bounded_due n ns (boundary_got o)
-pass_bound_due n ns _ = tt
+pass_bound_due : (options : PassOptions) (n : ℕ) (found : List ObjectMetadata) (answer : StoreAnswer) → PassAt (gc.bound_goes options n found answer)
+pass_bound_due options n found (Got o) = pass_bounded_due options n found (boundary_got o)
+pass_bound_due options n found _ = tt
 
-left_due : (ns : List ℕ) (counts : PassCounts) → PassAt (gc.deletes_next ns counts)
+left_due : (left : List ObjectMetadata) (counts : PassCounts) → PassAt (gc.deletes_next left counts)
 left_due [] counts = tt
-left_due (n ∷ ns) counts = refl
+left_due (m ∷ left) counts = refl
 
-pass_advanced_due : (options : PassOptions) (ns : List ℕ) (g : AdvanceGoes) → AdvanceAt g → PassAt (gc.advanced_goes options ns g)
-pass_advanced_due options ns (Stay phase) h = h
-pass_advanced_due options ns (End phase (Ok u)) h = left_due (picks options ns) _
-pass_advanced_due options ns (End phase (Err e)) h = tt
+pass_advanced_due : (picked : List ObjectMetadata) (g : AdvanceGoes) → AdvanceAt g → PassAt (gc.advanced_goes picked g)
+pass_advanced_due picked (Stay phase) h = h
+pass_advanced_due picked (End phase (Ok u)) h = left_due picked _
+pass_advanced_due picked (End phase (Err e)) h = tt
 
-deletes_due : (ns : List ℕ) (counts : PassCounts) (answer : StoreAnswer) → PassAt (gc.delete_goes ns counts answer)
+deletes_due : (left : List ObjectMetadata) (counts : PassCounts) (answer : StoreAnswer) → PassAt (gc.delete_goes left counts answer)
 deletes_due [] counts answer = tt
-deletes_due (n ∷ ns) counts Deleted = left_due ns _
-deletes_due (n ∷ ns) counts Fault = left_due ns _
-deletes_due (n ∷ ns) counts _ = tt
+deletes_due (m ∷ left) counts Deleted = left_due left _
+deletes_due (m ∷ left) counts Fault = left_due left _
+deletes_due (m ∷ left) counts _ = tt
 
 passes_due : (options : PassOptions) (now : ℤ) (phase : PassPhase) (answer : StoreAnswer) → PassAt (pass_goes decoded_manifest options now phase answer)
-passes_due options now passing.Listing answer = pass_list_due now answer
-passes_due options now (passing.Getting at n dates) answer = pass_get_due options at n dates answer
-passes_due options now (passing.Bounding n ns) answer = pass_bound_due n ns answer
-passes_due options now (passing.Advancing phase ns) answer = pass_advanced_due options ns (advance_goes phase answer) (advances_due phase answer)
-passes_due options now (passing.Deleting ns counts) answer = deletes_due ns counts answer
+passes_due options now passing.Listing answer = pass_list_due options.min_age now answer
+passes_due options now (passing.Getting n found) answer = pass_get_due n found answer
+passes_due options now (passing.Bounding n found) answer = pass_bound_due options n found answer
+passes_due options now (passing.Advancing phase picked) answer = pass_advanced_due picked (advance_goes phase answer) (advances_due phase answer)
+passes_due options now (passing.Deleting left counts) answer = deletes_due left counts answer
 passes_due options now passing.Over answer = tt
+
+-- ---- whole passes
+
+abbrev GcAt : GcGoes → Type 0
+GcAt g = DueAt gc_due g
+
+removal_due : (now : ℤ) (r : Result (Option (CommitPhase Manifest)) SlateDBError) → DueCommit r → GcAt (whole.removal_goes now r)
+removal_due now (Ok (Some commit)) h = h
+removal_due now (Ok None) h = refl
+removal_due now (Err e) h = tt
+
+gc_read_due : (now : ℤ) (g : Goes (ReadPhase Manifest) (Option (ℕ × Manifest))) → ReadAt g → GcAt (whole.read_on encoded now g)
+gc_read_due now (Stay phase) h = h
+gc_read_due now (End phase (Ok None)) h = tt
+gc_read_due now (End phase (Ok (Some version))) h = removal_due now _ (made_due DropExpired now version.0 version.1)
+gc_read_due now (End phase (Err e)) h = tt
+
+gc_commit_due : (now : ℤ) (g : Goes (CommitPhase Manifest) (ℕ × Manifest)) → CommitAt g → GcAt (whole.commit_on now g)
+gc_commit_due now (Stay phase) h = h
+gc_commit_due now (End phase (Ok version)) h = refl
+gc_commit_due now (End phase (Err e)) h = tt
+
+gc_collect_due : (g : PassGoes) → PassAt g → GcAt (whole.collect_on g)
+gc_collect_due (Stay phase) h = h
+gc_collect_due (End phase r) h = tt
+
+collects_due : (options : PassOptions) (now : ℤ) (phase : GcPass) (answer : StoreAnswer) → GcAt (gc_goes decoded_manifest encoded options now phase answer)
+collects_due options now (removing.Reading phase) answer = gc_read_due now (read_goes ManifestLog decoded_manifest phase answer) (reads_due phase answer)
+collects_due options now (removing.Committing at phase) answer = gc_commit_due at (commit_goes phase answer) (commits_due phase answer)
+collects_due options now (removing.Collecting phase) answer = gc_collect_due (pass_goes decoded_manifest options now phase answer) (passes_due options now phase answer)
 
 -- ---- calls
 
-abbrev PositionAt : Goes Position Ended → Type 0
-PositionAt g = DueAt is_due g
+abbrev WorkAt : WorkGoes → Type 0
+WorkAt g = DueAt is_due g
 
-read_around : (db : List ℕ) (g : Goes (ReadPhase Manifest) (Option (ℕ × Manifest))) → ReadAt g → PositionAt (read_on db g)
-read_around db (Stay phase) h = h
-read_around db (End phase r) h = tt
+read_around : (purpose : Purpose) (db : List ℕ) (g : Goes (ReadPhase Manifest) (Option (ℕ × Manifest))) → ReadAt g → WorkAt (read_on purpose db g)
+read_around purpose db (Stay phase) h = h
+read_around purpose db (End phase (Ok None)) h = tt
+read_around purpose db (End phase (Ok (Some version))) h = tt
+read_around purpose db (End phase (Err e)) h = tt
 
-commit_around : (db : List ℕ) (g : Goes (CommitPhase Manifest) (ℕ × Manifest)) → CommitAt g → PositionAt (commit_on db g)
-commit_around db (Stay phase) h = h
-commit_around db (End phase r) h = tt
+commit_around : (purpose : Purpose) (now : ℤ) (db : List ℕ) (g : Goes (CommitPhase Manifest) (ℕ × Manifest)) → CommitAt g → WorkAt (commit_on purpose now db g)
+commit_around purpose now db (Stay phase) h = h
+commit_around purpose now db (End phase (Ok version)) h = tt
+commit_around purpose now db (End phase (Err e)) h = tt
 
-pass_around : (db : List ℕ) (options : PassOptions) (g : PassGoes) → PassAt g → PositionAt (pass_on db options g)
+pass_around : (db : List ℕ) (options : PassOptions) (g : GcGoes) → GcAt g → WorkAt (pass_on db options g)
 pass_around db options (Stay phase) h = h
-pass_around db options (End phase r) h = tt
+pass_around db options (End phase (Ok counts)) h = tt
+pass_around db options (End phase (Err e)) h = tt
 
-phrase_at : (db : List ℕ) (phrase : Phrase) (now : ℤ) (answer : StoreAnswer) → PositionAt (phrase_goes db phrase now answer)
-phrase_at db (Read phase) now answer = read_around db (read_goes ManifestLog decoded_manifest phase answer) (reads_due phase answer)
-phrase_at db (Commit phase) now answer = commit_around db (commit_goes phase answer) (commits_due phase answer)
-phrase_at db (Pass options phase) now answer = pass_around db options (pass_goes decoded_manifest options now phase answer) (passes_due options now phase answer)
+work_due : (at : Work) (now : ℤ) (answer : StoreAnswer) → WorkAt (goes at now answer)
+work_due (work.ReadManifest purpose db phase) now answer = read_around purpose db (read_goes ManifestLog decoded_manifest phase answer) (reads_due phase answer)
+work_due (work.CommitManifest purpose made db phase) now answer = commit_around purpose made db (commit_goes phase answer) (commits_due phase answer)
+work_due (work.Pass db options phase) now answer = pass_around db options (gc_goes decoded_manifest encoded options now phase answer) (collects_due options now phase answer)
 
 -- where a call goes on, a store call is due
 abbrev pub DueNext : Next → Type 0
-DueNext (Go purpose position) = is_due position ≡ true
+DueNext (Go at) = is_due at ≡ true
 DueNext (Finish reply) = Unit {0}
 
-done_due : (facts : Facts) (m : Manifest) (call : Call) → DueNext (done_next facts call m)
-done_due facts m OpenWriter = tt
-done_due facts m (Flush seq tick) = tt
-done_due facts m (WriteCheckpoint id lifetime source name) = tt
-done_due facts m (ReplaceCheckpoint old id lifetime source name) = tt
-done_due facts m (RefreshCheckpoint id lifetime) = tt
-done_due facts m (DeleteCheckpoint id) = tt
-done_due facts m (Pass pass min_age dry_run filter) = refl
+done_due : (facts : Facts) (m : Manifest) (call : Call) (purpose : Purpose) → DueNext (done facts call purpose m)
+done_due facts m (Pass pass min_age dry_run filter) Once = refl
+done_due facts m _ Once = tt
 
-commit_at : (facts : Facts) (call : Call) (now : ℤ) (n : ℕ) (m : Manifest) (r : Result (Option (CommitPhase Manifest)) SlateDBError) → commit_of facts call now n m ≡ r → DueNext (commit_next facts call now m r)
-commit_at facts call now n m (Ok (Some commit)) h = ap (λ (c : CommitPhase Manifest). commit_due c) (call_made facts call now n m commit h).prepared.is
-commit_at facts call now n m (Ok None) h = done_due facts m call
-commit_at facts call now n m (Err e) h = tt
+commit_at : (facts : Facts) (call : Call) (purpose : Purpose) (db : List ℕ) (now : ℤ) (m : Manifest) (r : Result (Option (CommitPhase Manifest)) SlateDBError) → DueCommit r → DueNext (commit_next facts call purpose db now m r)
+commit_at facts call purpose db now m (Ok (Some commit)) h = h
+commit_at facts call purpose db now m (Ok None) h = done_due facts m call purpose
+commit_at facts call purpose db now m (Err e) h = tt
 
-phrase_next : (facts : Facts) (call : Call) (purpose : Purpose) (now : ℤ) (ended : Ended) → DueNext (after_phrase facts call purpose now ended)
-phrase_next facts call purpose now NoVersion = tt
-phrase_next facts call Reading now (Version n m) = commit_at facts call now n m (commit_of facts call now n m) refl
-phrase_next facts call (Committing made) now (Version n m) = tt
-phrase_next facts call Passing now (Version n m) = tt
-phrase_next facts call Reading now (Committed n m) = tt
-phrase_next facts call (Committing made) now (Committed n m) = done_due facts m call
-phrase_next facts call Passing now (Committed n m) = tt
-phrase_next facts call Reading now (Passed counts) = tt
-phrase_next facts call (Committing made) now (Passed counts) = tt
-phrase_next facts call Passing now (Passed counts) = tt
+after_due : (facts : Facts) (call : Call) (now : ℤ) (end : Ended) → DueNext (after facts call now end)
+after_due facts call now (NoManifest purpose) = tt
+after_due facts call now (ManifestRead purpose db n m) = commit_at facts call purpose db now m (commit_for facts call purpose now n m) (made_due (change_of facts call purpose) now n m)
+after_due facts call now (ManifestCommitted purpose db n m) = done_due facts m call purpose
+after_due facts call now (Passed counts) = tt
 
-follow_at : (facts : Facts) (call : Call) (purpose : Purpose) (now : ℤ) (g : Goes Position Ended) → PositionAt g → DueNext (follow facts call purpose now g)
-follow_at facts call purpose now (Stay position) h = h
-follow_at facts call purpose now (End position (Ok ended)) h = phrase_next facts call purpose now ended
-follow_at facts call purpose now (End position (Err e)) h = tt
+follow_at : (facts : Facts) (call : Call) (now : ℤ) (g : WorkGoes) → WorkAt g → DueNext (follow facts call now g).next
+follow_at facts call now (Stay at) h = h
+follow_at facts call now (End at (Ok end)) h = after_due (facts_after facts call end) call now end
+follow_at facts call now (End at (Err e)) h = tt
 
-pub follow_due : (facts : Facts) (call : Call) (purpose : Purpose) (now : ℤ) (position : Position) (answer : StoreAnswer) → DueNext (follow facts call purpose now (goes position now answer))
-follow_due facts call purpose now position answer = follow_at facts call purpose now (goes position now answer) (phrase_at position.db position.phrase now answer)
+pub follow_due : (facts : Facts) (call : Call) (now : ℤ) (at : Work) (answer : StoreAnswer) → DueNext (follow facts call now (goes at now answer)).next
+follow_due facts call now at answer = follow_at facts call now (goes at now answer) (work_due at now answer)
 
-open_due : (facts : Facts) (epoch : Option ℕ) → DueNext (once_open epoch (read_next facts))
-open_due facts None = tt
-open_due facts (Some e) = refl
+open_due : (facts : Facts) (seq : ℕ) (tick : ℤ) (epoch : Option ℕ) → DueNext (begin_unless (unless_open epoch) facts (Flush seq tick))
+open_due facts seq tick None = tt
+open_due facts seq tick (Some e) = refl
 
-pub begin_due : (facts : Facts) (call : Call) → DueNext (begin facts call)
-begin_due facts (Flush seq tick) = open_due facts facts.epoch
-begin_due facts OpenWriter = refl
-begin_due facts (WriteCheckpoint id lifetime source name) = refl
-begin_due facts (ReplaceCheckpoint old id lifetime source name) = refl
-begin_due facts (RefreshCheckpoint id lifetime) = refl
-begin_due facts (DeleteCheckpoint id) = refl
-begin_due facts (Pass pass min_age dry_run filter) = refl
+pub begin_due : (facts : Facts) (call : Call) → DueNext (begin facts call).next
+begin_due facts (Flush seq tick) = open_due facts seq tick facts.epoch
+begin_due facts _ = refl

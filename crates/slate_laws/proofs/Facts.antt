@@ -20,6 +20,7 @@ pub record IsLog {V A : Type 0} (log : Log V A) : Type 0 where
   pub round : (v : V) (bytes : List ℕ) → log.encoded v ≡ Ok bytes → log.decoded bytes ≡ Ok (log.normal v)
   pub plain : (n : ℕ) (old v : V) (right : Right) → log.refusal n old v right ≡ None → log.refusal n old (log.normal v) right ≡ None
   pub known : (n : ℕ) (old v : V) (right : Right) (k : ℕ) → log.refusal n old v right ≡ None → log.names v k ≡ true → (k ≡ n + 1) ⊎ (log.names old k ≡ true)
+  pub first : (author : A) (v : V) (k : ℕ) → log.first author ≡ Ok (Some v) → log.names (log.normal v) k ≡ true → k ≡ 1
 
 -- a version that stands with its committed bytes
 pub record IsCommitted {V A : Type 0} (log : Log V A) (db : List ℕ) (s : Store) (c : List (Link V A)) (k : ℕ) : Type 0 where
@@ -27,14 +28,13 @@ pub record IsCommitted {V A : Type 0} (log : Log V A) (db : List ℕ) (s : Store
   pub at : link_at k c ≡ Some link
   pub stands : bytes_of (object_at (version_path log.kind db k) s) ≡ Some link.bytes
 
--- what holds of a log at each moment
+-- what holds of a log at each moment; it may have no version yet
 pub record IsSound {V A : Type 0} (log : Log V A) (db : List ℕ) (s : Store) (c : List (Link V A)) : Type 0 where
   pub chain : IsChain log c
-  pub some : 0 < top c
   pub small : top c < 2 ^ 64
   pub bound : ℕ
   pub read : bound_in log db s ≡ Some bound
-  pub below : bound < top c
+  pub below : 0 < bound → bound < top c
   pub above : (k : ℕ) → bound < k → k < 2 ^ 64 → AgreesAt log db s c k
   pub needed : (k : ℕ) → IsNeeded log c k → IsCommitted log db s c k
   pub tagged : (o : StoredObject) → object_at (boundary_path log.kind db) s ≡ Some o → o.e_tag ≤ s.last_tag
@@ -49,16 +49,17 @@ pub record IsValue {V A : Type 0} (c : List (Link V A)) (n : ℕ) (v : V) : Type
 pub record Holds {V A : Type 0} (log : Log V A) (db : List ℕ) (s : Store) (c : List (Link V A)) (n : ℕ) (v : V) : Type 0 where
   pub same : (b : ℕ) → bound_in log db s ≡ Some b → b < n → IsValue c n v
 
--- what an author puts at a number follows lawfully from the committed value before it
+-- what an author made: of the committed version before, which follows lawfully; or of none, at the first number
+pub data IsMade {V A : Type 0} (log : Log V A) (c : List (Link V A)) (author : A) (n : ℕ) (v : V) : Type 0 where
+  OfVersion : (old : Link V A) → link_at old.number c ≡ Some old → n ≡ old.number + 1 → log.makes author old.number old.value ≡ Ok (Some v) → log.refusal old.number old.value v (log.right author) ≡ None → log.fence author old.value ≡ None
+      → IsMade log c author n v
+  OfNone : n ≡ 1 → log.first author ≡ Ok (Some v) → IsMade log c author n v
+
+-- what an author puts at a number
 pub record IsNext {V A : Type 0} (log : Log V A) (c : List (Link V A)) (author : A) (n : ℕ) (bytes : List ℕ) (v : V) : Type 0 where
-  pub old : Link V A
-  pub at : link_at old.number c ≡ Some old
-  pub number : n ≡ old.number + 1
   pub small : n < 2 ^ 64
-  pub made : log.makes author old.number old.value ≡ Ok (Some v)
   pub encodes : log.encoded v ≡ Ok bytes
-  pub lawful : log.refusal old.number old.value v (log.right author) ≡ None
-  pub passed : log.fence author old.value ≡ None
+  pub made : IsMade log c author n v
 
 -- what a reader knows
 abbrev pub ReadKnows : {V A : Type 0} → Log V A → List ℕ → Store → List (Link V A) → ReadPhase V → Type 0

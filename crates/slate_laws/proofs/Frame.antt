@@ -8,7 +8,8 @@ use Rattle.slate_log.specs.declared.commit_phase.CommitPhase.TheVariants as comm
 use Rattle.slate_log.specs.declared.read_phase.ReadPhase.{ReadPhase}
 use Rattle.slate_log.specs.declared.read_phase.ReadPhase.TheVariants as reading
 use Rattle.slate_protocol.specs.Chains.{Link, Log}
-use Rattle.slate_laws.proofs.Facts.{IsValue, Holds, IsNext, IsAtMost, IsReached, ReadKnows, CommitKnows, AdvanceKnows, Grows}
+use Rattle.slate_laws.proofs.Facts.IsMade.{OfVersion, OfNone}
+use Rattle.slate_laws.proofs.Facts.{IsValue, Holds, IsMade, IsNext, IsAtMost, IsReached, ReadKnows, CommitKnows, AdvanceKnows, Grows}
 
 module _ {V A : Type 0} (log : Log V A) (db : List ℕ) (s : Store) (c : List (Link V A)) (s' : Store) (c' : List (Link V A)) (g : Grows log db s c s' c') where
   pub kept_value : (n : ℕ) (v : V) → IsValue c n v → IsValue c' n v
@@ -17,8 +18,12 @@ module _ {V A : Type 0} (log : Log V A) (db : List ℕ) (s : Store) (c : List (L
   pub kept_holds : (n : ℕ) (v : V) → Holds log db s c n v → Holds log db s' c' n v
   kept_holds n v h = record { same = λ b' read lt. let was = g.bound b' read in let le = was.2 in kept_value n v (h.same was.0 was.1 (omega arith)) }
 
+  kept_made : (author : A) (n : ℕ) (v : V) → IsMade log c author n v → IsMade log c' author n v
+  kept_made author n v (OfVersion old at number makes lawful passed) = OfVersion old (g.kept old.number old at) number makes lawful passed
+  kept_made author n v (OfNone number first) = OfNone number first
+
   pub kept_next : (author : A) (n : ℕ) (bytes : List ℕ) (v : V) → IsNext log c author n bytes v → IsNext log c' author n bytes v
-  kept_next author n bytes v h = record { old = h.old; at = g.kept h.old.number h.old h.at; number = h.number; small = h.small; made = h.made; encodes = h.encodes; lawful = h.lawful; passed = h.passed }
+  kept_next author n bytes v h = record { small = h.small; encodes = h.encodes; made = kept_made author n v h.made }
 
   pub kept_read : (phase : ReadPhase V) → ReadKnows log db s c phase → ReadKnows log db s' c' phase
   kept_read reading.Listing h = h

@@ -1,103 +1,206 @@
 -- What the parties of a run hold.
-use Rattle.std.proofs.Common.{◌≡◌, ℕ, ◌<◌, ◌≤◌, ◌^◌, ℤ, List, Some, Ok, subst}
-use Rattle.slate_model.specs.declared.manifest.Manifest.{Manifest}
-use Rattle.slate_store.specs.Machines.{Goes, End}
+use Rattle.std.proofs.Common.{◌≡◌, ℕ, ◌<◌, ◌≤◌, ◌^◌, ℤ, nat_le, true, List, [], ◌∷◌, ◌++◌, Some, Ok, Err, refl, sym, ap, ◌∙◌, subst, arith}
+use Rattle.std.proofs.lemmas.Bool.Decides.{nat_tests}
+use Rattle.std.specs.Prelude.{if◌then◌else◌}
+use Rattle.slate_ids.specs.declared.error.SlateDBError.TheVariants.{TransactionalObjectVersionExists, StoreFault}
+use Rattle.slate_ids.specs.declared.object_path.ObjectPath.{ObjectPath}
+use Rattle.slate_store.specs.Machines.{End}
 use Rattle.slate_store.specs.Store.{Store, effect}
 use Rattle.slate_store.specs.declared.mark.Mark.{Mark}
+use Rattle.slate_store.specs.declared.mark.Mark.TheVariants.{Good, Fail, Lost}
 use Rattle.slate_events.specs.declared.call.Call.{Call}
 use Rattle.slate_events.specs.declared.db_spec.DbSpec.{DbSpec}
 use Rattle.slate_events.specs.declared.event.Event.{Event}
-use Rattle.slate_gc.specs.declared.pass_options.PassOptions.{PassOptions}
+use Rattle.slate_gc.specs.declared.gc_pass.GcPass.TheVariants as gc
 use Rattle.slate_gc.specs.declared.pass_phase.PassPhase.{PassPhase}
 use Rattle.slate_gc.specs.declared.pass_phase.PassPhase.TheVariants as passing
-use Rattle.slate_log.specs.declared.commit_phase.CommitPhase.TheVariants.{Putting}
+use Rattle.slate_gc.specs.GcPass as whole_pass
+use Rattle.slate_log.specs.Advance.{boundary_at}
+use Rattle.slate_log.specs.CommitPhase.{CommitGoes, commit_asks, commit_goes, bounded_goes}
+use Rattle.slate_log.specs.LogPaths.{version_path}
+use Rattle.slate_log.specs.ReadPhase.{Reply, read_asks, read_goes}
+use Rattle.slate_log.specs.declared.commit_phase.CommitPhase.{CommitPhase}
+use Rattle.slate_log.specs.declared.commit_phase.CommitPhase.TheVariants.{Putting, Bounding, Over}
+use Rattle.slate_log.specs.declared.log_kind.LogKind.{LogKind}
+use Rattle.slate_log.specs.declared.log_kind.LogKind.TheVariants as logs
 use Rattle.slate_log.specs.declared.read_phase.ReadPhase.{ReadPhase}
-use Rattle.slate_protocol.specs.Chains.{bound_in, AgreesAt}
-use Rattle.slate_protocol.specs.Holding.{IsVersion, IsMadeOf, Each, candidates_in, due_in}
-use Rattle.slate_protocol.specs.Lawful.{IsAccepted, chains_at_end}
-use Rattle.slate_protocol.specs.Logs.{Chain, author_of, manifests, world_after}
-use Rattle.slate_protocol.specs.Phrases.{asks, goes, at_read, at_commit, at_pass}
+use Rattle.slate_protocol.specs.Chains.{Link, Log, bound_in, AgreesAt}
+use Rattle.slate_protocol.specs.Holding.{IsVersion, IsMadeOf, Each, IsManifestThat, IsRefused, picks_in, due_in}
+use Rattle.slate_protocol.specs.Holding.IsMadeOf.{OfVersion as Makes, OfNone as Begins}
+use Rattle.slate_protocol.specs.Lawful.{IsAccepted, AreGood, chains_at_end, course_after, gone_after}
+use Rattle.slate_protocol.specs.Logs.{Held, Chain, Chains, Author, Phrase, log_of, manifests, phrase_of, world_after}
+use Rattle.slate_protocol.specs.Logs.Phrase.{Reads, Commits, Collects}
+use Rattle.slate_protocol.specs.Owners.{owner_of}
+use Rattle.slate_protocol.specs.Owners.Owner.{Version}
 use Rattle.slate_protocol.specs.Reach.{IsSpare}
+use Rattle.slate_protocol.specs.Rows.{follow}
+use Rattle.slate_protocol.specs.Runs.{opening}
+use Rattle.slate_protocol.specs.Safe.{IsCollected, AllCollected}
 use Rattle.slate_protocol.specs.Specs.{opening_world}
+use Rattle.slate_protocol.specs.Works.{asks, goes, commit_on, pass_on}
 use Rattle.slate_protocol.specs.World.{World, HasDb, party_of}
+use Rattle.slate_protocol.specs.declared.party.Facts.{Facts}
 use Rattle.slate_protocol.specs.declared.party.Party.{Party}
-use Rattle.slate_protocol.specs.declared.party.Purpose.{Purpose}
-use Rattle.slate_protocol.specs.declared.party.Purpose.TheVariants.{Reading, Committing, Passing}
 use Rattle.slate_protocol.specs.declared.party.State.TheVariants.{Busy}
-use Rattle.slate_protocol.specs.declared.position.Ended.{Ended}
-use Rattle.slate_protocol.specs.declared.position.Ended.TheVariants.{Version}
-use Rattle.slate_protocol.specs.declared.position.Phrase.TheVariants.{Read}
-use Rattle.slate_protocol.specs.declared.position.Position.{Position}
-use Rattle.slate_laws.proofs.EveryRun.{after_inv}
-use Rattle.slate_laws.proofs.Facts.{IsNext}
-use Rattle.slate_laws.proofs.Passes.{PassKnows, each_map}
-use Rattle.slate_laws.proofs.Runs.{StateKnows, Inv}
-use Rattle.slate_laws.proofs.Steps.{AfterPhrase, PhraseBrings, phrase_step, none_put}
+use Rattle.slate_protocol.specs.declared.party.Task.{Task}
+use Rattle.slate_protocol.specs.declared.work.Purpose.{Purpose}
+use Rattle.slate_protocol.specs.declared.work.Work.{Work}
+use Rattle.slate_protocol.specs.declared.work.Work.TheVariants.{ReadManifest, CommitManifest, Pass}
+use Rattle.slate_laws.proofs.AfterEvents.{after_inv, course_collected}
+use Rattle.slate_laws.proofs.Calls.{WorkKnows}
+use Rattle.slate_laws.proofs.Facts.{IsSound, IsMade, ReadKnows, ReadBrings}
+use Rattle.slate_laws.proofs.Facts.IsMade.{OfVersion, OfNone}
+use Rattle.slate_laws.proofs.GoingOn.{run_world}
+use Rattle.slate_laws.proofs.Manifests.{log_laws}
+use Rattle.slate_laws.proofs.Passes.{PassKnows, each_is}
+use Rattle.slate_laws.proofs.Paths.{version_owner}
+use Rattle.slate_laws.proofs.Removals.{good_run}
+use Rattle.slate_laws.proofs.Runs.{Inv, StateKnows}
+use Rattle.slate_laws.proofs.Steps.{PhraseKnows, db_in, work_db}
+use Rattle.slate_laws.proofs.Stores.{IsTidy}
+use Rattle.slate_laws.proofs.Turns.{read_step}
 
-pub above_bound : (specs : List DbSpec) (events : List Event) (db : List ℕ) (bound number : ℕ) → IsAccepted specs → HasDb (world_after events (opening_world specs)) db
-    → bound_in manifests db (world_after events (opening_world specs)).store ≡ Some bound → bound < number → number < 2 ^ 64
-    → AgreesAt manifests db (world_after events (opening_world specs)).store (chains_at_end specs events db) number
-above_bound specs events db bound number accepted has read lt small =
-    let log = (after_inv specs events accepted).logs db has in
+pub above_bound : (specs : List DbSpec) (events : List Event) (k : LogKind) (db : List ℕ) (bound number : ℕ) → IsAccepted specs → HasDb (world_after events (opening_world specs)) db
+    → bound_in (log_of k) db (world_after events (opening_world specs)).store ≡ Some bound → bound < number → number < 2 ^ 64
+    → AgreesAt (log_of k) db (world_after events (opening_world specs)).store (chains_at_end specs events k db) number
+above_bound specs events k db bound number accepted has read lt small =
+    let log = (after_inv specs events accepted).logs k db has in
     let same : bound ≡ log.bound = cc (log.read, read) in
     log.above number (subst (λ b. b < number) same lt) small
 
-module _ (specs : List DbSpec) (events : List Event) (n : ℕ) (p : Party) (call : Call) (accepted : IsAccepted specs) (at : party_of n (world_after events (opening_world specs)).parties ≡ Some p) where
+-- ---- reads
+
+-- the end of a read answers a committed version
+module _ {V A : Type 0} (log : Log V A) (db : List ℕ) (s : Store) (c : List (Link V A)) where
+  answered : (g : Reply V) (to : ReadPhase V) (number : ℕ) (v : V) → g ≡ End to (Ok (Some (number, v))) → ReadBrings log db s c g → IsVersion c number v
+  answered g to number v e b = let it = subst (λ (x : Reply V). ReadBrings log db s c x) e b in record { link = it.link; at = it.at; value = it.value }
+
+answers_of : (k : LogKind) (db : List ℕ) (s : Store) (c : Chain k) → IsSound (log_of k) db s c → IsTidy s.objects → (phase : ReadPhase (Held k)) (mark : Mark) (moment : ℤ) → ReadKnows (log_of k) db s c phase
+    → (to : ReadPhase (Held k)) (number : ℕ) (v : Held k) → read_goes k (log_of k).decoded phase (effect mark (read_asks db k phase) moment s).answer ≡ End to (Ok (Some (number, v))) → IsVersion c number v
+answers_of logs.Manifest db s c i tidy phase mark moment h to number v e =
+    answered (log_of logs.Manifest) db s c _ to number v e (read_step (log_of logs.Manifest) (log_laws logs.Manifest) db s c i tidy phase mark moment h).brings
+answers_of logs.Compactions db s c i tidy phase mark moment h to number v e =
+    answered (log_of logs.Compactions) db s c _ to number v e (read_step (log_of logs.Compactions) (log_laws logs.Compactions) db s c i tidy phase mark moment h).brings
+
+-- ---- a commit whose number was collected
+
+-- a commit that ended with a refusal
+record CommitFails {T : Type 0} (g : CommitGoes T) : Type 0 where
+  pub phase : CommitPhase T
+  pub error : _
+  pub is : g ≡ End phase (Err error)
+
+at_most : (n b : ℕ) → n ≤ b → nat_le n b ≡ true
+at_most n b h = grind (arith, nat_tests)
+
+-- at or below the boundary it is refused, whatever the mark
+bound_fails : {T : Type 0} (db : List ℕ) (k : LogKind) (n : ℕ) (v : T) (s : Store) (moment : ℤ) (mark : Mark) (b : ℕ) → boundary_at db k s ≡ Some b → n ≤ b
+    → CommitFails (commit_goes (Bounding n v) (effect mark (commit_asks db k (Bounding n v)) moment s).answer)
+bound_fails db k n v s moment Good b read le = record {
+  phase = Over;
+  error = TransactionalObjectVersionExists n (Some b);
+  is = ap (bounded_goes n v) read ∙ ap (λ t. if t then End Over (Err (TransactionalObjectVersionExists n (Some b))) else End Over (Ok (n, v))) (at_most n b le);
+}
+bound_fails db k n v s moment Fail b read le = record { phase = Over; error = StoreFault; is = refl }
+bound_fails db k n v s moment Lost b read le = record { phase = Over; error = StoreFault; is = refl }
+
+-- a phrase that is a commit whose step ends with a refusal
+abbrev PhraseFails : Store → ℤ → Mark → Phrase → Type 0
+PhraseFails s moment mark (Commits k db purpose now phase) = CommitFails (commit_goes phase (effect mark (commit_asks db k phase) moment s).answer)
+PhraseFails s moment mark (Reads k db phase) = ⊥
+PhraseFails s moment mark (Collects db phase) = ⊥
+
+-- then the call ends with it
+work_fails : (s : Store) (moment : ℤ) (mark : Mark) (facts : Facts) (call : Call) (work : Work) → PhraseFails s moment mark (phrase_of work) → IsRefused (follow facts call moment (goes work moment (effect mark (asks work) moment s).answer)).next
+work_fails s moment mark facts call (ReadManifest purpose db phase) h = absurd h
+work_fails s moment mark facts call (CommitManifest purpose now db phase) h = record { error = h.error; is = ap (λ g. (follow facts call moment (commit_on purpose now db g)).next) h.is }
+work_fails s moment mark facts call (Pass db options (gc.Reading phase)) h = absurd h
+work_fails s moment mark facts call (Pass db options (gc.Committing now phase)) h = record { error = h.error; is = ap (λ g. (follow facts call moment (pass_on db options (whole_pass.commit_on now g))).next) h.is }
+work_fails s moment mark facts call (Pass db options (gc.Collecting phase)) h = absurd h
+
+-- what was removed up to now was collected
+gone_collected : (specs : List DbSpec) (events : List Event) → IsAccepted specs → AreGood specs events → AllCollected (world_after events (opening_world specs)) (chains_at_end specs events) (gone_after specs events)
+gone_collected specs events accepted good =
+    subst (λ (w : World). AllCollected w (chains_at_end specs events) (gone_after specs events)) (run_world events 0 (opening specs) (course_after specs events) (good_run specs events good))
+    (course_collected specs events accepted good)
+
+one_collected : (w : World) (chains : Chains) (front : List ObjectPath) (path : ObjectPath) (back : List ObjectPath) → AllCollected w chains (front ++ path ∷ back) → IsCollected w chains path
+one_collected w chains [] path back h = h.0
+one_collected w chains (x ∷ front) path back h = one_collected w chains front path back h.1
+
+-- ---- the parties
+
+module _ (specs : List DbSpec) (events : List Event) (n : ℕ) (p : Party) (task : Task) (accepted : IsAccepted specs) (at : party_of n (world_after events (opening_world specs)).parties ≡ Some p) (is : p.state ≡ Busy task) where
   abbrev w : World
   w = world_after events (opening_world specs)
 
-  abbrev c : Chain
-  c = chains_at_end specs events p.facts.db
+  abbrev chains : Chains
+  chains = chains_at_end specs events
 
-  i : Inv w (chains_at_end specs events)
+  i : Inv w chains
   i = after_inv specs events accepted
 
-  knows : (purpose : Purpose) (position : Position) → p.state ≡ Busy call purpose position → StateKnows w.store (chains_at_end specs events) n p.facts (Busy call purpose position)
-  knows purpose position is = subst (λ s. StateKnows w.store (chains_at_end specs events) n p.facts s) is (i.parties n p at).knows
+  known : WorkKnows (HasDb w) w.store chains n p.facts task.call task.work
+  known = subst (λ s. StateKnows (HasDb w) w.store chains n p.facts s) is (i.parties n p at).knows
 
-  made_of : (now : ℤ) (number : ℕ) (bytes : List ℕ) (m : Manifest) → IsNext manifests c (author_of n p.facts call (Committing now)) number bytes m → IsMadeOf c call now number m
-  made_of now number bytes m h = record { old = h.old; at = h.at; number = h.number; made = h.made }
+  knows : (phrase : Phrase) → phrase_of task.work ≡ phrase → PhraseKnows w.store chains n p.facts task.call phrase
+  knows phrase e = subst (λ ph. PhraseKnows w.store chains n p.facts task.call ph) e known.knows
 
-  pub commit_holds : (now : ℤ) (number : ℕ) (bytes : List ℕ) (m : Manifest) → p.state ≡ Busy call (Committing now) (at_commit p.facts.db (Putting number bytes m)) → IsMadeOf c call now number m
-  commit_holds now number bytes m is = made_of now number bytes m (knows (Committing now) (at_commit p.facts.db (Putting number bytes m)) is).1
+  made_of : (k : LogKind) (c : Chain k) (author : Author) (number : ℕ) (v : Held k) → IsMade (log_of k) c author number v → IsMadeOf k c author number v
+  made_of k c author number v (OfVersion old at number_is makes lawful passed) = Makes old at number_is makes
+  made_of k c author number v (OfNone number_is first) = Begins number_is first
 
-  pass_knows : (options : PassOptions) (phase : PassPhase) → p.state ≡ Busy call Passing (at_pass p.facts.db options phase) → PassKnows w.store c p.facts.db phase
-  pass_knows options phase is = (knows Passing (at_pass p.facts.db options phase) is).1
+  pub commit_holds : (k : LogKind) (db : List ℕ) (purpose : Purpose) (now : ℤ) (number : ℕ) (bytes : List ℕ) (v : Held k) → phrase_of task.work ≡ Commits k db purpose now (Putting number bytes v)
+      → IsMadeOf k (chains k db) (record { party = n; facts = p.facts; call = task.call; purpose = purpose; now = now }) number v
+  commit_holds k db purpose now number bytes v e = made_of k (chains k db) _ number v (knows (Commits k db purpose now (Putting number bytes v)) e).made
 
-  all_spare : (phase : PassPhase) → PassKnows w.store c p.facts.db phase → Each (IsSpare manifests c) (candidates_in phase)
-  all_spare passing.Listing h = tt
-  all_spare (passing.Getting now k dates) h = tt
-  all_spare (passing.Bounding k ns) h = tt
-  all_spare (passing.Advancing phase ns) h = each_map _ (IsSpare manifests c) (λ k w. w.1) ns h.1
-  all_spare (passing.Deleting ns counts) h = each_map _ (IsSpare manifests c) (λ k w. w.1) ns h
-  all_spare passing.Over h = tt
+  all_spare : (db : List ℕ) (phase : PassPhase) → PassKnows w.store (chains logs.Manifest db) db phase → Each (IsManifestThat db (IsSpare manifests (chains logs.Manifest db))) (picks_in phase)
+  all_spare db passing.Listing h = tt
+  all_spare db (passing.Getting k found) h = tt
+  all_spare db (passing.Bounding k candidates) h = tt
+  all_spare db (passing.Advancing phase picked) h = each_is db _ (IsSpare manifests (chains logs.Manifest db)) (λ k w. w.1) picked h.1
+  all_spare db (passing.Deleting left counts) h = each_is db _ (IsSpare manifests (chains logs.Manifest db)) (λ k w. w.1) left h
+  all_spare db passing.Over h = tt
 
-  pub spare_candidates : (options : PassOptions) (phase : PassPhase) → p.state ≡ Busy call Passing (at_pass p.facts.db options phase) → Each (IsSpare manifests c) (candidates_in phase)
-  spare_candidates options phase is = all_spare phase (pass_knows options phase is)
+  pub spare_picks : (db : List ℕ) (phase : PassPhase) → phrase_of task.work ≡ Collects db phase → Each (IsManifestThat db (IsSpare manifests (chains logs.Manifest db))) (picks_in phase)
+  spare_picks db phase e = all_spare db phase (knows (Collects db phase) e)
 
-  all_bounded : (bound : ℕ) → bound_in manifests p.facts.db w.store ≡ Some bound → (phase : PassPhase) → PassKnows w.store c p.facts.db phase → Each (λ k. k ≤ bound) (due_in phase)
-  all_bounded bound read passing.Listing h = tt
-  all_bounded bound read (passing.Getting now k dates) h = tt
-  all_bounded bound read (passing.Bounding k ns) h = tt
-  all_bounded bound read (passing.Advancing phase ns) h = tt
-  all_bounded bound read (passing.Deleting ns counts) h = each_map _ (λ k. k ≤ bound) (λ k w. w.0.reached bound read) ns h
-  all_bounded bound read passing.Over h = tt
+  all_bounded : (db : List ℕ) (bound : ℕ) → bound_in manifests db w.store ≡ Some bound → (phase : PassPhase) → PassKnows w.store (chains logs.Manifest db) db phase → Each (IsManifestThat db (λ k. k ≤ bound)) (due_in phase)
+  all_bounded db bound read passing.Listing h = tt
+  all_bounded db bound read (passing.Getting k found) h = tt
+  all_bounded db bound read (passing.Bounding k candidates) h = tt
+  all_bounded db bound read (passing.Advancing phase picked) h = tt
+  all_bounded db bound read (passing.Deleting left counts) h = each_is db _ (λ k. k ≤ bound) (λ k w. w.0.reached bound read) left h
+  all_bounded db bound read passing.Over h = tt
 
-  pub bounded_due : (options : PassOptions) (phase : PassPhase) (bound : ℕ) → p.state ≡ Busy call Passing (at_pass p.facts.db options phase) → bound_in manifests p.facts.db w.store ≡ Some bound → Each (λ k. k ≤ bound) (due_in phase)
-  bounded_due options phase bound is read = all_bounded bound read phase (pass_knows options phase is)
+  pub bounded_due : (db : List ℕ) (phase : PassPhase) (bound : ℕ) → phrase_of task.work ≡ Collects db phase → bound_in manifests db w.store ≡ Some bound → Each (IsManifestThat db (λ k. k ≤ bound)) (due_in phase)
+  bounded_due db phase bound e read = all_bounded db bound read phase (knows (Collects db phase) e)
 
-  -- a read's end answers a committed version
-  module _ (phase : ReadPhase Manifest) (mark : Mark) (moment : ℤ) (is : p.state ≡ Busy call Reading (at_read p.facts.db phase)) where
-    has : HasDb w p.facts.db
-    has = (i.parties n p at).has
+  -- the database of a phrase is one of the cluster
+  has_db : (phrase : Phrase) → phrase_of task.work ≡ phrase → HasDb w (db_in phrase)
+  has_db phrase e = subst (λ d. HasDb w d) (sym (work_db task.work) ∙ ap db_in e) known.has
 
-    after : AfterPhrase w.store (chains_at_end specs events) p.facts.db (author_of n p.facts call Reading) Reading (Read phase) mark moment
-    after = phrase_step w.store (chains_at_end specs events) p.facts.db (author_of n p.facts call Reading) (i.named p.facts.db has) i.tidy (i.logs p.facts.db has) mark moment Reading (Read phase) (knows Reading (at_read p.facts.db phase) is).1
+  pub read_answers : (k : LogKind) (db : List ℕ) (phase : ReadPhase (Held k)) (mark : Mark) (moment : ℤ) (to : ReadPhase (Held k)) (number : ℕ) (v : Held k) → phrase_of task.work ≡ Reads k db phase
+      → read_goes k (log_of k).decoded phase (effect mark (read_asks db k phase) moment w.store).answer ≡ End to (Ok (Some (number, v))) → IsVersion (chains k db) number v
+  read_answers k db phase mark moment to number v e answer = answers_of k db w.store (chains k db) (i.logs k db (has_db (Reads k db phase) e)) i.tidy phase mark moment (knows (Reads k db phase) e) to number v answer
 
-    answered : (g : Goes Position Ended) (s : Store) (d : Chain) (to : Position) (number : ℕ) (m : Manifest) → d ≡ c → g ≡ End to (Ok (Version number m)) → PhraseBrings s d p.facts.db (author_of n p.facts call Reading) Reading g → IsVersion c number m
-    answered g s d to number m same e b =
-        let v = subst (λ (x : Goes Position Ended). PhraseBrings s d p.facts.db (author_of n p.facts call Reading) Reading x) e b in
-        subst (λ (x : Chain). IsVersion x number m) same (record { link = v.link; at = v.at; value = v.value })
-
-    pub read_answers : (to : Position) (number : ℕ) (m : Manifest) → goes (at_read p.facts.db phase) moment (effect mark (asks (at_read p.facts.db phase)) moment w.store).answer ≡ End to (Ok (Version number m)) → IsVersion c number m
-    read_answers to number m e = answered _ _ _ to number m (none_put _ p.facts.db (chains_at_end specs events) p.facts.db) e after.brings
+  -- the step of a commit whose number was collected ends the call with a refusal
+  pub late_refused : (k : LogKind) (db : List ℕ) (purpose : Purpose) (now : ℤ) (number : ℕ) (v : Held k) (front back : List ObjectPath) (mark : Mark) (moment : ℤ) → phrase_of task.work ≡ Commits k db purpose now (Bounding number v)
+      → AreGood specs events → gone_after specs events ≡ front ++ version_path k db number ∷ back → IsRefused (follow p.facts task.call moment (goes task.work moment (effect mark (asks task.work) moment w.store).answer)).next
+  late_refused k db purpose now number v front back mark moment e good gone =
+      let all = subst (λ (paths : List ObjectPath). AllCollected w chains paths) gone (gone_collected specs events accepted good) in
+      work_fails w.store moment mark p.facts task.call task.work (subst (PhraseFails w.store moment mark) (sym e) (by_log k db number v (one_collected w chains front (version_path k db number) back all)))
+    where
+      by_log : (k : LogKind) (db : List ℕ) (number : ℕ) (v : Held k) → IsCollected w chains (version_path k db number) → CommitFails (commit_goes (Bounding number v) (effect mark (commit_asks db k (Bounding number v)) moment w.store).answer)
+      by_log k db number v h =
+          let same : Version h.log h.db h.number ≡ Version k db number = sym (version_owner h.log h.db h.number) ∙ (ap owner_of (sym h.is) ∙ version_owner k db number) in
+          let same_log : h.log ≡ k = cc (same) in
+          let same_db : h.db ≡ db = cc (same) in
+          let same_number : h.number ≡ number = cc (same) in
+          let log = i.logs h.log h.db h.has in
+          let read : boundary_at db k w.store ≡ Some log.bound = subst (λ d. boundary_at d k w.store ≡ Some log.bound) same_db (subst (λ j. boundary_at h.db j w.store ≡ Some log.bound) same_log (by_kind h.log h.db log.bound log.read)) in
+          bound_fails db k number v w.store moment mark log.bound read (subst (λ j. j ≤ log.bound) same_number (h.bounded log.bound log.read))
+        where
+          by_kind : (k : LogKind) (db : List ℕ) (b : ℕ) → bound_in (log_of k) db w.store ≡ Some b → boundary_at db k w.store ≡ Some b
+          by_kind logs.Manifest db b e = e
+          by_kind logs.Compactions db b e = e

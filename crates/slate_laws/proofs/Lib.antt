@@ -35,3 +35,12 @@ mod Left
 mod Alone
 mod Undisturbed
 mod Holding
+mod Removals
+mod Zeros
+mod Tops
+mod AfterEvents
+mod Bad
+mod DryRuns
+mod Encodable
+mod Pools
+mod Sources

@@ -2,8 +2,10 @@
 use Rattle.std.proofs.Common.{◌≡◌, ◌≢◌, ℕ, ◌+◌, ◌<◌, ◌≤◌, ◌==◌, Bool, true, false, List, [], ◌∷◌, Some, None, Ok, ◌⊎◌, ⊎_elim, refl, sym, ap, ◌∙◌, subst, arith}
 use Rattle.std.proofs.lemmas.Bool.Decides.{nat_tests}
 use Rattle.std.specs.Prelude.{if◌then◌else◌}
-use Rattle.slate_protocol.specs.Chains.{Link, Log, link_at, top, IsChain}
-use Rattle.slate_laws.proofs.Facts.{IsLog}
+use Rattle.slate_protocol.specs.Chains.{Link, Log, link_at, top, IsFirst, IsChain}
+use Rattle.slate_protocol.specs.Chains.IsFirst.{Opens, Begins}
+use Rattle.slate_laws.proofs.Facts.{IsLog, IsMade}
+use Rattle.slate_laws.proofs.Facts.IsMade.{OfVersion, OfNone}
 
 pub same_or_not : (a b : ℕ) → (a ≡ b) ⊎ (a ≢ b)
 same_or_not a b = grind (arith, nat_tests)
@@ -34,6 +36,16 @@ module _ {V A : Type 0} where
       (same_or_not m.number n)
 
 module _ {V A : Type 0} (log : Log V A) where
+  -- the first version has the number 1
+  pub first_number : (first : Link V A) → IsFirst log first → first.number ≡ 1
+  first_number first (Opens number by value) = number
+  first_number first (Begins author made number by makes bytes value) = number
+
+  -- its bytes decode to its value
+  first_decodes : IsLog log → (first : Link V A) → IsFirst log first → log.decoded first.bytes ≡ Ok first.value
+  first_decodes laws first (Opens number by value) = value
+  first_decodes laws first (Begins author made number by makes bytes value) = laws.round made first.bytes bytes ∙ ap (λ (v : V). Ok v) (sym value)
+
   -- no number above the greatest is committed
   pub none_above : (k : ℕ) (c : List (Link V A)) → IsChain log c → top c < k → link_at k c ≡ None
   none_above k [] h lt = refl
@@ -46,7 +58,7 @@ module _ {V A : Type 0} (log : Log V A) where
   pub some_below : (k : ℕ) (c : List (Link V A)) → IsChain log c → 0 < k → k ≤ top c → link_at k c ≢ None
   some_below k [] h pos le = absurd (omega arith)
   some_below k (l ∷ []) h pos le =
-      let one = h.number in
+      let one = first_number l h in
       λ (none : link_at k (l ∷ []) ≡ None). absurd (cc (link_here k l [] (omega arith), none))
   some_below k (l ∷ m ∷ c) h pos le =
       let up = h.0.number in
@@ -68,12 +80,25 @@ module _ {V A : Type 0} (log : Log V A) where
       (λ (over : top c < n + 1). omega arith)
       (le_or_lt (n + 1) (top c))
 
+  -- where no first number is committed, none is
+  zero_top : (c : List (Link V A)) → IsChain log c → link_at 1 c ≡ None → top c ≡ 0
+  zero_top c h none =
+      ⊎_elim
+      (λ (some : 1 ≤ top c). absurd (some_below 1 c h (omega arith) some none))
+      (λ (lt : top c < 1). omega arith)
+      (le_or_lt 1 (top c))
+
+  -- the number of what was made is the one after the greatest, unless it is committed
+  pub next_number : (c : List (Link V A)) → IsChain log c → (author : A) (n : ℕ) (v : V) → IsMade log c author n v → link_at n c ≡ None → n ≡ top c + 1
+  next_number c h author n v (OfVersion old at number makes lawful passed) fresh = number ∙ ap (λ k. k + 1) (next_is_top old.number old c h at (subst (λ k. link_at k c ≡ None) number fresh))
+  next_number c h author n v (OfNone number makes) fresh = number ∙ sym (ap (λ k. k + 1) (zero_top c h (subst (λ k. link_at k c ≡ None) number fresh)))
+
   -- the bytes of a committed version decode to its value
   pub decodes : IsLog log → (n : ℕ) (l : Link V A) (c : List (Link V A)) → IsChain log c → link_at n c ≡ Some l → log.decoded l.bytes ≡ Ok l.value
   decodes laws n l [] h at = absurd cc
   decodes laws n l (first ∷ []) h at =
       ⊎_elim
-      (λ (e : first.number ≡ n). let same : first ≡ l = cc (link_here n first [] e, at) in subst (λ (k : Link V A). log.decoded k.bytes ≡ Ok k.value) same h.value)
+      (λ (e : first.number ≡ n). let same : first ≡ l = cc (link_here n first [] e, at) in subst (λ (k : Link V A). log.decoded k.bytes ≡ Ok k.value) same (first_decodes laws first h))
       (λ (ne : first.number ≢ n). absurd (cc (link_there n first [] ne, at)))
       (same_or_not first.number n)
   decodes laws n l (new ∷ old ∷ c) h at =

@@ -1,4 +1,4 @@
--- The log of manifests: what its codec and its rules give, and what each call commits.
+-- The two logs: what their codecs and their rules give, and what is committed of a change.
 use Rattle.std.proofs.Common.{◌≡◌, ℕ, ℤ, ◌+◌, ◌==◌, ◌≤◌, nat_lt, Bool, true, false, List, [], ◌∷◌, map, Option, Some, None, Result, Ok, Err, ◌⊎◌, inl, inr, refl, sym, ap, ◌∙◌, subst, arith}
 use Rattle.std.proofs.lemmas.Bool.Decides.{nat_tests}
 use Rattle.std.specs.Prelude.{if◌then◌else◌, ◌||◌, ◌&&◌}
@@ -7,23 +7,23 @@ use Rattle.slate_ids.specs.Limits.{last_number}
 use Rattle.slate_ids.specs.declared.error.SlateDBError.{SlateDBError}
 use Rattle.slate_ids.specs.declared.error.SlateDBError.TheVariants.{Exhausted}
 use Rattle.slate_ids.specs.declared.error.UpdateRule.TheVariants.{U1, U2}
-use Rattle.slate_layout.specs.Codec.{encoded}
-use Rattle.slate_layout.specs.laws.Codecs.{codec_round_trip}
+use Rattle.slate_layout.specs.laws.Codecs.{codec_round_trip, record_codec_trip}
 use Rattle.slate_updates.specs.Checkpoints.{is_named}
 use Rattle.slate_updates.specs.Rules.{falls, names_known, refused_by, manifest_refusal}
 use Rattle.slate_encodable.specs.Normal.{normal_manifest, normal_checkpoint}
 use Rattle.slate_model.specs.declared.checkpoint.Checkpoint.{Checkpoint}
 use Rattle.slate_model.specs.declared.manifest.Manifest.{Manifest}
-use Rattle.slate_events.specs.declared.call.Call.{Call}
+use Rattle.slate_updates.specs.Changes.{made, right_of, fence_of, commit_of}
+use Rattle.slate_updates.specs.declared.manifest_change.ManifestChange.{ManifestChange}
 use Rattle.slate_log.specs.CommitPhase.{prepared, checked_commit, encoded_commit}
 use Rattle.slate_log.specs.declared.commit_phase.CommitPhase.{CommitPhase}
 use Rattle.slate_log.specs.declared.commit_phase.CommitPhase.TheVariants.{Putting}
 use Rattle.slate_log.specs.declared.right.Right.{Right}
 use Rattle.slate_log.specs.Change.{renewed, wanted, some_commit}
 use Rattle.slate_log.specs.Fence.{unless}
-use Rattle.slate_protocol.specs.Calls.{new_value, right_of, fence_of, commit_of}
-use Rattle.slate_protocol.specs.Logs.{manifests}
-use Rattle.slate_protocol.specs.declared.party.Facts.{Facts}
+use Rattle.slate_log.specs.declared.log_kind.LogKind.{LogKind}
+use Rattle.slate_log.specs.declared.log_kind.LogKind.TheVariants as logs
+use Rattle.slate_protocol.specs.Logs.{manifests, records, log_of}
 use Rattle.slate_laws.proofs.Facts.{IsLog}
 
 -- both of two
@@ -73,7 +73,17 @@ manifest_known n old m right k h named = by_falls (falls old m) h
     by_falls false h = by_names (names_known n old m) refl h
 
 pub manifests_log : IsLog manifests
-manifests_log = record { round = λ m bytes h. codec_round_trip m bytes h; plain = λ n old m right h. refusal_normal n old m right ∙ h; known = manifest_known }
+manifests_log = record { round = λ m bytes h. codec_round_trip m bytes h; plain = λ n old m right h. refusal_normal n old m right ∙ h; known = manifest_known; first = λ author m k h named. absurd cc }
+
+-- ---- the log of records, of which no author makes anything yet
+
+records_log : IsLog records
+records_log = record { round = λ r bytes h. record_codec_trip r bytes h; plain = λ n old r right h. h; known = λ n old r right k h named. absurd cc; first = λ author r k h named. absurd cc }
+
+-- each log is one
+pub log_laws : (k : LogKind) → IsLog (log_of k)
+log_laws logs.Manifest = manifests_log
+log_laws logs.Compactions = records_log
 
 -- what a prepared commit puts
 pub record IsPrepared {V : Type 0} (refusal : ℕ → V → V → Right → Option SlateDBError) (encoded : V → Result (List ℕ) SlateDBError) (n : ℕ) (old new : V) (right : Right) (commit : CommitPhase V) : Type 0 where
@@ -99,33 +109,33 @@ module _ {V : Type 0} (refusal : ℕ → V → V → Right → Option SlateDBErr
   pub is_prepared : prepared refusal encoded n old new right ≡ Ok commit → IsPrepared refusal encoded n old new right commit
   is_prepared h = by_room (n == last_number) refl h
 
--- what a call commits: what it makes of the version read, where its fence lets it
-pub record IsMade (facts : Facts) (call : Call) (now : ℤ) (n : ℕ) (m : Manifest) (commit : CommitPhase Manifest) : Type 0 where
+-- what is committed of a change: what it makes of the version read, where its fence lets it
+pub record IsChanged (encoded : Manifest → Result (List ℕ) SlateDBError) (change : ManifestChange) (now : ℤ) (n : ℕ) (m : Manifest) (commit : CommitPhase Manifest) : Type 0 where
   pub new : Manifest
-  pub makes : new_value call now n m ≡ Ok (Some new)
-  pub prepared : IsPrepared manifest_refusal encoded n m new (right_of call) commit
-  pub passed : fence_of facts call m ≡ None
+  pub makes : made change now n m ≡ Ok (Some new)
+  pub prepared : IsPrepared manifest_refusal encoded n m new (right_of change) commit
+  pub passed : fence_of change m ≡ None
 
-module _ (facts : Facts) (call : Call) (now : ℤ) (n : ℕ) (m : Manifest) (commit : CommitPhase Manifest) where
-  made_of : (new : Manifest) → new_value call now n m ≡ Ok (Some new) → fence_of facts call m ≡ None → (r : Result (CommitPhase Manifest) SlateDBError) → prepared manifest_refusal encoded n m new (right_of call) ≡ r
-      → some_commit r ≡ Ok (Some commit) → IsMade facts call now n m commit
-  made_of new makes passed (Ok c) is h =
+module _ (encoded : Manifest → Result (List ℕ) SlateDBError) (change : ManifestChange) (now : ℤ) (n : ℕ) (m : Manifest) (commit : CommitPhase Manifest) where
+  changed_of : (new : Manifest) → made change now n m ≡ Ok (Some new) → fence_of change m ≡ None → (r : Result (CommitPhase Manifest) SlateDBError) → prepared manifest_refusal encoded n m new (right_of change) ≡ r
+      → some_commit r ≡ Ok (Some commit) → IsChanged encoded change now n m commit
+  changed_of new makes passed (Ok c) is h =
       let same : c ≡ commit = cc in
-      record { new = new; makes = makes; prepared = is_prepared manifest_refusal encoded n m new (right_of call) commit (is ∙ ap (λ (x : CommitPhase Manifest). Ok x) same); passed = passed }
-  made_of new makes passed (Err e) is h = absurd cc
+      record { new = new; makes = makes; prepared = is_prepared manifest_refusal encoded n m new (right_of change) commit (is ∙ ap (λ (x : CommitPhase Manifest). Ok x) same); passed = passed }
+  changed_of new makes passed (Err e) is h = absurd cc
 
-  by_value : (r : Result (Option Manifest) SlateDBError) → new_value call now n m ≡ r → fence_of facts call m ≡ None → wanted (λ (new : Manifest). prepared manifest_refusal encoded n m new (right_of call)) r ≡ Ok (Some commit)
-      → IsMade facts call now n m commit
-  by_value (Ok (Some new)) is passed h = made_of new is passed (prepared manifest_refusal encoded n m new (right_of call)) refl h
+  by_value : (r : Result (Option Manifest) SlateDBError) → made change now n m ≡ r → fence_of change m ≡ None → wanted (λ (new : Manifest). prepared manifest_refusal encoded n m new (right_of change)) r ≡ Ok (Some commit)
+      → IsChanged encoded change now n m commit
+  by_value (Ok (Some new)) is passed h = changed_of new is passed (prepared manifest_refusal encoded n m new (right_of change)) refl h
   by_value (Ok None) is passed h = absurd cc
   by_value (Err e) is passed h = absurd cc
 
-  by_fence : (o : Option SlateDBError) → fence_of facts call m ≡ o → unless o (renewed (new_value call now) manifest_refusal encoded (right_of call) n m) ≡ Ok (Some commit) → IsMade facts call now n m commit
+  by_fence : (o : Option SlateDBError) → fence_of change m ≡ o → unless o (renewed (made change now) manifest_refusal encoded (right_of change) n m) ≡ Ok (Some commit) → IsChanged encoded change now n m commit
   by_fence (Some e) is h = absurd cc
-  by_fence None is h = by_value (new_value call now n m) refl is h
+  by_fence None is h = by_value (made change now n m) refl is h
 
-  pub call_made : commit_of facts call now n m ≡ Ok (Some commit) → IsMade facts call now n m commit
-  call_made h = by_fence (fence_of facts call m) refl h
+  pub change_commits : commit_of encoded change now n m ≡ Ok (Some commit) → IsChanged encoded change now n m commit
+  change_commits h = by_fence (fence_of change m) refl h
 
 -- the rules let no writer epoch fall
 pub epoch_rises : (old new : Manifest) (n : ℕ) (right : Right) → manifest_refusal n old new right ≡ None → old.writer_epoch ≤ new.writer_epoch

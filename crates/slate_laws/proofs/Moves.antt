@@ -43,11 +43,10 @@ module _ {V A : Type 0} (log : Log V A) (db : List ℕ) (named : is_db_path db �
     move_leaves = record {
       sound = record {
         chain = i.chain;
-        some = i.some;
         small = i.small;
         bound = n;
         read = moved_read;
-        below = below;
+        below = λ pos. below;
         above = λ k lt k_small. ap bytes_of (at_else (boundary_path log.kind db) (version_path log.kind db k) (decimal n) moment s (λ e. boundary_apart db named log.kind k k_small (sym e))) ∙ i.above k (omega arith) k_small;
         needed = λ k w. moved_committed k (i.needed k w);
         tagged = λ o at. let e = moved_object o at in omega arith;
@@ -86,7 +85,6 @@ module _ {V A : Type 0} (log : Log V A) (db : List ℕ) (named : is_db_path db �
     delete_leaves = record {
       sound = record {
         chain = i.chain;
-        some = i.some;
         small = i.small;
         bound = i.bound;
         read = left_bound ∙ i.read;
@@ -116,7 +114,6 @@ module _ {V A : Type 0} (log : Log V A) (db : List ℕ) (s : Store) (c : List (L
   pub gone_sound : IsSound log db s c → IsSound log db (removed p s) c
   gone_sound i = record {
     chain = i.chain;
-    some = i.some;
     small = i.small;
     bound = i.bound;
     read = gone_bound ∙ i.read;

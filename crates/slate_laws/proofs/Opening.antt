@@ -4,18 +4,20 @@ use Rattle.std.proofs.lemmas.Bool.Decides.{nat_tests}
 use Rattle.std.specs.Prelude.{bytes_eq, if◌then◌else◌, not, ◌||◌, ◌==◌}
 use Rattle.std.specs.List.{list_any}
 use Rattle.slate_ids.specs.Ids.{is_db_path}
-use Rattle.slate_ids.specs.PathText.{path_text}
 use Rattle.slate_ids.specs.declared.error.SlateDBError.{SlateDBError}
 use Rattle.slate_ids.specs.declared.object_path.ObjectPath.{ObjectPath}
+use Rattle.slate_ids.specs.declared.object_path.ObjectPath.TheVariants as paths
+use Rattle.slate_ids.proofs.PathsApart.{same_path}
 use Rattle.slate_log.specs.Boundary.{boundary_got}
 use Rattle.slate_log.specs.LogPaths.{version_path, boundary_path}
-use Rattle.slate_log.specs.declared.log_kind.LogKind.TheVariants.{Manifest as ManifestLog}
+use Rattle.slate_log.specs.declared.log_kind.LogKind.{LogKind}
+use Rattle.slate_log.specs.declared.log_kind.LogKind.TheVariants as logs
 use Rattle.slate_updates.specs.Checkpoints.{is_named}
 use Rattle.slate_layout.specs.Codec.{encoded}
 use Rattle.slate_layout.specs.laws.Codecs.{codec_round_trip}
 use Rattle.slate_manifest_parts.specs.Decoding.{decoded_manifest}
 use Rattle.slate_encodable.proofs.NormalLaws.{normal_only}
-use Rattle.slate_encodable.specs.Normal.{is_normal}
+use Rattle.slate_encodable.specs.Normal.{normal_manifest, is_normal}
 use Rattle.slate_model.specs.declared.checkpoint.Checkpoint.{Checkpoint}
 use Rattle.slate_model.specs.declared.manifest.Manifest.{Manifest}
 use Rattle.slate_events.specs.declared.cluster_cause.ClusterCause.TheVariants as cause
@@ -23,20 +25,20 @@ use Rattle.slate_events.specs.declared.db_spec.DbSpec.{DbSpec}
 use Rattle.slate_store.specs.Store.{Store, object_at}
 use Rattle.slate_store.specs.declared.object.StoredObject.{StoredObject}
 use Rattle.slate_protocol.specs.Chains.{top, bytes_of, link_bytes, AgreesAt}
+use Rattle.slate_protocol.specs.Chains.IsFirst.{Opens}
 use Rattle.slate_protocol.specs.Lawful.{IsAccepted}
-use Rattle.slate_protocol.specs.Logs.{Chain, manifests, opening_link, opening_chains}
+use Rattle.slate_protocol.specs.Logs.{Chain, manifests, records, log_of, opening_link, opening_manifests, opening_chains}
 use Rattle.slate_protocol.specs.Reach.{IsNeeded}
 use Rattle.slate_protocol.specs.Reach.IsNeeded.{Greatest, Named}
 use Rattle.slate_protocol.specs.Specs.{First, first_tally, tallies_from, are_ids_fine, and_more, bytes_where, first_bytes, firsts_from, all_tables_from, objects_of, overlaps, names_other, lacks_table, is_floor_low, cause_beside, cause_of_specs, listed_or_none, no_objects, store_from, opening_world}
-use Rattle.slate_protocol.specs.World.{World, tally_of, HasDb}
+use Rattle.slate_protocol.specs.World.{World, tally_of, number_in, HasDb}
 use Rattle.slate_protocol.specs.declared.tally.Tally.{Tally}
 use Rattle.slate_laws.proofs.Beginnings.{spec_of, AllNamed, Firsts, tally_for, tallies_found, first_for, firsts_found, firsts_else, last_at, IsFound, spec_found, bytes_found, store_found, firsts_fine, store_tidy}
 use Rattle.slate_laws.proofs.Facts.{IsCommitted, IsSound}
 use Rattle.slate_laws.proofs.Links.{same_or_not, link_here, link_there}
 use Rattle.slate_laws.proofs.OpeningTables.{IsNoTable, tables_else, tables_fine}
-use Rattle.slate_laws.proofs.Paths.{version_fine, boundary_fine, versions_apart, boundary_apart, manifest_elsewhere}
 use Rattle.slate_laws.proofs.Runs.{Inv}
-use Rattle.slate_laws.proofs.Stores.{same_name}
+use Rattle.slate_laws.proofs.Stores.{IsTidy}
 
 -- the objects are the first manifests, and the tables beside them
 record IsMade (specs : List DbSpec) (objects : Firsts) : Type 0 where
@@ -119,21 +121,43 @@ first_read m bytes h = by_bytes (encoded m) refl (is_normal m) refl h
     by_bytes (Ok l) is false normal_m h = absurd cc
     by_bytes (Err e) is b normal_m h = absurd cc
 
-abbrev chain_for : Option DbSpec → Chain
+-- bytes of a first manifest are those that it is encoded to, and it is its own normal form
+pub record HasFirst (specs : List DbSpec) (d : List ℕ) : Type 0 where
+  pub spec : DbSpec
+  pub is : opening_manifests specs d ≡ opening_link spec ∷ []
+  pub encodes : encoded spec.manifest ≡ Ok (listed_or_none (first_bytes spec.manifest))
+  pub normal : normal_manifest spec.manifest ≡ spec.manifest
+
+first_encodes : (m : Manifest) (bytes : List ℕ) → first_bytes m ≡ Some bytes → (encoded m ≡ Ok (listed_or_none (first_bytes m))) × (normal_manifest m ≡ m)
+first_encodes m bytes h = by_bytes (encoded m) refl (is_normal m) refl h
+  where
+    by_bytes : (r : Result (List ℕ) SlateDBError) → encoded m ≡ r → (b : Bool) → is_normal m ≡ b → bytes_where b r ≡ Some bytes → (encoded m ≡ Ok (listed_or_none (first_bytes m))) × (normal_manifest m ≡ m)
+    by_bytes (Ok l) is true normal_m h =
+        let same : l ≡ bytes = cc in
+        (is ∙ (ap (λ (x : List ℕ). Ok x) same ∙ sym (ap (λ (o : Option (List ℕ)). Ok (listed_or_none o)) (ap (bytes_where (is_normal m)) is ∙ (ap (λ (b : Bool). bytes_where b (Ok l)) normal_m ∙ h)))), normal_only m normal_m)
+    by_bytes (Ok l) is false normal_m h = absurd cc
+    by_bytes (Err e) is b normal_m h = absurd cc
+
+abbrev chain_for : Option DbSpec → Chain logs.Manifest
 chain_for None = []
 chain_for (Some spec) = opening_link spec ∷ []
 
-chains_are : (d : List ℕ) (specs : List DbSpec) → opening_chains specs d ≡ chain_for (spec_of d specs)
+chains_are : (d : List ℕ) (specs : List DbSpec) → opening_manifests specs d ≡ chain_for (spec_of d specs)
 chains_are d [] = refl
 chains_are d (spec ∷ specs) = test (bytes_eq d spec.path) (chains_are d specs)
   where
-    test : (b : Bool) → opening_chains specs d ≡ chain_for (spec_of d specs) → (if b then opening_link spec ∷ [] else opening_chains specs d) ≡ chain_for (if b then Some spec else spec_of d specs)
+    test : (b : Bool) → opening_manifests specs d ≡ chain_for (spec_of d specs) → (if b then opening_link spec ∷ [] else opening_manifests specs d) ≡ chain_for (if b then Some spec else spec_of d specs)
     test true h = refl
     test false h = h
 
 no_bytes_there : (o : Option StoredObject) → bytes_of o ≡ None → o ≡ None
 no_bytes_there None h = refl
 no_bytes_there (Some object) h = absurd cc
+
+-- an empty chain needs nothing
+none_needed : (n : ℕ) → IsNeeded records [] n → ⊥
+none_needed n (Greatest pos e) = omega arith
+none_needed n (Named named) = cc
 
 module _ (specs : List DbSpec) (accepted : IsAccepted specs) where
   abbrev w : World
@@ -161,6 +185,12 @@ module _ (specs : List DbSpec) (accepted : IsAccepted specs) where
   beside_tables : (p : ObjectPath) → IsNoTable p → last_at p parts.objects ≡ last_at p parts.made.firsts
   beside_tables p other = tables_else p other parts.made.firsts specs parts.objects names parts.made.added
 
+  -- and where no first manifest stands either, nothing is
+  nothing_at : (p : ObjectPath) → IsNoTable p → ((db : List ℕ) → p ≢ paths.Manifest db 1) → object_at p w.store ≡ None
+  nothing_at p other away =
+      let none = firsts_else p (λ spec named same. away spec.path (same_path p (paths.Manifest spec.path 1) other.fine (named, omega arith) same)) [] specs parts.made.firsts names parts.made.written in
+      no_bytes_there (object_at p w.store) (bytes_at p ∙ ap (λ (o : Option First). bytes_found o None) (beside_tables p other ∙ none))
+
   -- what is known of a database of the cluster
   record Known (d : List ℕ) : Type 0 where
     pub spec : DbSpec
@@ -181,79 +211,95 @@ module _ (specs : List DbSpec) (accepted : IsAccepted specs) where
     named : is_db_path d ≡ true
     named = it.found.named
 
-    abbrev chain : Chain
+    abbrev chain : Chain logs.Manifest
     chain = opening_link it.spec ∷ []
 
-    chain_is : opening_chains specs d ≡ chain
+    chain_is : opening_manifests specs d ≡ chain
     chain_is = chains_are d specs ∙ ap chain_for it.at
 
-    version_other : (k : ℕ) → k < 2 ^ 64 → IsNoTable (version_path ManifestLog d k)
-    version_other k small = record { fine = version_fine d named ManifestLog k small; away = λ db id e. absurd cc }
+    pub has_first : HasFirst specs d
+    has_first =
+        let e = first_encodes it.spec.manifest it.found.bytes it.found.is in
+        record { spec = it.spec; is = chain_is; encodes = e.0; normal = e.1 }
 
-    boundary_other : IsNoTable (boundary_path ManifestLog d)
-    boundary_other = record { fine = boundary_fine d named ManifestLog; away = λ db id e. absurd cc }
+    no_boundary : (k : LogKind) → object_at (boundary_path k d) w.store ≡ None
+    no_boundary logs.Manifest = nothing_at (paths.ManifestBoundary d) (record { fine = named; away = λ db id e. absurd cc }) (λ db e. absurd cc)
+    no_boundary logs.Compactions = nothing_at (paths.RecordBoundary d) (record { fine = named; away = λ db id e. absurd cc }) (λ db e. absurd cc)
 
-    nothing_at : (p : ObjectPath) → IsNoTable p → ((spec : DbSpec) → is_db_path spec.path ≡ true → path_text p ≢ path_text (version_path ManifestLog spec.path 1)) → object_at p w.store ≡ None
-    nothing_at p other away =
-        no_bytes_there (object_at p w.store) (bytes_at p ∙ ap (λ (o : Option First). bytes_found o None) (beside_tables p other ∙ firsts_else p away [] specs parts.made.firsts names parts.made.written))
+    no_record : (n : ℕ) → n < 2 ^ 64 → object_at (paths.Record d n) w.store ≡ None
+    no_record n small = nothing_at (paths.Record d n) (record { fine = (named, small); away = λ db id e. absurd cc }) (λ db e. absurd cc)
 
-    no_boundary : object_at (boundary_path ManifestLog d) w.store ≡ None
-    no_boundary = nothing_at (boundary_path ManifestLog d) boundary_other (λ spec other.
-        ⊎_elim
-        (λ (e : d ≡ spec.path). subst (λ x. path_text (boundary_path ManifestLog d) ≢ path_text (version_path ManifestLog x 1)) e (boundary_apart d named ManifestLog 1 (omega arith)))
-        (λ (ne : d ≢ spec.path). (manifest_elsewhere d named spec.path 1 other (omega arith) ne).boundary)
-        (same_name d spec.path))
+    manifest_other : (n : ℕ) → n < 2 ^ 64 → IsNoTable (paths.Manifest d n)
+    manifest_other n small = record { fine = (named, small); away = λ db id e. absurd cc }
 
-    no_other : (k : ℕ) → k < 2 ^ 64 → k ≢ 1 → object_at (version_path ManifestLog d k) w.store ≡ None
-    no_other k small ne = nothing_at (version_path ManifestLog d k) (version_other k small) (λ spec other.
-        ⊎_elim
-        (λ (e : d ≡ spec.path). subst (λ x. path_text (version_path ManifestLog d k) ≢ path_text (version_path ManifestLog x 1)) e (versions_apart d named ManifestLog k 1 small (omega arith) ne))
-        (λ (off : d ≢ spec.path). (manifest_elsewhere d named spec.path 1 other (omega arith) off).version k small)
-        (same_name d spec.path))
+    no_other : (n : ℕ) → n < 2 ^ 64 → n ≢ 1 → object_at (paths.Manifest d n) w.store ≡ None
+    no_other n small ne = nothing_at (paths.Manifest d n) (manifest_other n small) (λ db e. ne cc)
 
-    first_there : bytes_of (object_at (version_path ManifestLog d 1) w.store) ≡ Some (listed_or_none (first_bytes it.spec.manifest))
+    first_there : bytes_of (object_at (paths.Manifest d 1) w.store) ≡ Some (listed_or_none (first_bytes it.spec.manifest))
     first_there =
-        bytes_at (version_path ManifestLog d 1)
-        ∙ (ap (λ (o : Option First). bytes_found o None) (beside_tables (version_path ManifestLog d 1) (version_other 1 (omega arith)) ∙ firsts_found d named [] [] specs parts.tallies parts.made.firsts names parts.tallied parts.made.written (λ h. refl))
+        bytes_at (paths.Manifest d 1)
+        ∙ (ap (λ (o : Option First). bytes_found o None) (beside_tables (paths.Manifest d 1) (manifest_other 1 (omega arith)) ∙ firsts_found d named [] [] specs parts.tallies parts.made.firsts names parts.tallied parts.made.written (λ h. refl))
         ∙ ap (λ (o : Option DbSpec). bytes_found (first_for o None) None) it.at)
 
-    first_stands : (k : ℕ) → 0 < k → k < 2 ^ 64 → AgreesAt manifests d w.store chain k
-    first_stands k pos small =
+    first_stands : (n : ℕ) → 0 < n → n < 2 ^ 64 → AgreesAt manifests d w.store chain n
+    first_stands n pos small =
         ⊎_elim
-        (λ (e : 1 ≡ k). subst (λ j. AgreesAt manifests d w.store chain j) e (first_there ∙ sym (ap link_bytes (link_here 1 (opening_link it.spec) [] refl))))
-        (λ (ne : 1 ≢ k). ap bytes_of (no_other k small (λ (e : k ≡ 1). ne (sym e))) ∙ sym (ap link_bytes (link_there k (opening_link it.spec) [] ne)))
-        (same_or_not 1 k)
+        (λ (e : 1 ≡ n). subst (λ j. AgreesAt manifests d w.store chain j) e (first_there ∙ sym (ap link_bytes (link_here 1 (opening_link it.spec) [] refl))))
+        (λ (ne : 1 ≢ n). ap bytes_of (no_other n small (λ (e : n ≡ 1). ne (sym e))) ∙ sym (ap link_bytes (link_there n (opening_link it.spec) [] ne)))
+        (same_or_not 1 n)
 
-    first_committed : (k : ℕ) → k ≡ 1 → IsCommitted manifests d w.store chain k
-    first_committed k e = subst (λ j. IsCommitted manifests d w.store chain j) (sym e) (record { link = opening_link it.spec; at = link_here 1 (opening_link it.spec) [] refl; stands = first_there })
+    first_committed : (n : ℕ) → n ≡ 1 → IsCommitted manifests d w.store chain n
+    first_committed n e = subst (λ j. IsCommitted manifests d w.store chain j) (sym e) (record { link = opening_link it.spec; at = link_here 1 (opening_link it.spec) [] refl; stands = first_there })
 
-    needed : (k : ℕ) → IsNeeded manifests chain k → IsCommitted manifests d w.store chain k
-    needed k (Greatest e) = first_committed k e
-    needed k (Named named) = first_committed k (names_first k it.spec.manifest.core.checkpoints (own_names d it.spec specs parts.own it.at) named)
+    needed : (n : ℕ) → IsNeeded manifests chain n → IsCommitted manifests d w.store chain n
+    needed n (Greatest pos e) = first_committed n e
+    needed n (Named named) = first_committed n (names_first n it.spec.manifest.core.checkpoints (own_names d it.spec specs parts.own it.at) named)
 
-    sound : IsSound manifests d w.store chain
-    sound = record {
-      chain = record { number = refl; value = ap (λ (o : Option (List ℕ)). decoded_manifest (listed_or_none o)) it.found.is ∙ first_read it.spec.manifest it.found.bytes it.found.is };
-      some = omega arith;
+    manifests_sound : IsSound manifests d w.store chain
+    manifests_sound = record {
+      chain = Opens refl refl (ap (λ (o : Option (List ℕ)). decoded_manifest (listed_or_none o)) it.found.is ∙ first_read it.spec.manifest it.found.bytes it.found.is);
       small = omega arith;
       bound = 0;
-      read = ap boundary_got no_boundary;
-      below = omega arith;
+      read = ap boundary_got (no_boundary logs.Manifest);
+      below = λ lt. absurd (omega arith);
       above = first_stands;
       needed = needed;
-      tagged = λ o at. absurd (cc (no_boundary, at));
+      tagged = λ o at. absurd (cc (no_boundary logs.Manifest, at));
     }
 
-    tally_top : (t : Tally) → tally_of d w.tallies ≡ Some t → t.manifest ≡ top (opening_chains specs d)
-    tally_top t h =
-        let same : first_tally ≡ t = cc (tally_is d ∙ ap (λ (o : Option DbSpec). tally_for o None) it.at, h) in
-        sym (ap (λ (x : Tally). x.manifest) same) ∙ sym (ap top chain_is)
+    sound : (k : LogKind) → IsSound (log_of k) d w.store (opening_chains specs k d)
+    sound logs.Manifest = subst (λ (c : Chain logs.Manifest). IsSound manifests d w.store c) (sym chain_is) manifests_sound
+    sound logs.Compactions = record {
+      chain = tt;
+      small = omega arith;
+      bound = 0;
+      read = ap boundary_got (no_boundary logs.Compactions);
+      below = λ lt. absurd (omega arith);
+      above = λ n pos small. ap bytes_of (no_record n small);
+      needed = λ n h. absurd (none_needed n h);
+      tagged = λ o at. absurd (cc (no_boundary logs.Compactions, at));
+    }
+
+    tally_top : (k : LogKind) (t : Tally) → tally_of d w.tallies ≡ Some t → number_in k t ≡ top (opening_chains specs k d)
+    tally_top k t h = by_log k
+      where
+        same : first_tally ≡ t
+        same = cc (tally_is d ∙ ap (λ (o : Option DbSpec). tally_for o None) it.at, h)
+
+        by_log : (k : LogKind) → number_in k t ≡ top (opening_chains specs k d)
+        by_log logs.Manifest = sym (ap (λ (x : Tally). x.manifest) same) ∙ sym (ap top chain_is)
+        by_log logs.Compactions = sym (ap (λ (x : Tally). x.compactions) same)
+
+  -- nothing stands at the number 0
+  pub no_zero : (k : LogKind) (d : List ℕ) → HasDb w d → object_at (version_path k d 0) w.store ≡ None
+  no_zero logs.Manifest d has = no_other d has 0 (omega arith) (omega arith)
+  no_zero logs.Compactions d has = no_record d has 0 (omega arith)
 
   pub opening_inv : Inv w (opening_chains specs)
   opening_inv = record {
-    tidy = subst (λ (s : Store). Rattle.slate_laws.proofs.Stores.IsTidy s.objects) (sym store_is) (store_tidy no_objects parts.objects (tables_fine parts.made.firsts specs parts.objects names parts.made.added (firsts_fine [] specs parts.made.firsts names parts.made.written tt)) tt);
+    tidy = subst (λ (s : Store). IsTidy s.objects) (sym store_is) (store_tidy no_objects parts.objects (tables_fine parts.made.firsts specs parts.objects names parts.made.added (firsts_fine [] specs parts.made.firsts names parts.made.written tt)) tt);
     named = λ d h. named d h;
-    logs = λ d h. subst (λ (c : Chain). IsSound manifests d w.store c) (sym (chain_is d h)) (sound d h);
-    told = λ d t h. tally_top d (ap is_some h) t h;
+    logs = λ k d h. sound d h k;
+    told = λ k d t h. tally_top d (ap is_some h) k t h;
     parties = λ n p h. absurd cc;
   }

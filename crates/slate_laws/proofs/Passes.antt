@@ -1,38 +1,47 @@
 -- One step of a pass over the manifests: what it leaves of the log, and what it goes on with.
-use Rattle.std.proofs.Common.{◌≡◌, ℕ, ℤ, ◌<◌, ◌≤◌, ◌^◌, max, nat_le, nat_lt, Bool, true, false, List, [], ◌∷◌, Option, Some, None, IfSome, Result, Ok, Err, refl, sym, ap, ◌∙◌, subst, arith}
+use Rattle.std.proofs.Common.{◌≡◌, ℕ, ℤ, ◌<◌, ◌≤◌, ◌^◌, max, nat_le, nat_lt, Bool, true, false, List, [], ◌∷◌, map, filter, length, Option, Some, None, IfSome, Result, Ok, Err, refl, sym, ap, ◌∙◌, subst, arith, cond}
 use Rattle.std.proofs.lemmas.Bool.Decides.{nat_tests}
-use Rattle.std.specs.Prelude.{if◌then◌else◌, ◌&&◌, not}
+use Rattle.std.specs.Prelude.{if◌then◌else◌, ◌&&◌, not, bytes_eq}
 use Rattle.slate_ids.specs.Ids.{is_db_path}
 use Rattle.slate_ids.specs.declared.error.SlateDBError.{SlateDBError}
 use Rattle.slate_ids.specs.declared.error.SlateDBError.TheVariants.{ManifestMissing}
+use Rattle.slate_ids.specs.declared.object_path.ObjectPath.{ObjectPath}
+use Rattle.slate_ids.specs.declared.object_path.ObjectPath.TheVariants as paths
 use Rattle.slate_updates.specs.Checkpoints.{is_named}
 use Rattle.slate_manifest_parts.specs.Decoding.{decoded_manifest}
 use Rattle.slate_model.specs.declared.checkpoint.Checkpoint.{Checkpoint}
 use Rattle.slate_model.specs.declared.manifest.Manifest.{Manifest}
+use Rattle.slate_store.specs.Folders.{is_in}
 use Rattle.slate_store.specs.Machines.{Goes, Stay, End}
-use Rattle.slate_store.specs.Store.{Store, Outcome, object_at, removed, listed, effect}
+use Rattle.slate_store.specs.Store.{Store, Outcome, object_at, metadata, removed, listed, effect}
+use Rattle.slate_store.specs.declared.list_dir.ListDir.TheVariants as folders
 use Rattle.slate_store.specs.declared.mark.Mark.{Mark}
 use Rattle.slate_store.specs.declared.mark.Mark.TheVariants.{Good, Fail, Lost}
 use Rattle.slate_store.specs.declared.object.ObjectMetadata.{ObjectMetadata}
 use Rattle.slate_store.specs.declared.object.StoredObject.{StoredObject}
 use Rattle.slate_store.specs.declared.store_answer.StoreAnswer.{StoreAnswer}
+use Rattle.slate_store.specs.declared.store_call.StoreCall.TheVariants.{Delete}
 use Rattle.slate_log.specs.AdvancePhase.{AdvanceGoes, advance_asks, advance_goes}
-use Rattle.slate_log.specs.Boundary.{greater, greatest}
-use Rattle.slate_log.specs.LogPaths.{version_path, folder}
+use Rattle.slate_log.specs.Boundary.{greater, greatest_from, greatest}
+use Rattle.slate_log.specs.LogPaths.{version_path, number_of, folder}
 use Rattle.slate_log.specs.declared.log_kind.LogKind.TheVariants.{Manifest as ManifestLog}
-use Rattle.slate_gc.specs.Pass.{pass_asks, pass_goes, listed_goes, got_goes, candidates_by, decoded_goes, bounded_goes, bounded_next, moves_to, deletes_next, advanced_goes}
-use Rattle.slate_gc.specs.Picks.{Dated, is_candidate, is_aged, candidates, greatest_number, picks}
+use Rattle.slate_gc.specs.Deletes.{counts_of}
+use Rattle.slate_gc.specs.Filter.{lies_at, allowed}
+use Rattle.slate_gc.specs.Pass.{pass_asks, pass_goes, listed_goes, got_goes, decoded_goes, bounded_goes, bounded_next, moves_to, deletes_next, advanced_goes}
+use Rattle.slate_gc.specs.Picks.{is_unneeded, unneeded, is_aged, aged, picks}
+use Rattle.slate_gc.specs.declared.filter_word.FilterWord.{FilterWord}
+use Rattle.slate_gc.specs.declared.filter_word.FilterWord.TheVariants.{All, Nothing, Paths}
 use Rattle.slate_gc.specs.declared.pass_counts.PassCounts.{PassCounts}
 use Rattle.slate_gc.specs.declared.pass_options.PassOptions.{PassOptions}
 use Rattle.slate_gc.specs.declared.pass_phase.PassPhase.{PassPhase}
 use Rattle.slate_gc.specs.declared.pass_phase.PassPhase.TheVariants.{Listing, Getting, Bounding, Advancing, Deleting, Over}
 use Rattle.slate_protocol.specs.Chains.{top, bound_in}
-use Rattle.slate_protocol.specs.Holding.{Each}
+use Rattle.slate_protocol.specs.Holding.{Each, IsManifestThat}
 use Rattle.slate_protocol.specs.Logs.{Author, Chain, manifests}
-use Rattle.slate_laws.proofs.Stores.{IsTidy}
-use Rattle.slate_laws.proofs.Lists.{listed_small}
-use Rattle.slate_laws.proofs.Links.{at_most}
 use Rattle.slate_protocol.specs.Reach.{IsSpare}
+use Rattle.slate_laws.proofs.Stores.{IsTidy, decides}
+use Rattle.slate_laws.proofs.Lists.{EachNumber, greatest_has, listed_small}
+use Rattle.slate_laws.proofs.Links.{at_most}
 use Rattle.slate_laws.proofs.Facts.{IsSound, IsValue, Holds, IsReached, AdvanceKnows, AdvanceBrings, target, Grows}
 use Rattle.slate_laws.proofs.Frame.{kept_holds, kept_reached, kept_advance}
 use Rattle.slate_laws.proofs.Manifests.{manifests_log}
@@ -42,118 +51,152 @@ use Rattle.slate_laws.proofs.Spares.{spare_below}
 use Rattle.slate_laws.proofs.Advances.{advance_step}
 use Rattle.slate_laws.proofs.Turns.{got_holds, above_test}
 
-pub each_map : (P Q : ℕ → Type 0) → ((n : ℕ) → P n → Q n) → (ns : List ℕ) → Each P ns → Each Q ns
-each_map P Q f [] h = tt
-each_map P Q f (n ∷ ns) h = (f n h.0, each_map P Q f ns h.1)
+abbrev pub ManifestChain : Type 0
+ManifestChain = Chain ManifestLog
 
-pub each_both : (P Q : ℕ → Type 0) → (ns : List ℕ) → Each P ns → Each Q ns → Each (λ n. P n × Q n) ns
-each_both P Q [] h k = tt
-each_both P Q (n ∷ ns) h k = ((h.0, k.0), each_both P Q ns h.1 k.1)
+-- ---- what each object of a list has
+
+pub each_map : (P Q : ObjectMetadata → Type 0) → ((m : ObjectMetadata) → P m → Q m) → (ms : List ObjectMetadata) → Each P ms → Each Q ms
+each_map P Q f [] h = tt
+each_map P Q f (m ∷ ms) h = (f m h.0, each_map P Q f ms h.1)
+
+-- each is a manifest of a database at a number that has it
+abbrev pub EachIs : List ℕ → (ℕ → Type 0) → List ObjectMetadata → Type 0
+EachIs db P ms = Each (IsManifestThat db P) ms
+
+pub each_is : (db : List ℕ) (P Q : ℕ → Type 0) → ((n : ℕ) → P n → Q n) → (ms : List ObjectMetadata) → EachIs db P ms → EachIs db Q ms
+each_is db P Q f ms h = each_map (IsManifestThat db P) (IsManifestThat db Q) (λ m w. record { number = w.number; is = w.is; has = f w.number w.has }) ms h
+
+-- what a filter keeps has it, and what the filter asks
+each_tested : (P Q : ObjectMetadata → Type 0) (t : ObjectMetadata → Bool) → ((m : ObjectMetadata) → t m ≡ true → P m → Q m) → (ms : List ObjectMetadata) → Each P ms → Each Q (filter t ms)
+each_tested P Q t f [] h = tt
+each_tested P Q t f (m ∷ ms) h = test (t m) refl (each_tested P Q t f ms h.1)
+  where
+    test : (b : Bool) → t m ≡ b → Each Q (filter t ms) → Each Q (cond b (m ∷ filter t ms) (filter t ms))
+    test true is rest = (f m is h.0, rest)
+    test false is rest = rest
+
+pub each_kept : (P : ObjectMetadata → Type 0) (t : ObjectMetadata → Bool) (ms : List ObjectMetadata) → Each P ms → Each P (filter t ms)
+each_kept P t ms h = each_tested P P t (λ m is w. w) ms h
+
+-- ---- what a list finds
+
+-- a path that the folder of manifests lists is a manifest's
+in_folder : (db : List ℕ) (o : ObjectPath × StoredObject) (p : ObjectPath) → o.0 ≡ p → is_in (folders.Manifests db) p ≡ true → IsManifestThat db (λ n. Unit {0}) (metadata o)
+in_folder db o (paths.Manifest of n) e h = let same : db ≡ of = (decides db of).0 h in record { number = n; is = e ∙ sym (ap (λ d. paths.Manifest d n) same); has = tt }
+in_folder db o (paths.Record of n) e h = absurd cc
+in_folder db o (paths.ManifestBoundary of) e h = absurd cc
+in_folder db o (paths.RecordBoundary of) e h = absurd cc
+in_folder db o (paths.Table of id) e h = absurd cc
+in_folder db o (paths.Wal of n) e h = absurd cc
+in_folder db o (paths.Marker of) e h = absurd cc
+in_folder db o (paths.Other of rest) e h = absurd cc
+
+pub found_manifests : (db : List ℕ) (es : List (ObjectPath × StoredObject)) → EachIs db (λ n. Unit {0}) (map metadata (filter (λ o. is_in (folders.Manifests db) o.0) es))
+found_manifests db [] = tt
+found_manifests db (e ∷ es) = test (is_in (folders.Manifests db) e.0) refl (found_manifests db es)
+  where
+    test : (b : Bool) → is_in (folders.Manifests db) e.0 ≡ b → EachIs db (λ n. Unit {0}) (map metadata (filter (λ o. is_in (folders.Manifests db) o.0) es))
+        → EachIs db (λ n. Unit {0}) (map metadata (cond b (e ∷ filter (λ o. is_in (folders.Manifests db) o.0) es) (filter (λ o. is_in (folders.Manifests db) o.0) es)))
+    test true is rest = (in_folder db e e.0 refl is, rest)
+    test false is rest = rest
 
 -- ---- candidates, and the greatest of them
 
-first_of : (a b c : Bool) → (a && b && c) ≡ true → a ≡ true
-first_of true b c h = refl
-first_of false b c h = absurd cc
+first_of : (a b : Bool) → (a && b) ≡ true → a ≡ true
+first_of true b h = refl
+first_of false b h = absurd cc
 
-second_of : (a b c : Bool) → (a && not b && c) ≡ true → b ≡ false
-second_of a false c h = refl
-second_of true true c h = absurd cc
-second_of false true c h = absurd cc
+second_of : (a b : Bool) → (a && not b) ≡ true → b ≡ false
+second_of a false h = refl
+second_of true true h = absurd cc
+second_of false true h = absurd cc
 
 less : (a b : ℕ) → nat_lt a b ≡ true → a < b
 less a b h = grind (arith, nat_tests)
 
-module _ (min_age : ℕ) (now : ℤ) (greatest : ℕ) (cs : List Checkpoint) where
+module _ (db : List ℕ) (n : ℕ) (cs : List Checkpoint) where
+  unneeded_is : (m : ObjectMetadata) → is_unneeded n cs (number_of ManifestLog m.location) ≡ true → IsManifestThat db (λ k. Unit {0}) m → IsManifestThat db (λ k. (k < n) × (is_named k cs ≡ false)) m
+  unneeded_is m is w =
+      let at : is_unneeded n cs (Some w.number) ≡ true = sym (ap (λ p. is_unneeded n cs (number_of ManifestLog p)) w.is) ∙ is in
+      record { number = w.number; is = w.is; has = (less w.number n (first_of (nat_lt w.number n) (not (is_named w.number cs)) at), second_of (nat_lt w.number n) (is_named w.number cs) at) }
+
   -- a candidate is below the greatest listed number, and no checkpoint names it
-  pub candidates_below : (ds : List Dated) → Each (λ k. (k < greatest) × (is_named k cs ≡ false)) (candidates min_age now greatest cs ds)
-  candidates_below [] = tt
-  candidates_below (d ∷ ds) = test (is_candidate min_age now greatest cs d) refl (candidates_below ds)
-    where
-      test : (b : Bool) → is_candidate min_age now greatest cs d ≡ b → Each (λ k. (k < greatest) × (is_named k cs ≡ false)) (candidates min_age now greatest cs ds)
-          → Each (λ k. (k < greatest) × (is_named k cs ≡ false)) (if b then d.0 ∷ candidates min_age now greatest cs ds else candidates min_age now greatest cs ds)
-      test true is rest = (
-        (less d.0 greatest (first_of (nat_lt d.0 greatest) (not (is_named d.0 cs)) (is_aged min_age now d.1) is), second_of (nat_lt d.0 greatest) (is_named d.0 cs) (is_aged min_age now d.1) is),
-        rest,
-      )
-      test false is rest = rest
+  pub unneeded_below : (found : List ObjectMetadata) → EachIs db (λ k. Unit {0}) found → EachIs db (λ k. (k < n) × (is_named k cs ≡ false)) (unneeded n cs found)
+  unneeded_below found h = each_tested (IsManifestThat db (λ k. Unit {0})) (IsManifestThat db (λ k. (k < n) × (is_named k cs ≡ false))) (λ m. is_unneeded n cs (number_of ManifestLog m.location)) unneeded_is found h
 
--- there is a greatest one
-pub some_greatest : (b : ℕ) (ns : List ℕ) → greatest_number (b ∷ ns) ≡ None → ⊥
-some_greatest b ns e = by_rest (greatest_number ns) e
-  where
-    by_rest : (o : Option ℕ) → greater (Some b) o ≡ None → ⊥
-    by_rest None e = absurd cc
-    by_rest (Some j) e = absurd cc
+-- the numbers of manifests
+each_number : (db : List ℕ) (P : ℕ → Type 0) (ms : List ObjectMetadata) → EachIs db P ms → EachNumber P ManifestLog ms
+each_number db P [] h = tt
+each_number db P (m ∷ ms) h = (subst (λ p. IfSome (number_of ManifestLog p) P) (sym h.0.is) h.0.has, each_number db P ms h.1)
 
--- the greatest number is one of them, and none is above it
-greatest_is : (n k : ℕ) (ns : List ℕ) → Each (λ j. j < n) ns → greatest_number ns ≡ Some k → k < n
-greatest_is n k [] h e = absurd cc
-greatest_is n k (a ∷ []) h e = let same : a ≡ k = cc in let lt = h.0 in omega arith
-greatest_is n k (a ∷ b ∷ ns) h e = by_rest (greatest_number (b ∷ ns)) refl e (λ j is. greatest_is n j (b ∷ ns) h.1 is)
-  where
-    both : (j : ℕ) → a < n → j < n → max a j < n
-    both j lt below = grind arith
+both_at_most : (k : ℕ) (a b : Option ℕ) → IfSome (greater a b) (λ j. j ≤ k) → IfSome a (λ j. j ≤ k) × IfSome b (λ j. j ≤ k)
+both_at_most k None b h = (tt, h)
+both_at_most k (Some a) None h = (h, tt)
+both_at_most k (Some a) (Some b) h = (grind arith, grind arith)
 
-    by_rest : (o : Option ℕ) → greatest_number (b ∷ ns) ≡ o → greater (Some a) o ≡ Some k → ((j : ℕ) → greatest_number (b ∷ ns) ≡ Some j → j < n) → k < n
-    by_rest None is e rest = absurd (some_greatest b ns is)
-    by_rest (Some j) is e rest = let same : max a j ≡ k = cc in subst (λ i. i < n) same (both j h.0 (rest j is))
+from_most : (k : ℕ) (best : Option ℕ) (ms : List ObjectMetadata) → greatest_from ManifestLog best ms ≡ Some k → IfSome best (λ j. j ≤ k) × EachNumber (λ j. j ≤ k) ManifestLog ms
+from_most k best [] e = (subst (λ o. IfSome o (λ j. j ≤ k)) (sym e) (omega arith), tt)
+from_most k best (m ∷ ms) e =
+    let rest = from_most k (greater best (number_of ManifestLog m.location)) ms e in
+    let both = both_at_most k best (number_of ManifestLog m.location) rest.0 in
+    (both.0, (both.1, rest.1))
 
-greatest_most : (k : ℕ) (ns : List ℕ) → greatest_number ns ≡ Some k → Each (λ j. j ≤ k) ns
-greatest_most k [] e = absurd cc
-greatest_most k (a ∷ []) e = let same : a ≡ k = cc in (omega arith, tt)
-greatest_most k (a ∷ b ∷ ns) e = by_rest (greatest_number (b ∷ ns)) refl e (λ j is. greatest_most j (b ∷ ns) is)
-  where
-    up : (j : ℕ) → max a j ≡ k → (a ≤ k) × (j ≤ k)
-    up j e = (grind arith, grind arith)
-
-    by_rest : (o : Option ℕ) → greatest_number (b ∷ ns) ≡ o → greater (Some a) o ≡ Some k → ((j : ℕ) → greatest_number (b ∷ ns) ≡ Some j → Each (λ i. i ≤ j) (b ∷ ns)) → Each (λ j. j ≤ k) (a ∷ b ∷ ns)
-    by_rest None is e rest = absurd (some_greatest b ns is)
-    by_rest (Some j) is e rest = let same : max a j ≡ k = cc in let both = up j same in (both.0, each_map (λ i. i ≤ j) (λ i. i ≤ k) (λ i le. let le' = both.1 in omega arith) (b ∷ ns) (rest j is))
+-- no number of a list is above the greatest
+with_most : (db : List ℕ) (P : ℕ → Type 0) (k : ℕ) (ms : List ObjectMetadata) → EachIs db P ms → EachNumber (λ j. j ≤ k) ManifestLog ms → EachIs db (λ j. (j ≤ k) × P j) ms
+with_most db P k [] h e = tt
+with_most db P k (m ∷ ms) h e =
+    let le : h.0.number ≤ k = subst (λ p. IfSome (number_of ManifestLog p) (λ j. j ≤ k)) h.0.is e.0 in
+    (record { number = h.0.number; is = h.0.is; has = (le, h.0.has) }, with_most db P k ms h.1 e.1)
 
 -- what is picked is among the candidates
-picks_have : (P : ℕ → Type 0) (options : PassOptions) (ns : List ℕ) → Each P ns → Each P (picks options ns)
-picks_have P options ns h = test (options.allows && not options.dry_run)
+pub picks_have : (P : ObjectMetadata → Type 0) (options : PassOptions) (ms : List ObjectMetadata) → Each P ms → Each P (picks options ms)
+picks_have P options ms h = test options.dry_run (by_word options.filter)
   where
-    test : (b : Bool) → Each P (if b then ns else [])
-    test true = h
-    test false = tt
+    by_word : (word : FilterWord) → Each P (allowed word ms)
+    by_word All = h
+    by_word Nothing = tt
+    by_word (Paths ps) = each_kept P (lies_at ps) ms h
+
+    test : (b : Bool) → Each P (allowed options.filter ms) → Each P (if b then [] else allowed options.filter ms)
+    test true w = tt
+    test false w = w
 
 -- ---- what a pass knows
 
 -- the greatest listed version was read, and the candidates are below it
-pub record IsRead (s : Store) (c : Chain) (db : List ℕ) (n : ℕ) (ns : List ℕ) : Type 0 where
+pub record IsRead (s : Store) (c : ManifestChain) (db : List ℕ) (n : ℕ) (candidates : List ObjectMetadata) : Type 0 where
   pub value : Manifest
   pub holds : Holds manifests db s c n value
-  pub below : Each (λ k. (k < n) × (is_named k value.core.checkpoints ≡ false)) ns
+  pub below : EachIs db (λ k. (k < n) × (is_named k value.core.checkpoints ≡ false)) candidates
 
--- what a pass knows in each phase: what is left to be deleted is spare, and at or below the boundary
-abbrev pub PassKnows : Store → Chain → List ℕ → PassPhase → Type 0
+-- what a pass knows in each phase: what it picked is spare, and what is left to be deleted is at or below the boundary
+abbrev pub PassKnows : Store → ManifestChain → List ℕ → PassPhase → Type 0
 PassKnows s c db Listing = Unit {0}
-PassKnows s c db (Getting now n listed) = n < 2 ^ 64
-PassKnows s c db (Bounding n ns) = IsRead s c db n ns
-PassKnows s c db (Advancing phase ns) = AdvanceKnows manifests db s c phase × Each (λ k. (k ≤ target phase) × IsSpare manifests c k) ns
-PassKnows s c db (Deleting ns counts) = Each (λ k. IsReached manifests db s k × IsSpare manifests c k) ns
+PassKnows s c db (Getting n found) = (n < 2 ^ 64) × EachIs db (λ k. Unit {0}) found
+PassKnows s c db (Bounding n candidates) = IsRead s c db n candidates
+PassKnows s c db (Advancing phase picked) = AdvanceKnows manifests db s c phase × EachIs db (λ k. (k ≤ target phase) × IsSpare manifests c k) picked
+PassKnows s c db (Deleting left counts) = EachIs db (λ k. IsReached manifests db s k × IsSpare manifests c k) left
 PassKnows s c db Over = ⊥
 
 -- what a step of a pass brings
-abbrev pub PassBrings : Store → Chain → List ℕ → Goes PassPhase PassCounts → Type 0
+abbrev pub PassBrings : Store → ManifestChain → List ℕ → Goes PassPhase PassCounts → Type 0
 PassBrings s c db (Stay phase) = PassKnows s c db phase
 PassBrings s c db (End phase r) = Unit {0}
 
-pub kept_pass : (s : Store) (c : Chain) (s' : Store) (c' : Chain) (db : List ℕ) → Grows manifests db s c s' c' → (phase : PassPhase) → PassKnows s c db phase → PassKnows s' c' db phase
+pub kept_pass : (s : Store) (c : ManifestChain) (s' : Store) (c' : ManifestChain) (db : List ℕ) → Grows manifests db s c s' c' → (phase : PassPhase) → PassKnows s c db phase → PassKnows s' c' db phase
 kept_pass s c s' c' db g Listing h = h
-kept_pass s c s' c' db g (Getting now n listed) h = h
-kept_pass s c s' c' db g (Bounding n ns) h = record { value = h.value; holds = kept_holds manifests db s c s' c' g n h.value h.holds; below = h.below }
-kept_pass s c s' c' db g (Advancing phase ns) h = (
+kept_pass s c s' c' db g (Getting n found) h = h
+kept_pass s c s' c' db g (Bounding n candidates) h = record { value = h.value; holds = kept_holds manifests db s c s' c' g n h.value h.holds; below = h.below }
+kept_pass s c s' c' db g (Advancing phase picked) h = (
   kept_advance manifests db s c s' c' g phase h.0,
-  each_map (λ k. (k ≤ target phase) × IsSpare manifests c k) (λ k. (k ≤ target phase) × IsSpare manifests c' k) (λ k w. (w.0, g.spares k w.1)) ns h.1,
+  each_is db (λ k. (k ≤ target phase) × IsSpare manifests c k) (λ k. (k ≤ target phase) × IsSpare manifests c' k) (λ k w. (w.0, g.spares k w.1)) picked h.1,
 )
-kept_pass s c s' c' db g (Deleting ns counts) h =
-    each_map (λ k. IsReached manifests db s k × IsSpare manifests c k) (λ k. IsReached manifests db s' k × IsSpare manifests c' k) (λ k w. (kept_reached manifests db s c s' c' g k w.0, g.spares k w.1)) ns h
+kept_pass s c s' c' db g (Deleting left counts) h =
+    each_is db (λ k. IsReached manifests db s k × IsSpare manifests c k) (λ k. IsReached manifests db s' k × IsSpare manifests c' k) (λ k w. (kept_reached manifests db s c s' c' g k w.0, g.spares k w.1)) left h
 kept_pass s c s' c' db g Over h = h
 
-module _ (db : List ℕ) (named : is_db_path db ≡ true) (author : Author) (options : PassOptions) (s : Store) (c : Chain) (i : IsSound manifests db s c) (tidy : IsTidy s.objects) where
+module _ (db : List ℕ) (named : is_db_path db ≡ true) (author : Author) (options : PassOptions) (s : Store) (c : ManifestChain) (i : IsSound manifests db s c) (tidy : IsTidy s.objects) where
   -- what a step of a pass leaves and brings
   pub record AfterPass (phase : PassPhase) (moment : ℤ) (o : Outcome) : Type 0 where
     pub leaves : Leaves manifests db author s c o.store c
@@ -162,65 +205,74 @@ module _ (db : List ℕ) (named : is_db_path db ≡ true) (author : Author) (opt
   quiet : (phase : PassPhase) (moment : ℤ) (answer : StoreAnswer) → PassBrings s c db (pass_goes decoded_manifest options moment phase answer) → AfterPass phase moment (record { store = s; answer = answer })
   quiet phase moment answer b = record { leaves = leaves_not manifests db author s c i; brings = b }
 
-  listed_brings : (now : ℤ) (found : List ObjectMetadata) (n : Option ℕ) → IfSome n (λ k. k < 2 ^ 64) → PassBrings s c db (listed_goes now found n)
-  listed_brings now found None h = tt
-  listed_brings now found (Some n) h = h
+  listed_brings : (now : ℤ) (found : List ObjectMetadata) (n : Option ℕ) → EachIs db (λ k. Unit {0}) found → IfSome n (λ k. k < 2 ^ 64) → PassBrings s c db (listed_goes options.min_age now found n)
+  listed_brings now found None each h = tt
+  listed_brings now found (Some n) each h = (h, each_kept (IsManifestThat db (λ k. Unit {0})) (λ m. is_aged options.min_age now m.last_modified) found each)
 
-  decoded_brings : (now : ℤ) (n : ℕ) (dates : List Dated) (object : StoredObject) (r : Result Manifest SlateDBError) → n < 2 ^ 64 → object_at (version_path ManifestLog db n) s ≡ Some object → decoded_manifest object.bytes ≡ r
-      → PassBrings s c db (decoded_goes n (candidates_by options now n dates r))
-  decoded_brings now n dates object (Ok m) small at is = record {
+  decoded_brings : (n : ℕ) (found : List ObjectMetadata) (object : StoredObject) (r : Result Manifest SlateDBError) → (n < 2 ^ 64) × EachIs db (λ k. Unit {0}) found → object_at (version_path ManifestLog db n) s ≡ Some object → decoded_manifest object.bytes ≡ r
+      → PassBrings s c db (decoded_goes n found r)
+  decoded_brings n found object (Ok m) h at is = record {
     value = m;
-    holds = got_holds manifests manifests_log db s c i n object m small at is;
-    below = candidates_below options.min_age now n m.core.checkpoints dates;
+    holds = got_holds manifests manifests_log db s c i n object m h.0 at is;
+    below = unneeded_below db n m.core.checkpoints found h.1;
   }
-  decoded_brings now n dates object (Err e) small at is = tt
+  decoded_brings n found object (Err e) h at is = tt
 
-  got_brings : (now : ℤ) (n : ℕ) (dates : List Dated) (o : Option StoredObject) → n < 2 ^ 64 → object_at (version_path ManifestLog db n) s ≡ o → PassBrings s c db (got_goes decoded_manifest options now n dates o)
-  got_brings now n dates None small at = tt
-  got_brings now n dates (Some object) small at = decoded_brings now n dates object (decoded_manifest object.bytes) small at refl
+  got_brings : (n : ℕ) (found : List ObjectMetadata) (o : Option StoredObject) → (n < 2 ^ 64) × EachIs db (λ k. Unit {0}) found → object_at (version_path ManifestLog db n) s ≡ o → PassBrings s c db (got_goes decoded_manifest n found o)
+  got_brings n found None h at = tt
+  got_brings n found (Some object) h at = decoded_brings n found object (decoded_manifest object.bytes) h at refl
+
+  below_greatest : (n k : ℕ) (ms : List ObjectMetadata) → EachIs db (λ j. j < n) ms → greatest ManifestLog ms ≡ Some k → k < n
+  below_greatest n k ms h e = subst (λ o. IfSome o (λ j. j < n)) e (greatest_has (λ j. j < n) ManifestLog ms (each_number db (λ j. j < n) ms h))
 
   -- the greatest candidate is below the greatest committed number
-  next_brings : (n : ℕ) (ns : List ℕ) (k : Option ℕ) → greatest_number ns ≡ k → n ≤ top c → Each (λ j. j < n) ns → Each (IsSpare manifests c) ns → PassBrings s c db (moves_to ns k)
-  next_brings n ns None e le below spare = tt
-  next_brings n ns (Some k) e le below spare = let lt = greatest_is n k ns below e in (omega arith, each_both (λ j. j ≤ k) (IsSpare manifests c) ns (greatest_most k ns e) spare)
+  next_brings : (n : ℕ) (candidates : List ObjectMetadata) (k : Option ℕ) → greatest ManifestLog candidates ≡ k → n ≤ top c → EachIs db (λ j. j < n) candidates → EachIs db (λ j. IsSpare manifests c j) candidates → PassBrings s c db (moves_to (picks options candidates) k)
+  next_brings n candidates None e le below spare = tt
+  next_brings n candidates (Some k) e le below spare =
+      let lt = below_greatest n k candidates below e in (
+        omega arith,
+        picks_have (IsManifestThat db (λ j. (j ≤ k) × IsSpare manifests c j)) options candidates (with_most db (λ j. IsSpare manifests c j) k candidates spare (from_most k None candidates e).1),
+      )
 
   -- what the version that was read doesn't name is spare, where it is committed
-  all_spare : (n : ℕ) (m : Manifest) (ns : List ℕ) → IsValue c n m → Each (λ k. (k < n) × (is_named k m.core.checkpoints ≡ false)) ns → Each (IsSpare manifests c) ns
-  all_spare n m ns v h = each_map (λ k. (k < n) × (is_named k m.core.checkpoints ≡ false)) (IsSpare manifests c)
-      (λ k w. spare_below manifests manifests_log c n k v.link i.chain v.at w.0 (ap (λ (x : Manifest). is_named k x.core.checkpoints) v.value ∙ w.1)) ns h
+  all_spare : (n : ℕ) (m : Manifest) (candidates : List ObjectMetadata) → IsValue c n m → EachIs db (λ k. (k < n) × (is_named k m.core.checkpoints ≡ false)) candidates → EachIs db (λ j. IsSpare manifests c j) candidates
+  all_spare n m candidates v h = each_is db (λ k. (k < n) × (is_named k m.core.checkpoints ≡ false)) (λ j. IsSpare manifests c j)
+      (λ k w. spare_below manifests manifests_log c n k v.link i.chain v.at w.0 (ap (λ (x : Manifest). is_named k x.core.checkpoints) v.value ∙ w.1)) candidates h
 
-  test_brings : (n : ℕ) (ns : List ℕ) (b : ℕ) (t : Bool) → nat_le n b ≡ t → bound_in manifests db s ≡ Some b → IsRead s c db n ns
-      → PassBrings s c db (if t then End Over (Err (ManifestMissing n)) else bounded_next ns)
-  test_brings n ns b true is read h = tt
-  test_brings n ns b false is read h =
+  test_brings : (n : ℕ) (candidates : List ObjectMetadata) (b : ℕ) (t : Bool) → nat_le n b ≡ t → bound_in manifests db s ≡ Some b → IsRead s c db n candidates
+      → PassBrings s c db (if t then End Over (Err (ManifestMissing n)) else bounded_next options candidates)
+  test_brings n candidates b true is read h = tt
+  test_brings n candidates b false is read h =
       let value = h.holds.same b read (above_test n b is) in
-      next_brings n ns (greatest_number ns) refl (at_most manifests n value.link c i.chain value.at) (each_map (λ k. (k < n) × (is_named k h.value.core.checkpoints ≡ false)) (λ k. k < n) (λ k w. w.0) ns h.below) (all_spare n h.value ns value h.below)
+      next_brings n candidates (greatest ManifestLog candidates) refl (at_most manifests n value.link c i.chain value.at)
+      (each_is db (λ k. (k < n) × (is_named k h.value.core.checkpoints ≡ false)) (λ k. k < n) (λ k w. w.0) candidates h.below) (all_spare n h.value candidates value h.below)
 
-  bound_brings : (n : ℕ) (ns : List ℕ) (b : Option ℕ) → bound_in manifests db s ≡ b → IsRead s c db n ns → PassBrings s c db (bounded_goes n ns b)
-  bound_brings n ns None read h = tt
-  bound_brings n ns (Some b) read h = test_brings n ns b (nat_le n b) refl read h
+  bound_brings : (n : ℕ) (candidates : List ObjectMetadata) (b : Option ℕ) → bound_in manifests db s ≡ b → IsRead s c db n candidates → PassBrings s c db (bounded_goes options n candidates b)
+  bound_brings n candidates None read h = tt
+  bound_brings n candidates (Some b) read h = test_brings n candidates b (nat_le n b) refl read h
 
   -- ---- deletes, in the store as it is then
 
-  deletes_bring : (s' : Store) (ns : List ℕ) (counts : PassCounts) → Each (λ k. IsReached manifests db s' k × IsSpare manifests c k) ns → PassBrings s' c db (deletes_next ns counts)
+  deletes_bring : (s' : Store) (left : List ObjectMetadata) (counts : PassCounts) → EachIs db (λ k. IsReached manifests db s' k × IsSpare manifests c k) left → PassBrings s' c db (deletes_next left counts)
   deletes_bring s' [] counts h = tt
-  deletes_bring s' (n ∷ ns) counts h = h
+  deletes_bring s' (m ∷ left) counts h = h
 
-  all_reached : (s' : Store) (n : ℕ) (ns : List ℕ) → IsReached manifests db s' n → Each (λ k. (k ≤ n) × IsSpare manifests c k) ns → Each (λ k. IsReached manifests db s' k × IsSpare manifests c k) ns
-  all_reached s' n ns r h = each_map (λ k. (k ≤ n) × IsSpare manifests c k) (λ k. IsReached manifests db s' k × IsSpare manifests c k)
-      (λ k w. let le = w.0 in (record { reached = λ b read. let up = r.reached b read in omega arith }, w.1)) ns h
+  all_reached : (s' : Store) (n : ℕ) (picked : List ObjectMetadata) → IsReached manifests db s' n → EachIs db (λ k. (k ≤ n) × IsSpare manifests c k) picked → EachIs db (λ k. IsReached manifests db s' k × IsSpare manifests c k) picked
+  all_reached s' n picked r h = each_is db (λ k. (k ≤ n) × IsSpare manifests c k) (λ k. IsReached manifests db s' k × IsSpare manifests c k)
+      (λ k w. let le = w.0 in (record { reached = λ b read. let up = r.reached b read in omega arith }, w.1)) picked h
 
-  advanced_brings : (s' : Store) (n : ℕ) (ns : List ℕ) (g : AdvanceGoes) → AdvanceBrings manifests db s' c n g → Each (λ k. (k ≤ n) × IsSpare manifests c k) ns → PassBrings s' c db (advanced_goes options ns g)
-  advanced_brings s' n ns (Stay phase) b h = (b.1, subst (λ j. Each (λ k. (k ≤ j) × IsSpare manifests c k) ns) (sym b.0) h)
-  advanced_brings s' n ns (End phase (Ok u)) b h = deletes_bring s' (picks options ns) _ (picks_have (λ k. IsReached manifests db s' k × IsSpare manifests c k) options ns (all_reached s' n ns b h))
-  advanced_brings s' n ns (End phase (Err e)) b h = tt
+  advanced_brings : (s' : Store) (n : ℕ) (picked : List ObjectMetadata) (g : AdvanceGoes) → AdvanceBrings manifests db s' c n g → EachIs db (λ k. (k ≤ n) × IsSpare manifests c k) picked → PassBrings s' c db (advanced_goes picked g)
+  advanced_brings s' n picked (Stay phase) b h = (b.1, subst (λ j. EachIs db (λ k. (k ≤ j) × IsSpare manifests c k) picked) (sym b.0) h)
+  advanced_brings s' n picked (End phase (Ok u)) b h = deletes_bring s' picked _ (all_reached s' n picked b h)
+  advanced_brings s' n picked (End phase (Err e)) b h = tt
 
-  module _ (n : ℕ) (ns : List ℕ) (counts : PassCounts) (h : IsReached manifests db s n) (spare : IsSpare manifests c n) (rest : Each (λ k. IsReached manifests db s k × IsSpare manifests c k) ns) where
+  module _ (m : ObjectMetadata) (n : ℕ) (is : m.location ≡ version_path ManifestLog db n) (left : List ObjectMetadata) (counts : PassCounts) (h : IsReached manifests db s n) (spare : IsSpare manifests c n)
+      (rest : EachIs db (λ k. IsReached manifests db s k × IsSpare manifests c k) left) where
     due : n ≤ i.bound
     due = h.reached i.bound i.read
 
     small : n < 2 ^ 64
-    small = let le = due in let lt = i.below in let top_small = i.small in omega arith
+    small = let lt = spare.below in let top_small = i.small in omega arith
 
     abbrev gone : Store
     gone = removed (version_path ManifestLog db n) s
@@ -228,30 +280,36 @@ module _ (db : List ℕ) (named : is_db_path db ≡ true) (author : Author) (opt
     gone_leaves : Leaves manifests db author s c gone c
     gone_leaves = delete_leaves manifests db named author s c i n small due spare
 
-    rest_reached : Each (λ k. IsReached manifests db gone k × IsSpare manifests c k) ns
-    rest_reached = each_map (λ k. IsReached manifests db s k × IsSpare manifests c k) (λ k. IsReached manifests db gone k × IsSpare manifests c k) (λ k w. (kept_reached manifests db s c gone c gone_leaves.grows k w.0, w.1)) ns rest
+    rest_reached : EachIs db (λ k. IsReached manifests db gone k × IsSpare manifests c k) left
+    rest_reached = each_is db (λ k. IsReached manifests db s k × IsSpare manifests c k) (λ k. IsReached manifests db gone k × IsSpare manifests c k) (λ k w. (kept_reached manifests db s c gone c gone_leaves.grows k w.0, w.1)) left rest
 
-    pub delete_step : (mark : Mark) (moment : ℤ) → AfterPass (Deleting (n ∷ ns) counts) moment (effect mark (pass_asks db (Deleting (n ∷ ns) counts)) moment s)
-    delete_step Good moment = record { leaves = gone_leaves; brings = deletes_bring gone ns _ rest_reached }
-    delete_step Fail moment = quiet (Deleting (n ∷ ns) counts) moment _ (deletes_bring s ns _ rest)
-    delete_step Lost moment = record { leaves = gone_leaves; brings = deletes_bring gone ns _ rest_reached }
+    abbrev OfDelete : ObjectPath → Mark → ℤ → Type 0
+    OfDelete p mark moment = AfterPass (Deleting (m ∷ left) counts) moment (effect mark (Delete p) moment s)
+
+    delete_at : (mark : Mark) (moment : ℤ) → OfDelete (version_path ManifestLog db n) mark moment
+    delete_at Good moment = record { leaves = gone_leaves; brings = deletes_bring gone left _ rest_reached }
+    delete_at Fail moment = quiet (Deleting (m ∷ left) counts) moment _ (deletes_bring s left _ rest)
+    delete_at Lost moment = record { leaves = gone_leaves; brings = deletes_bring gone left _ rest_reached }
+
+    pub delete_step : (mark : Mark) (moment : ℤ) → AfterPass (Deleting (m ∷ left) counts) moment (effect mark (pass_asks db (Deleting (m ∷ left) counts)) moment s)
+    delete_step mark moment = subst (λ p. OfDelete p mark moment) (sym is) (delete_at mark moment)
 
   pub pass_step : (phase : PassPhase) (mark : Mark) (moment : ℤ) → PassKnows s c db phase → AfterPass phase moment (effect mark (pass_asks db phase) moment s)
-  pass_step Listing Good moment h = quiet Listing moment _ (listed_brings moment (listed (folder ManifestLog db) s) (greatest ManifestLog (listed (folder ManifestLog db) s)) (listed_small ManifestLog (folder ManifestLog db) s tidy))
+  pass_step Listing Good moment h = quiet Listing moment _ (listed_brings moment (listed (folder ManifestLog db) s) (greatest ManifestLog (listed (folder ManifestLog db) s)) (found_manifests db s.objects) (listed_small ManifestLog (folder ManifestLog db) s tidy))
   pass_step Listing Fail moment h = quiet Listing moment _ tt
   pass_step Listing Lost moment h = quiet Listing moment _ tt
-  pass_step (Getting now n dates) Good moment h = quiet (Getting now n dates) moment _ (got_brings now n dates (object_at (version_path ManifestLog db n) s) h refl)
-  pass_step (Getting now n dates) Fail moment h = quiet (Getting now n dates) moment _ tt
-  pass_step (Getting now n dates) Lost moment h = quiet (Getting now n dates) moment _ tt
-  pass_step (Bounding n ns) Good moment h = quiet (Bounding n ns) moment _ (bound_brings n ns (bound_in manifests db s) refl h)
-  pass_step (Bounding n ns) Fail moment h = quiet (Bounding n ns) moment _ tt
-  pass_step (Bounding n ns) Lost moment h = quiet (Bounding n ns) moment _ tt
-  pass_step (Advancing phase ns) mark moment h =
+  pass_step (Getting n found) Good moment h = quiet (Getting n found) moment _ (got_brings n found (object_at (version_path ManifestLog db n) s) h refl)
+  pass_step (Getting n found) Fail moment h = quiet (Getting n found) moment _ tt
+  pass_step (Getting n found) Lost moment h = quiet (Getting n found) moment _ tt
+  pass_step (Bounding n candidates) Good moment h = quiet (Bounding n candidates) moment _ (bound_brings n candidates (bound_in manifests db s) refl h)
+  pass_step (Bounding n candidates) Fail moment h = quiet (Bounding n candidates) moment _ tt
+  pass_step (Bounding n candidates) Lost moment h = quiet (Bounding n candidates) moment _ tt
+  pass_step (Advancing phase picked) mark moment h =
       let o = effect mark (advance_asks db ManifestLog phase) moment s in
       let a = advance_step manifests db named author s c i phase mark moment h.0 in
-      record { leaves = a.leaves; brings = advanced_brings o.store (target phase) ns (advance_goes phase o.answer) a.brings h.1 }
+      record { leaves = a.leaves; brings = advanced_brings o.store (target phase) picked (advance_goes phase o.answer) a.brings h.1 }
   pass_step (Deleting [] counts) Good moment h = quiet (Deleting [] counts) moment _ tt
   pass_step (Deleting [] counts) Fail moment h = quiet (Deleting [] counts) moment _ tt
   pass_step (Deleting [] counts) Lost moment h = quiet (Deleting [] counts) moment _ tt
-  pass_step (Deleting (n ∷ ns) counts) mark moment h = delete_step n ns counts h.0.0 h.0.1 h.1 mark moment
+  pass_step (Deleting (m ∷ left) counts) mark moment h = delete_step m h.0.number h.0.is left counts h.0.has.0 h.0.has.1 h.1 mark moment
   pass_step Over mark moment h = absurd h

@@ -1,14 +1,14 @@
 -- The paths of a log are apart from one another, and from those of other logs.
-use Rattle.std.proofs.Common.{◌≡◌, ◌≢◌, ℕ, ◌<◌, ◌^◌, List, true, sym, subst}
+use Rattle.std.proofs.Common.{◌≡◌, ◌≢◌, ℕ, ◌<◌, ◌^◌, List, true, ◌⊎◌, inl, inr, ⊎_elim, refl, sym, ap, ◌∙◌, subst}
 use Rattle.slate_ids.specs.FinePath.{IsFine}
 use Rattle.slate_ids.specs.Ids.{is_db_path}
 use Rattle.slate_ids.specs.PathText.{path_text}
 use Rattle.slate_ids.specs.declared.object_path.ObjectPath.{ObjectPath}
-use Rattle.slate_ids.specs.declared.object_path.ObjectPath.TheVariants as paths
 use Rattle.slate_ids.proofs.PathsApart.{same_path}
 use Rattle.slate_log.specs.LogPaths.{version_path, boundary_path}
 use Rattle.slate_log.specs.declared.log_kind.LogKind.{LogKind}
 use Rattle.slate_log.specs.declared.log_kind.LogKind.TheVariants.{Manifest, Compactions}
+use Rattle.slate_protocol.specs.Owners.{Owner, Version, Boundary, owner_of}
 
 -- neither a version of this log nor its boundary
 pub record IsElsewhere (kind : LogKind) (db : List ℕ) (p : ObjectPath) : Type 0 where
@@ -38,30 +38,66 @@ module _ (db : List ℕ) (named : is_db_path db ≡ true) where
   pub boundary_apart : (kind : LogKind) (n : ℕ) → n < 2 ^ 64 → path_text (boundary_path kind db) ≢ path_text (version_path kind db n)
   boundary_apart kind n a = λ e. no_boundary kind n (same_path _ _ (version_fine kind n a) (boundary_fine kind) (sym e))
 
-  -- a manifest of another database is elsewhere
-  pub manifest_elsewhere : (other : List ℕ) (k : ℕ) → is_db_path other ≡ true → k < 2 ^ 64 → db ≢ other → IsElsewhere Manifest db (paths.Manifest other k)
-  manifest_elsewhere other k other_named small ne = record {
-    version = λ n a e. let same : paths.Manifest db n ≡ paths.Manifest other k = same_path (paths.Manifest db n) (paths.Manifest other k) (named, a) (other_named, small) e in ne cc;
-    boundary = λ e. let same : paths.ManifestBoundary db ≡ paths.Manifest other k = same_path (paths.ManifestBoundary db) (paths.Manifest other k) named (other_named, small) e in absurd cc;
-  }
+-- the owner of a version's path, and of a boundary's
+pub version_owner : (kind : LogKind) (db : List ℕ) (n : ℕ) → owner_of (version_path kind db n) ≡ Version kind db n
+version_owner Manifest db n = refl
+version_owner Compactions db n = refl
 
-  -- and so is its boundary
-  pub bound_elsewhere : (other : List ℕ) → is_db_path other ≡ true → db ≢ other → IsElsewhere Manifest db (paths.ManifestBoundary other)
-  bound_elsewhere other other_named ne = record {
-    version = λ n a e. let same : paths.Manifest db n ≡ paths.ManifestBoundary other = same_path (paths.Manifest db n) (paths.ManifestBoundary other) (named, a) other_named e in absurd cc;
-    boundary = λ e. let same : paths.ManifestBoundary db ≡ paths.ManifestBoundary other = same_path (paths.ManifestBoundary db) (paths.ManifestBoundary other) named other_named e in ne cc;
-  }
+pub boundary_owner : (kind : LogKind) (db : List ℕ) → owner_of (boundary_path kind db) ≡ Boundary kind db
+boundary_owner Manifest db = refl
+boundary_owner Compactions db = refl
 
--- a version of a database's manifests, or their boundary
-pub data IsOwn (db : List ℕ) (p : ObjectPath) : Type 0 where
-  Version : (n : ℕ) → n < 2 ^ 64 → p ≡ paths.Manifest db n → IsOwn db p
-  Boundary : p ≡ paths.ManifestBoundary db → IsOwn db p
+-- an owner other than a log of a database
+pub record IsOther (kind : LogKind) (db : List ℕ) (o : Owner) : Type 0 where
+  pub version : (n : ℕ) → o ≢ Version kind db n
+  pub boundary : o ≢ Boundary kind db
 
-pub own_fine : (db : List ℕ) (p : ObjectPath) → is_db_path db ≡ true → IsOwn db p → IsFine p
-own_fine db p named (Version n small e) = subst IsFine (sym e) (named, small)
-own_fine db p named (Boundary e) = subst IsFine (sym e) named
+-- what another owns is elsewhere
+pub elsewhere : (kind : LogKind) (db : List ℕ) (p : ObjectPath) → is_db_path db ≡ true → IsFine p → IsOther kind db (owner_of p) → IsElsewhere kind db p
+elsewhere kind db p named fine other = record {
+  version = λ n small e. other.version n (sym (ap owner_of (same_path (version_path kind db n) p (version_fine db named kind n small) fine e)) ∙ version_owner kind db n);
+  boundary = λ e. other.boundary (sym (ap owner_of (same_path (boundary_path kind db) p (boundary_fine db named kind) fine e)) ∙ boundary_owner kind db);
+}
 
--- what is another database's own is elsewhere
-pub own_elsewhere : (db other : List ℕ) (p : ObjectPath) → is_db_path db ≡ true → is_db_path other ≡ true → db ≢ other → IsOwn other p → IsElsewhere Manifest db p
-own_elsewhere db other p named other_named ne (Version n small e) = subst (IsElsewhere Manifest db) (sym e) (manifest_elsewhere db named other n other_named small ne)
-own_elsewhere db other p named other_named ne (Boundary e) = subst (IsElsewhere Manifest db) (sym e) (bound_elsewhere db named other other_named ne)
+-- a version of a log of a database, or its boundary
+pub data IsOwn (kind : LogKind) (db : List ℕ) (p : ObjectPath) : Type 0 where
+  OwnVersion : (n : ℕ) → n < 2 ^ 64 → p ≡ version_path kind db n → IsOwn kind db p
+  OwnBoundary : p ≡ boundary_path kind db → IsOwn kind db p
+
+pub own_fine : (kind : LogKind) (db : List ℕ) (p : ObjectPath) → is_db_path db ≡ true → IsOwn kind db p → IsFine p
+own_fine kind db p named (OwnVersion n small e) = subst IsFine (sym e) (version_fine db named kind n small)
+own_fine kind db p named (OwnBoundary e) = subst IsFine (sym e) (boundary_fine db named kind)
+
+-- a path whose owner is a number of a log, or its boundary
+abbrev IsOwned : LogKind → List ℕ → ObjectPath → Type 0
+IsOwned kind db p = ((n : ℕ) × (owner_of p ≡ Version kind db n)) ⊎ (owner_of p ≡ Boundary kind db)
+
+-- the owner of what is a log's own
+own_owner : (kind : LogKind) (db : List ℕ) (p : ObjectPath) → IsOwn kind db p → IsOwned kind db p
+own_owner kind db p (OwnVersion n small e) = inl (n, ap owner_of e ∙ version_owner kind db n)
+own_owner kind db p (OwnBoundary e) = inr (ap owner_of e ∙ boundary_owner kind db)
+
+-- another log of this database, or a log of another
+abbrev pub AreApart : LogKind → List ℕ → LogKind → List ℕ → Type 0
+AreApart kind db other_kind other = kind ≡ other_kind → db ≡ other → ⊥
+
+-- what is another log's own is elsewhere
+pub own_elsewhere : (kind : LogKind) (db : List ℕ) (other_kind : LogKind) (other : List ℕ) (p : ObjectPath) → is_db_path db ≡ true → is_db_path other ≡ true → AreApart kind db other_kind other → IsOwn other_kind other p → IsElsewhere kind db p
+own_elsewhere kind db other_kind other p named other_named apart own = elsewhere kind db p named (own_fine other_kind other p other_named own) (record {
+  version = λ n e. by_version n e (own_owner other_kind other p own);
+  boundary = λ e. by_boundary e (own_owner other_kind other p own);
+})
+  where
+    same_version : (n m : ℕ) → Version kind db n ≡ Version other_kind other m → ⊥
+    same_version n m e = apart (cc (e)) (cc (e))
+
+    same_boundary : Boundary kind db ≡ Boundary other_kind other → ⊥
+    same_boundary e = apart (cc (e)) (cc (e))
+
+    by_version : (n : ℕ) → owner_of p ≡ Version kind db n → IsOwned other_kind other p → ⊥
+    by_version n e (inl v) = same_version n v.0 (sym e ∙ v.1)
+    by_version n e (inr b) = cc (e, b)
+
+    by_boundary : owner_of p ≡ Boundary kind db → IsOwned other_kind other p → ⊥
+    by_boundary e (inl v) = cc (e, v.1)
+    by_boundary e (inr b) = same_boundary (sym e ∙ b)

@@ -1,5 +1,5 @@
 -- What a put leaves of a log.
-use Rattle.std.proofs.Common.{◌≡◌, ◌≢◌, ℕ, ℤ, ◌+◌, ◌<◌, ◌≤◌, ◌^◌, true, List, [], ◌∷◌, Option, Some, None, ⊎_elim, refl, sym, ap, ◌∙◌, subst, arith}
+use Rattle.std.proofs.Common.{◌≡◌, ◌≢◌, ℕ, ℤ, ◌+◌, ◌<◌, ◌≤◌, ◌^◌, true, false, List, [], ◌∷◌, Option, Some, None, Ok, ◌⊎◌, inl, inr, ⊎_elim, refl, sym, ap, ◌∙◌, subst, arith}
 use Rattle.slate_ids.specs.Ids.{is_db_path}
 use Rattle.slate_ids.specs.declared.object_path.ObjectPath.{ObjectPath}
 use Rattle.slate_store.specs.Store.{Store, object_at, stored}
@@ -8,13 +8,15 @@ use Rattle.slate_log.specs.Boundary.{boundary_got}
 use Rattle.slate_log.specs.LogPaths.{version_path, boundary_path}
 use Rattle.slate_protocol.specs.Chains.{Link, Log, link_at, top, if_new, with_link, IsChain, Follows, bytes_of, link_bytes, bound_in, AgreesAt, Changed}
 use Rattle.slate_protocol.specs.Chains.Changed.{Stays, Gets}
+use Rattle.slate_protocol.specs.Chains.IsFirst.{Begins}
 use Rattle.slate_laws.proofs.Stores.{at_put, at_else}
-use Rattle.slate_laws.proofs.Links.{link_here, link_there, same_or_not, next_is_top, at_most}
+use Rattle.slate_laws.proofs.Links.{link_here, link_there, same_or_not, first_number, some_below, next_is_top, at_most}
 use Rattle.slate_protocol.specs.Reach.{names_top, IsNeeded, IsSpare}
 use Rattle.slate_protocol.specs.Reach.IsNeeded.{Greatest, Named}
 use Rattle.slate_laws.proofs.Paths.{IsElsewhere, versions_apart, boundary_apart}
 use Rattle.slate_laws.proofs.Spares.{stays_unnamed}
-use Rattle.slate_laws.proofs.Facts.{IsLog, IsCommitted, IsSound, Holds, IsNext, Grows}
+use Rattle.slate_laws.proofs.Facts.IsMade.{OfVersion, OfNone}
+use Rattle.slate_laws.proofs.Facts.{IsLog, IsCommitted, IsSound, Holds, IsMade, IsNext, Grows}
 
 -- what one effect leaves of a log, by an author
 pub record Leaves {V A : Type 0} (log : Log V A) (db : List ℕ) (author : A) (s : Store) (c : List (Link V A)) (s' : Store) (c' : List (Link V A)) : Type 0 where
@@ -50,7 +52,6 @@ module _ {V A : Type 0} (log : Log V A) (db : List ℕ) where
     pub elsewhere_sound : IsSound log db s c → IsSound log db (stored p bytes moment s) c
     elsewhere_sound i = record {
       chain = i.chain;
-      some = i.some;
       small = i.small;
       bound = i.bound;
       read = same_bound ∙ i.read;
@@ -84,33 +85,91 @@ module _ {V A : Type 0} (log : Log V A) (db : List ℕ) where
     put_there : (k : ℕ) → k < 2 ^ 64 → k ≢ n → object_at (version_path log.kind db k) after ≡ object_at (version_path log.kind db k) s
     put_there k small ne = at_else (version_path log.kind db n) (version_path log.kind db k) bytes moment s (versions_apart db named log.kind k n small h.small ne)
 
-    -- its number is not committed yet
-    module _ (fresh : link_at n c ≡ None) where
-      fresh_next : link_at (h.old.number + 1) c ≡ None
-      fresh_next = subst (λ k. link_at k c ≡ None) h.number fresh
+    -- what holds of the number of a put that isn't committed yet
+    pub record IsFresh : Type 0 where
+      pub free : link_at n c ≡ None
+      pub number : n ≡ top c + 1
+      pub chain : IsChain log (new ∷ c)
+      pub names : (k : ℕ) → log.names (log.normal v) k ≡ true → (k ≡ n) ⊎ (names_top log c k ≡ true)
+      pub unnamed : (k : ℕ) → IsSpare log c k → log.names (log.normal v) k ≡ false
 
-      at_top : h.old.number ≡ top c
-      at_top = next_is_top log h.old.number h.old c i.chain h.at fresh_next
+    -- its number is not committed yet, and it was made of the version before
+    module _ (fresh : link_at n c ≡ None) (old : Link V A) (at : link_at old.number c ≡ Some old) (number : n ≡ old.number + 1)
+        (makes : log.makes author old.number old.value ≡ Ok (Some v)) (lawful : log.refusal old.number old.value v (log.right author) ≡ None) (passed : log.fence author old.value ≡ None) where
+      fresh_next : link_at (old.number + 1) c ≡ None
+      fresh_next = subst (λ k. link_at k c ≡ None) number fresh
 
-      follows : Follows log h.old new
+      at_top : old.number ≡ top c
+      at_top = next_is_top log old.number old c i.chain at fresh_next
+
+      follows : Follows log old new
       follows = record {
         author = author;
         by = refl;
-        number = h.number;
+        number = number;
         made = v;
-        makes = h.made;
+        makes = makes;
         bytes = h.encodes;
         value = refl;
-        lawful = laws.plain h.old.number h.old.value v (log.right author) h.lawful;
-        passed = h.passed;
+        lawful = laws.plain old.number old.value v (log.right author) lawful;
+        passed = passed;
       }
 
-      longer : (d : List (Link V A)) → IsChain log d → link_at h.old.number d ≡ Some h.old → h.old.number ≡ top d → IsChain log (new ∷ d)
-      longer [] chain at e = absurd cc
-      longer (l ∷ d) chain at e =
-          let same : h.old ≡ l = cc (link_here h.old.number l d (sym e), at) in
+      longer : (d : List (Link V A)) → IsChain log d → link_at old.number d ≡ Some old → old.number ≡ top d → IsChain log (new ∷ d)
+      longer [] chain found e = absurd cc
+      longer (l ∷ d) chain found e =
+          let same : old ≡ l = cc (link_here old.number l d (sym e), found) in
           (subst (λ (o : Link V A). Follows log o new) same follows, chain)
 
+      -- the value before is the greatest one
+      old_top : (d : List (Link V A)) → link_at old.number d ≡ Some old → old.number ≡ top d → (k : ℕ) → names_top log d k ≡ log.names old.value k
+      old_top [] found e k = absurd cc
+      old_top (l ∷ d) found e k = let same : old ≡ l = cc (link_here old.number l d (sym e), found) in ap (λ (x : Link V A). log.names x.value k) (sym same)
+
+      normal_lawful : log.refusal old.number old.value (log.normal v) (log.right author) ≡ None
+      normal_lawful = laws.plain old.number old.value v (log.right author) lawful
+
+      put_names : (k : ℕ) → log.names (log.normal v) k ≡ true → (k ≡ n) ⊎ (names_top log c k ≡ true)
+      put_names k named =
+          ⊎_elim
+          (λ (e : k ≡ old.number + 1). inl (e ∙ sym number))
+          (λ (o : log.names old.value k ≡ true). inr (old_top c at at_top k ∙ o))
+          (laws.known old.number old.value (log.normal v) (log.right author) k normal_lawful named)
+
+      put_unnamed : (k : ℕ) → IsSpare log c k → log.names (log.normal v) k ≡ false
+      put_unnamed k w =
+          let lt = w.below in
+          let e = at_top in
+          stays_unnamed log laws old.number old.value (log.normal v) k (log.right author) normal_lawful (λ (same : k ≡ old.number + 1). omega arith) (sym (old_top c at at_top k) ∙ w.unnamed)
+
+      pub after_old : IsFresh
+      after_old = let e = at_top in record { free = fresh; number = number ∙ ap (λ k. k + 1) e; chain = longer c i.chain at e; names = put_names; unnamed = put_unnamed }
+
+    -- it was made where there was no version
+    module _ (fresh : link_at n c ≡ None) (number : n ≡ 1) (makes : log.first author ≡ Ok (Some v)) where
+      none_there : (d : List (Link V A)) → IsChain log d → link_at 1 d ≡ None → d ≡ []
+      none_there [] chain none = refl
+      none_there (first ∷ []) chain none = absurd (cc (link_here 1 first [] (first_number log first chain), none))
+      none_there (l ∷ m ∷ d) chain none = let up = chain.0.number in absurd (some_below log 1 (l ∷ m ∷ d) chain (omega arith) (omega arith) none)
+
+      empty : c ≡ []
+      empty = none_there c i.chain (subst (λ k. link_at k c ≡ None) number fresh)
+
+      alone : (d : List (Link V A)) → d ≡ [] → IsChain log (new ∷ d)
+      alone [] e = Begins author v number refl makes h.encodes refl
+      alone (l ∷ d) e = absurd cc
+
+      pub after_none : IsFresh
+      after_none = record {
+        free = fresh;
+        number = number ∙ sym (ap (λ d. top d + 1) empty);
+        chain = alone c empty;
+        names = λ k named. inl (laws.first author v k makes named ∙ sym number);
+        unnamed = λ k w. let lt : k < 0 = subst (λ d. k < top d) empty w.below in absurd (omega arith);
+      }
+
+    -- either way
+    module _ (f : IsFresh) where
       put_stands : (k : ℕ) → i.bound < k → k < 2 ^ 64 → AgreesAt log db after (new ∷ c) k
       put_stands k lt small =
           ⊎_elim
@@ -118,20 +177,13 @@ module _ {V A : Type 0} (log : Log V A) (db : List ℕ) where
           (λ (ne : k ≢ n). ap bytes_of (put_there k small ne) ∙ (i.above k lt small ∙ sym (ap link_bytes (link_there k new c (λ (e : n ≡ k). ne (sym e))))))
           (same_or_not k n)
 
-      -- the value before is the greatest one
-      old_top : (d : List (Link V A)) → link_at h.old.number d ≡ Some h.old → h.old.number ≡ top d → (k : ℕ) → names_top log d k ≡ log.names h.old.value k
-      old_top [] at e k = absurd cc
-      old_top (l ∷ d) at e k = let same : h.old ≡ l = cc (link_here h.old.number l d (sym e), at) in ap (λ (x : Link V A). log.names x.value k) (sym same)
-
-      normal_lawful : log.refusal h.old.number h.old.value (log.normal v) (log.right author) ≡ None
-      normal_lawful = laws.plain h.old.number h.old.value v (log.right author) h.lawful
-
       new_committed : (k : ℕ) → k ≡ n → IsCommitted log db after (new ∷ c) k
       new_committed k e = subst (λ j. IsCommitted log db after (new ∷ c) j) (sym e) (record { link = new; at = link_here n new c refl; stands = put_here })
 
       old_committed : (k : ℕ) → IsCommitted log db s c k → IsCommitted log db after (new ∷ c) k
       old_committed k w =
-          let ne : k ≢ n = λ (e : k ≡ n). cc (ap (λ j. link_at j c) e, w.at, fresh) in
+          let free = f.free in
+          let ne : k ≢ n = λ (e : k ≡ n). cc (ap (λ j. link_at j c) e, w.at, free) in
           record {
             link = w.link;
             at = link_there k new c (λ (e : n ≡ k). ne (sym e)) ∙ w.at;
@@ -139,36 +191,27 @@ module _ {V A : Type 0} (log : Log V A) (db : List ℕ) where
           }
 
       put_needed : (k : ℕ) → IsNeeded log (new ∷ c) k → IsCommitted log db after (new ∷ c) k
-      put_needed k (Greatest e) = new_committed k e
-      put_needed k (Named named) =
-          ⊎_elim
-          (λ (e : k ≡ h.old.number + 1). let up = h.number in new_committed k (e ∙ sym up))
-          (λ (old : log.names h.old.value k ≡ true). old_committed k (i.needed k (Named (old_top c h.at at_top k ∙ old))))
-          (laws.known h.old.number h.old.value (log.normal v) (log.right author) k normal_lawful named)
+      put_needed k (Greatest pos e) = new_committed k e
+      put_needed k (Named named) = ⊎_elim (λ (e : k ≡ n). new_committed k e) (λ (o : names_top log c k ≡ true). old_committed k (i.needed k (Named o))) (f.names k named)
 
       put_spares : (k : ℕ) → IsSpare log c k → IsSpare log (new ∷ c) k
       put_spares k w =
-          let e = at_top in
-          let up = h.number in
+          let up = f.number in
           let lt = w.below in
-          record {
-            below = omega arith;
-            unnamed = stays_unnamed log laws h.old.number h.old.value (log.normal v) k (log.right author) normal_lawful (λ (same : k ≡ h.old.number + 1). omega arith) (sym (old_top c h.at at_top k) ∙ w.unnamed);
-          }
+          record { below = omega arith; unnamed = f.unnamed k w }
 
-      put_new : Leaves log db author s c after (new ∷ c)
+      pub put_new : Leaves log db author s c after (new ∷ c)
       put_new =
-          let e = at_top in
-          let up = h.number in
+          let up = f.number in
           let lt = i.below in
+          let free = f.free in
           record {
             sound = record {
-              chain = longer c i.chain h.at e;
-              some = omega arith;
+              chain = f.chain;
               small = h.small;
               bound = i.bound;
               read = put_bound ∙ i.read;
-              below = omega arith;
+              below = λ pos. let low = lt pos in omega arith;
               above = put_stands;
               needed = put_needed;
               tagged = put_tagged;
@@ -179,7 +222,7 @@ module _ {V A : Type 0} (log : Log V A) (db : List ℕ) where
               tags = λ o at le. sym put_object ∙ at;
               rises = omega arith;
               spares = put_spares;
-              kept = λ k l at. link_there k new c (λ (e' : n ≡ k). absurd (cc (fresh, at, e'))) ∙ at;
+              kept = λ k l at. link_there k new c (λ (e' : n ≡ k). absurd (cc (free, at, e'))) ∙ at;
             };
             changed = Gets new author refl refl refl;
           }
@@ -206,7 +249,6 @@ module _ {V A : Type 0} (log : Log V A) (db : List ℕ) where
       put_late = record {
         sound = record {
           chain = i.chain;
-          some = i.some;
           small = i.small;
           bound = i.bound;
           read = put_bound ∙ i.read;
@@ -228,6 +270,10 @@ module _ {V A : Type 0} (log : Log V A) (db : List ℕ) where
             absurd (cc (ap bytes_of absent, ap link_bytes late, i.above n below h.small));
       }
 
+    fresh_number : link_at n c ≡ None → IsMade log c author n v → IsFresh
+    fresh_number e (OfVersion old at number makes lawful passed) = after_old e old at number makes lawful passed
+    fresh_number e (OfNone number makes) = after_none e number makes
+
     new_holds : Holds log db after (new ∷ c) n (log.normal v)
     new_holds = record { same = λ b read lt. record { link = new; at = link_here n new c refl; value = refl } }
 
@@ -237,7 +283,7 @@ module _ {V A : Type 0} (log : Log V A) (db : List ℕ) where
       pub holds : Holds log db after c' n (log.normal v)
 
     after_put : (o : Option (Link V A)) → link_at n c ≡ o → AfterPut (if_new o new c)
-    after_put None e = record { leaves = put_new e; holds = new_holds }
+    after_put None e = record { leaves = put_new (fresh_number e h.made); holds = new_holds }
     after_put (Some l) e = record { leaves = put_late l e; holds = late_holds l e }
 
     pub put_leaves : AfterPut (with_link new c)

@@ -1,90 +1,97 @@
 -- Each event keeps what holds of the logs and what each party knows, and so does each list of events.
-use Rattle.std.proofs.Common.{◌≡◌, ◌≢◌, ℕ, ℤ, Bool, true, false, List, [], ◌∷◌, Option, Some, None, is_some, ⊎_elim, refl, sym, ap, ◌∙◌, subst}
+use Rattle.std.proofs.Common.{◌≡◌, ◌≢◌, ℕ, ℤ, Bool, true, false, List, [], ◌∷◌, Option, Some, None, is_some, ◌⊎◌, inl, inr, ⊎_elim, refl, sym, ap, ◌∙◌, subst}
 use Rattle.std.specs.Prelude.{if◌then◌else◌}
 use Rattle.std.specs.Ordering.{nat_cmp}
 use Rattle.std.specs.BTreeMap.{insert_entry}
 use Rattle.slate_ids.specs.Ids.{is_db_path}
 use Rattle.slate_store.specs.Store.{Store, effect}
 use Rattle.slate_store.specs.declared.mark.Mark.{Mark}
+use Rattle.slate_store.specs.declared.store_answer.StoreAnswer.{StoreAnswer}
+use Rattle.slate_store.specs.declared.store_call.StoreCall.{StoreCall}
+use Rattle.slate_log.specs.declared.commit_phase.CommitPhase.TheVariants as committing
+use Rattle.slate_log.specs.declared.log_kind.LogKind.{LogKind}
+use Rattle.slate_log.specs.declared.log_kind.LogKind.TheVariants as logs
 use Rattle.slate_events.specs.declared.call.Call.{Call}
 use Rattle.slate_events.specs.declared.event.Event.{Event}
 use Rattle.slate_events.specs.declared.event.Event.TheVariants.{Open, Start, Step, Stop}
 use Rattle.slate_events.specs.declared.party_kind.PartyKind.{PartyKind}
-use Rattle.slate_protocol.specs.Calls.{Next, Go, Finish, follow, begin}
 use Rattle.slate_protocol.specs.Chains.{Changed}
 use Rattle.slate_protocol.specs.Chains.Changed.{Stays}
-use Rattle.slate_protocol.specs.Logs.{Author, Chain, Chains, author_of, manifests, put_by, chains_stepped, chains_state, chains_at, chains_after, world_after, chains_of}
-use Rattle.slate_protocol.specs.Phrases.{asks, goes, is_due}
+use Rattle.slate_protocol.specs.Logs.{Author, Held, log_of, Chain, Chains, Phrase, Reads, Commits, Collects, phrase_of, put_by, chains_put, chains_stepped, chains_state, chains_at, chains_after, world_after, chains_of}
+use Rattle.slate_protocol.specs.Rows.{Standing, begin, follow}
+use Rattle.slate_protocol.specs.Works.{db_of, asks, goes, is_due}
 use Rattle.slate_protocol.specs.World.{World, Transition, party_of, with_party, tally_of, tallied, wrote, noted, newcomer, settled, stepped, step_state, start_state, halted, stop_state, carrying, may_start, open_at, start_at, step_at, stop_at, happens, HasDb}
 use Rattle.slate_protocol.specs.declared.party.Facts.{Facts}
 use Rattle.slate_protocol.specs.declared.party.Party.{Party}
-use Rattle.slate_protocol.specs.declared.party.Purpose.{Purpose}
 use Rattle.slate_protocol.specs.declared.party.State.{State}
 use Rattle.slate_protocol.specs.declared.party.State.TheVariants.{Resting, Busy, Halted}
-use Rattle.slate_protocol.specs.declared.position.Phrase.{Phrase}
-use Rattle.slate_protocol.specs.declared.position.Position.{Position}
+use Rattle.slate_protocol.specs.declared.party.Task.{Task}
 use Rattle.slate_protocol.specs.declared.tally.Tally.{Tally}
-use Rattle.slate_laws.proofs.Stores.{IsTidy, decides, same_name}
+use Rattle.slate_protocol.specs.Calls.{Next, Go, Finish}
+use Rattle.slate_protocol.specs.declared.work.Work.{Work}
+use Rattle.slate_laws.proofs.Stores.{IsTidy, same_name}
 use Rattle.slate_laws.proofs.Maps.{number_order, set_here, set_else, insert_here, insert_else}
 use Rattle.slate_laws.proofs.Links.{same_or_not}
 use Rattle.slate_laws.proofs.Facts.{IsSound, Grows}
 use Rattle.slate_laws.proofs.Frame.{kept_read, kept_commit}
-use Rattle.slate_laws.proofs.Paths.{own_elsewhere}
+use Rattle.slate_laws.proofs.Paths.{IsOwn, IsElsewhere, AreApart, own_elsewhere}
 use Rattle.slate_laws.proofs.Moves.{gone_grows, gone_sound}
 use Rattle.slate_laws.proofs.Passes.{kept_pass}
 use Rattle.slate_laws.proofs.Puts.{grows_not, elsewhere_grows, elsewhere_sound}
-use Rattle.slate_laws.proofs.Steps.{PhraseKnows, PhraseBrings, AfterPhrase, other_put, phrase_step}
-use Rattle.slate_laws.proofs.Calls.{NextKnows, follow_reaches, begin_reaches}
-use Rattle.slate_laws.proofs.Tallies.{StoreAfter, store_after, tidy_after, Told, TalliesAfter, tallies_after}
+use Rattle.slate_laws.proofs.Steps.{log_in, db_in, phrase_asks, work_asks, work_db, author_of, author_in, PhraseKnows, PhraseBrings, AfterPhrase, none_put, put_of, other_put, phrase_step}
+use Rattle.slate_laws.proofs.Calls.{WorkKnows, NextKnows, Reaches, follow_reaches, begin_reaches}
+use Rattle.slate_laws.proofs.Tallies.{StoreAfter, store_after, tidy_after, same_kind, its_kind, Told, TalliesAfter, tallies_after}
 use Rattle.slate_laws.proofs.Tallies.StoreAfter.{Same, Wrote, Gone}
-use Rattle.slate_protocol.specs.declared.party.Purpose.TheVariants.{Reading, Committing, Passing}
-use Rattle.slate_protocol.specs.declared.position.Phrase.TheVariants.{Read, Commit, Pass}
 
--- what a party knows, by its state: its call stands at its own database
-abbrev pub StateKnows : Store → Chains → ℕ → Facts → State → Type 0
-StateKnows s chains n facts Resting = Unit {0}
-StateKnows s chains n facts (Busy call purpose position) = (position.db ≡ facts.db) × PhraseKnows s (chains facts.db) facts.db (author_of n facts call purpose) purpose position.phrase
-StateKnows s chains n facts Halted = Unit {0}
+-- what a party knows, by its state
+abbrev pub StateKnows : (List ℕ → Type 0) → Store → Chains → ℕ → Facts → State → Type 0
+StateKnows Has s chains n facts Resting = Unit {0}
+StateKnows Has s chains n facts (Busy task) = WorkKnows Has s chains n facts task.call task.work
+StateKnows Has s chains n facts Halted = Unit {0}
 
 pub record PartyKnows (w : World) (chains : Chains) (n : ℕ) (p : Party) : Type 0 where
   pub has : HasDb w p.facts.db
-  pub knows : StateKnows w.store chains n p.facts p.state
+  pub knows : StateKnows (HasDb w) w.store chains n p.facts p.state
 
 -- what is kept from event to event
 pub record Inv (w : World) (chains : Chains) : Type 0 where
   pub tidy : IsTidy w.store.objects
   pub named : (d : List ℕ) → HasDb w d → is_db_path d ≡ true
-  pub logs : (d : List ℕ) → HasDb w d → IsSound manifests d w.store (chains d)
-  pub told : (d : List ℕ) → Told w.tallies chains d
+  pub logs : (k : LogKind) (d : List ℕ) → HasDb w d → IsSound (log_of k) d w.store (chains k d)
+  pub told : (k : LogKind) (d : List ℕ) → Told w.tallies chains k d
   pub parties : (n : ℕ) (p : Party) → party_of n w.parties ≡ Some p → PartyKnows w chains n p
 
 -- ---- the frame
 
-phrase_kept : (s : Store) (c : Chain) (s' : Store) (c' : Chain) (db : List ℕ) → Grows manifests db s c s' c' → (author : Author) (purpose : Purpose) (phrase : Phrase) → PhraseKnows s c db author purpose phrase → PhraseKnows s' c' db author purpose phrase
-phrase_kept s c s' c' db g author Reading (Read phase) h = kept_read manifests db s c s' c' g phase h
-phrase_kept s c s' c' db g author (Committing now) (Commit phase) h = kept_commit manifests db s c s' c' g author phase h
-phrase_kept s c s' c' db g author Passing (Pass options phase) h = kept_pass s c s' c' db g phase h
-phrase_kept s c s' c' db g author Reading (Commit phase) h = absurd h
-phrase_kept s c s' c' db g author Reading (Pass options phase) h = absurd h
-phrase_kept s c s' c' db g author (Committing now) (Read phase) h = absurd h
-phrase_kept s c s' c' db g author (Committing now) (Pass options phase) h = absurd h
-phrase_kept s c s' c' db g author Passing (Read phase) h = absurd h
-phrase_kept s c s' c' db g author Passing (Commit phase) h = absurd h
+-- a log of a database grows
+abbrev pub LogGrows : Store → Chains → Store → Chains → LogKind → List ℕ → Type 0
+LogGrows s chains s' chains' k d = Grows (log_of k) d s (chains k d) s' (chains' k d)
 
-state_kept : (s : Store) (chains : Chains) (s' : Store) (chains' : Chains) (n : ℕ) (facts : Facts) → Grows manifests facts.db s (chains facts.db) s' (chains' facts.db) → (state : State) → StateKnows s chains n facts state → StateKnows s' chains' n facts state
-state_kept s chains s' chains' n facts g Resting h = tt
-state_kept s chains s' chains' n facts g Halted h = tt
-state_kept s chains s' chains' n facts g (Busy call purpose position) h = (h.0, phrase_kept s (chains facts.db) s' (chains' facts.db) facts.db g (author_of n facts call purpose) purpose position.phrase h.1)
+phrase_kept : (s : Store) (chains : Chains) (s' : Store) (chains' : Chains) (n : ℕ) (facts : Facts) (call : Call) (phrase : Phrase) → LogGrows s chains s' chains' (log_in phrase) (db_in phrase)
+    → PhraseKnows s chains n facts call phrase → PhraseKnows s' chains' n facts call phrase
+phrase_kept s chains s' chains' n facts call (Reads k db phase) g h = kept_read (log_of k) db s (chains k db) s' (chains' k db) g phase h
+phrase_kept s chains s' chains' n facts call (Commits k db purpose now phase) g h = kept_commit (log_of k) db s (chains k db) s' (chains' k db) g (author_of n facts call purpose now) phase h
+phrase_kept s chains s' chains' n facts call (Collects db phase) g h = kept_pass s (chains logs.Manifest db) s' (chains' logs.Manifest db) db g phase h
+
+module _ (Has Has' : List ℕ → Type 0) (s : Store) (chains : Chains) (s' : Store) (chains' : Chains) (still : (d : List ℕ) → Has d → Has' d) (grows : (k : LogKind) (d : List ℕ) → Has d → LogGrows s chains s' chains' k d) where
+  work_kept : (n : ℕ) (facts : Facts) (call : Call) (work : Work) → WorkKnows Has s chains n facts call work → WorkKnows Has' s' chains' n facts call work
+  work_kept n facts call work h = record {
+    has = still (db_of work) h.has;
+    fits = h.fits;
+    knows = phrase_kept s chains s' chains' n facts call (phrase_of work) (grows (log_in (phrase_of work)) (db_in (phrase_of work)) (subst Has (sym (work_db work)) h.has)) h.knows;
+  }
+
+  state_kept : (n : ℕ) (facts : Facts) (state : State) → StateKnows Has s chains n facts state → StateKnows Has' s' chains' n facts state
+  state_kept n facts Resting h = tt
+  state_kept n facts Halted h = tt
+  state_kept n facts (Busy task) h = work_kept n facts task.call task.work h
 
 -- ---- a change of one party alone
 
-settle_knows : (s : Store) (chains : Chains) (n : ℕ) (facts : Facts) (call : Call) (next : Next) → NextKnows s (chains facts.db) n facts call next → StateKnows s chains n (settled facts call next).facts (settled facts call next).state
-settle_knows s chains n facts call (Go purpose position) h = h
-settle_knows s chains n facts call (Finish reply) h = tt
-
-settle_db : (facts : Facts) (call : Call) (next : Next) → (settled facts call next).facts.db ≡ facts.db
-settle_db facts call (Go purpose position) = refl
-settle_db facts call (Finish reply) = refl
+settle_knows : (Has : List ℕ → Type 0) (s : Store) (chains : Chains) (n : ℕ) (call : Call) (facts : Facts) (next : Next) → NextKnows Has s chains n facts call next
+    → StateKnows Has s chains n facts (settled call (record { facts = facts; next = next })).state
+settle_knows Has s chains n call facts (Go work) h = h
+settle_knows Has s chains n call facts (Finish reply) h = tt
 
 -- the parties with one in the place of its number
 party_in_place : (n : ℕ) (p q : Party) (parties : List (ℕ × Party)) → party_of n parties ≡ Some p → party_of n (with_party n q parties) ≡ Some q
@@ -96,7 +103,7 @@ others_stay n k q parties ne = set_else nat_cmp number_order n k q parties ne
 -- what each party knows, where one number's party has changed
 module _ (w w' : World) (chains chains' : Chains) (n : ℕ) (q : Party) (here : party_of n w'.parties ≡ Some q)
     (away : (k : ℕ) → k ≢ n → party_of k w'.parties ≡ party_of k w.parties)
-    (same : (d : List ℕ) → HasDb w d → HasDb w' d) (grows : (d : List ℕ) → HasDb w d → Grows manifests d w.store (chains d) w'.store (chains' d)) where
+    (same : (d : List ℕ) → HasDb w d → HasDb w' d) (grows : (k : LogKind) (d : List ℕ) → HasDb w d → LogGrows w.store chains w'.store chains' k d) where
   each_knows : PartyKnows w' chains' n q → ((k : ℕ) (p : Party) → party_of k w.parties ≡ Some p → PartyKnows w chains k p) → (k : ℕ) (p : Party) → party_of k w'.parties ≡ Some p → PartyKnows w' chains' k p
   each_knows own others k p at =
       ⊎_elim
@@ -106,7 +113,7 @@ module _ (w w' : World) (chains chains' : Chains) (n : ℕ) (q : Party) (here : 
       subst (λ (j : ℕ). PartyKnows w' chains' j p) (sym e) (subst (λ (r : Party). PartyKnows w' chains' n r) is own))
       (λ (ne : k ≢ n).
       let h = others k p (sym (away k ne) ∙ at) in
-      record { has = same p.facts.db h.has; knows = state_kept w.store chains w'.store chains' k p.facts (grows p.facts.db h.has) p.state h.knows })
+      record { has = same p.facts.db h.has; knows = state_kept (HasDb w) (HasDb w') w.store chains w'.store chains' same grows k p.facts p.state h.knows })
       (same_or_not k n)
 
 -- a change of one party, with the store and the chains as they are
@@ -118,127 +125,197 @@ moved_inv w chains n p q i at own =
       named = i.named;
       logs = i.logs;
       told = i.told;
-      parties = each_knows w w' chains chains n q (party_in_place n p q w.parties at) (λ k ne. others_stay n k q w.parties ne) (λ d h. h) (λ d h. grows_not manifests d w.store (chains d))
+      parties = each_knows w w' chains chains n q (party_in_place n p q w.parties at) (λ k ne. others_stay n k q w.parties ne) (λ d h. h) (λ k d h. grows_not (log_of k) d w.store (chains k d))
           (record { has = own.has; knows = own.knows }) i.parties;
     }
 
 -- ---- a step
 
--- the logs of the other databases
-module _ (s s' : Store) (db d : List ℕ) (c : Chain) (named : is_db_path d ≡ true) (own : is_db_path db ≡ true) (ne : d ≢ db) where
-  other_grows : StoreAfter db s s' → Grows manifests d s c s' c
-  other_grows (Same e) = subst (λ (t : Store). Grows manifests d s c t c) (sym e) (grows_not manifests d s c)
-  other_grows (Wrote p bytes moment is e) = subst (λ (t : Store). Grows manifests d s c t c) (sym e) (elsewhere_grows manifests d s c p bytes moment (own_elsewhere d db p named own ne is))
-  other_grows (Gone p is e) = subst (λ (t : Store). Grows manifests d s c t c) (sym e) (gone_grows manifests d s c p (own_elsewhere d db p named own ne is))
+-- the other logs: a path of one log is elsewhere for another
+module _ (s s' : Store) (k : LogKind) (db : List ℕ) (j : LogKind) (d : List ℕ) (c : Chain j) (named : is_db_path d ≡ true) (own : is_db_path db ≡ true) (apart : AreApart j d k db) where
+  away : (p : _) → IsOwn k db p → IsElsewhere (log_of j).kind d p
+  away p is = subst (λ x. IsElsewhere x d p) (sym (its_kind j)) (own_elsewhere j d k db p named own apart is)
 
-  other_sound : StoreAfter db s s' → IsSound manifests d s c → IsSound manifests d s' c
-  other_sound (Same e) i = subst (λ (t : Store). IsSound manifests d t c) (sym e) i
-  other_sound (Wrote p bytes moment is e) i = subst (λ (t : Store). IsSound manifests d t c) (sym e) (elsewhere_sound manifests d s c p bytes moment (own_elsewhere d db p named own ne is) i)
-  other_sound (Gone p is e) i = subst (λ (t : Store). IsSound manifests d t c) (sym e) (gone_sound manifests d s c p (own_elsewhere d db p named own ne is) i)
+  other_grows : StoreAfter k db s s' → Grows (log_of j) d s c s' c
+  other_grows (Same e) = subst (λ (t : Store). Grows (log_of j) d s c t c) (sym e) (grows_not (log_of j) d s c)
+  other_grows (Wrote p bytes moment is e) = subst (λ (t : Store). Grows (log_of j) d s c t c) (sym e) (elsewhere_grows (log_of j) d s c p bytes moment (away p is))
+  other_grows (Gone p is e) = subst (λ (t : Store). Grows (log_of j) d s c t c) (sym e) (gone_grows (log_of j) d s c p (away p is))
+
+  other_sound : StoreAfter k db s s' → IsSound (log_of j) d s c → IsSound (log_of j) d s' c
+  other_sound (Same e) i = subst (λ (t : Store). IsSound (log_of j) d t c) (sym e) i
+  other_sound (Wrote p bytes moment is e) i = subst (λ (t : Store). IsSound (log_of j) d t c) (sym e) (elsewhere_sound (log_of j) d s c p bytes moment (away p is) i)
+  other_sound (Gone p is e) i = subst (λ (t : Store). IsSound (log_of j) d t c) (sym e) (gone_sound (log_of j) d s c p (away p is) i)
+
+-- one log, or two
+same_place : (j : LogKind) (d : List ℕ) (k : LogKind) (db : List ℕ) → ((j ≡ k) × (d ≡ db)) ⊎ AreApart j d k db
+same_place j d k db =
+    ⊎_elim
+    (λ (e : j ≡ k). ⊎_elim (λ (f : d ≡ db). inl (e, f)) (λ (ne : d ≢ db). inr (λ a b. ne b)) (same_name d db))
+    (λ (ne : j ≢ k). inr (λ a b. ne a))
+    (same_kind j k)
+
+-- a put of a phrase leaves the other chains
+other_chain : (b : Bool) (n : ℕ) (facts : Facts) (call : Call) (phrase : Phrase) (chains : Chains) (j : LogKind) (d : List ℕ) → AreApart j d (log_in phrase) (db_in phrase) → chains_put b (put_by n facts call phrase) chains j d ≡ chains j d
+other_chain b n facts call (Reads k db phase) chains j d apart = none_put b chains j d
+other_chain b n facts call (Collects db phase) chains j d apart = none_put b chains j d
+other_chain b n facts call (Commits k db purpose now (committing.Putting m bytes v)) chains j d apart =
+    other_put b k db (record { number = m; bytes = bytes; value = (log_of k).normal v; by = Some (author_of n facts call purpose now) }) chains j d apart
+other_chain b n facts call (Commits k db purpose now (committing.Bounding m v)) chains j d apart = none_put b chains j d
+other_chain b n facts call (Commits k db purpose now committing.Over) chains j d apart = none_put b chains j d
 
 -- what a step changes of each log
-pub record LogAfter (s : Store) (c : Chain) (s' : Store) (c' : Chain) (d : List ℕ) (author : Author) : Type 0 where
-  pub sound : IsSound manifests d s' c'
-  pub grows : Grows manifests d s c s' c'
+pub record LogAfter (k : LogKind) (s : Store) (c : Chain k) (s' : Store) (c' : Chain k) (d : List ℕ) (author : Author) : Type 0 where
+  pub sound : IsSound (log_of k) d s' c'
+  pub grows : Grows (log_of k) d s c s' c'
   pub changed : Changed (λ (a : Author). a ≡ author) c c'
 
-module _ (w : World) (chains : Chains) (i : Inv w chains) (n : ℕ) (p : Party) (at : party_of n w.parties ≡ Some p) (call : Call) (purpose : Purpose) (position : Position) (knows : StateKnows w.store chains n p.facts (Busy call purpose position)) (moment : ℤ) (mark : Mark) where
+module _ (w : World) (chains : Chains) (i : Inv w chains) (n : ℕ) (p : Party) (at : party_of n w.parties ≡ Some p) (task : Task) (knows : StateKnows (HasDb w) w.store chains n p.facts (Busy task)) (moment : ℤ) (mark : Mark) where
   abbrev facts : Facts
   facts = p.facts
 
+  abbrev phrase : Phrase
+  phrase = phrase_of task.work
+
   abbrev author : Author
-  author = author_of n facts call purpose
+  author = author_in n facts task.call phrase
 
   abbrev s' : Store
-  s' = (effect mark (asks position) moment w.store).store
+  s' = (effect mark (asks task.work) moment w.store).store
 
-  abbrev next : Next
-  next = follow facts call purpose moment (goes position moment (effect mark (asks position) moment w.store).answer)
+  abbrev answer : StoreAnswer
+  answer = (effect mark (asks task.work) moment w.store).answer
+
+  abbrev standing : Standing
+  standing = follow facts task.call moment (goes task.work moment answer)
 
   abbrev chains' : Chains
-  chains' = chains_stepped w n facts call purpose position moment mark chains
+  chains' = chains_stepped w n facts task moment mark chains
 
-  has : HasDb w position.db
-  has = subst (λ d. HasDb w d) (sym knows.0) (i.parties n p at).has
+  abbrev k0 : LogKind
+  k0 = log_in phrase
 
-  here_knows : PhraseKnows w.store (chains position.db) position.db author purpose position.phrase
-  here_knows = subst (λ d. PhraseKnows w.store (chains d) d author purpose position.phrase) (sym knows.0) knows.1
+  abbrev db0 : List ℕ
+  db0 = db_in phrase
 
-  after : AfterPhrase w.store chains position.db author purpose position.phrase mark moment
-  after = phrase_step w.store chains position.db author (i.named position.db has) i.tidy (i.logs position.db has) mark moment purpose position.phrase here_knows
+  has : HasDb w db0
+  has = subst (λ d. HasDb w d) (sym (work_db task.work)) knows.has
 
-  stored : StoreAfter position.db w.store s'
-  stored = store_after w.store (chains position.db) position.db author mark moment (i.logs position.db has) purpose position.phrase here_knows
+  sound : IsSound (log_of k0) db0 w.store (chains k0 db0)
+  sound = i.logs k0 db0 has
 
-  tallies : TalliesAfter w.tallies (tallied (asks position) (wrote w.store s') w.tallies) chains'
-  tallies = tallies_after w.store chains position.db author w.tallies i.told (i.logs position.db has) (λ d. decides d position.db) purpose position.phrase (wrote w.store s') here_knows
+  -- with the call as the phrase asks it
+  pub record AfterWork : Type 0 where
+    pub sound_after : IsSound (log_of k0) db0 s' (chains' k0 db0)
+    pub grows : LogGrows w.store chains s' chains' k0 db0
+    pub changed : Changed (λ (a : Author). a ≡ author) (chains k0 db0) (chains' k0 db0)
+    pub brings : PhraseBrings s' chains' n facts task.call phrase moment answer
+    pub stored : StoreAfter k0 db0 w.store s'
+    pub tallies : TalliesAfter w.tallies (tallied (asks task.work) (wrote w.store s') w.tallies) chains'
 
-  pub log_after : (d : List ℕ) → HasDb w d → LogAfter w.store (chains d) s' (chains' d) d author
-  log_after d h =
+  abbrev Asked : StoreCall → Type 0
+  Asked asked =
+      IsSound (log_of k0) db0 (effect mark asked moment w.store).store (chains_put (wrote w.store (effect mark asked moment w.store).store) (put_by n facts task.call phrase) chains k0 db0)
+      × (LogGrows w.store chains (effect mark asked moment w.store).store (chains_put (wrote w.store (effect mark asked moment w.store).store) (put_by n facts task.call phrase) chains) k0 db0
+      × (Changed (λ (a : Author). a ≡ author) (chains k0 db0) (chains_put (wrote w.store (effect mark asked moment w.store).store) (put_by n facts task.call phrase) chains k0 db0)
+      × (PhraseBrings (effect mark asked moment w.store).store (chains_put (wrote w.store (effect mark asked moment w.store).store) (put_by n facts task.call phrase) chains) n facts task.call phrase moment (effect mark asked moment w.store).answer
+      × (StoreAfter k0 db0 w.store (effect mark asked moment w.store).store
+      × TalliesAfter w.tallies (tallied asked (wrote w.store (effect mark asked moment w.store).store) w.tallies) (chains_put (wrote w.store (effect mark asked moment w.store).store) (put_by n facts task.call phrase) chains)))))
+
+  by_phrase : Asked (phrase_asks phrase)
+  by_phrase =
+      let a = phrase_step w.store chains n facts task.call i.tidy mark moment phrase (i.named db0 has) sound knows.knows in (
+        a.leaves.sound,
+        (
+          a.leaves.grows,
+          (
+            a.leaves.changed,
+            (
+              a.brings,
+              (
+                store_after w.store chains n facts task.call mark moment phrase sound knows.knows,
+                tallies_after w.store chains w.tallies i.told n facts task.call phrase (wrote w.store (effect mark (phrase_asks phrase) moment w.store).store) sound knows.knows,
+              ),
+            ),
+          ),
+        ),
+      )
+
+  asked_work : Asked (asks task.work)
+  asked_work = subst Asked (sym (work_asks task.work)) by_phrase
+
+  pub after : AfterWork
+  after =
+      let h = asked_work in
+      record { sound_after = h.0; grows = h.1.0; changed = h.1.1.0; brings = h.1.1.1.0; stored = h.1.1.1.1.0; tallies = h.1.1.1.1.1 }
+
+  own_after : LogAfter k0 w.store (chains k0 db0) s' (chains' k0 db0) db0 author
+  own_after = record { sound = after.sound_after; grows = after.grows; changed = after.changed }
+
+  other_after : (k : LogKind) (d : List ℕ) → HasDb w d → AreApart k d k0 db0 → LogAfter k w.store (chains k d) s' (chains' k d) d author
+  other_after k d h apart =
+      let same : chains' k d ≡ chains k d = other_chain (wrote w.store s') n facts task.call phrase chains k d apart in
+      let g = other_grows w.store s' k0 db0 k d (chains k d) (i.named d h) (i.named db0 has) apart after.stored in
+      let o = other_sound w.store s' k0 db0 k d (chains k d) (i.named d h) (i.named db0 has) apart after.stored (i.logs k d h) in
+      subst (λ (c : Chain k). LogAfter k w.store (chains k d) s' c d author) (sym same) (record { sound = o; grows = g; changed = Stays refl })
+
+  -- what a step leaves of each log
+  pub log_after : (k : LogKind) (d : List ℕ) → HasDb w d → LogAfter k w.store (chains k d) s' (chains' k d) d author
+  log_after k d h =
       ⊎_elim
-      (λ (e : d ≡ position.db). subst (λ x. LogAfter w.store (chains x) s' (chains' x) x author) (sym e) (record { sound = after.leaves.sound; grows = after.leaves.grows; changed = after.leaves.changed }))
-      (λ (ne : d ≢ position.db).
-      let same : chains' d ≡ chains d = other_put (wrote w.store s') position.db (put_by author position.phrase) chains d ne in
-      let g = other_grows w.store s' position.db d (chains d) (i.named d h) (i.named position.db has) ne stored in
-      let k = other_sound w.store s' position.db d (chains d) (i.named d h) (i.named position.db has) ne stored (i.logs d h) in
-      subst (λ (c : Chain). LogAfter w.store (chains d) s' c d author) (sym same) (record { sound = k; grows = g; changed = Stays refl }))
-      (same_name d position.db)
-
-  own_next : NextKnows s' (chains' facts.db) n facts call next
-  own_next =
-      let b = subst (λ d. PhraseBrings s' (chains' d) d author purpose (goes position moment (effect mark (asks position) moment w.store).answer)) knows.0 after.brings in
-      follow_reaches s' (chains' facts.db) n facts call (log_after facts.db (i.parties n p at).has).sound purpose moment (goes position moment (effect mark (asks position) moment w.store).answer) b
+      (λ (e : (k ≡ k0) × (d ≡ db0)). subst (λ x. LogAfter x w.store (chains x d) s' (chains' x d) d author) (sym e.0) (subst (λ y. LogAfter k0 w.store (chains k0 y) s' (chains' k0 y) y author) (sym e.1) own_after))
+      (λ (apart : AreApart k d k0 db0). other_after k d h apart)
+      (same_place k d k0 db0)
 
   abbrev w' : World
-  w' = (stepped w n facts call purpose position moment mark).world
+  w' = (stepped w n facts task moment mark).world
 
   pub same_tallies : (d : List ℕ) → is_some (tally_of d w'.tallies) ≡ is_some (tally_of d w.tallies)
-  same_tallies d = tallies.same d
+  same_tallies d = after.tallies.same d
 
   same_db : (d : List ℕ) → HasDb w d → HasDb w' d
-  same_db d h = tallies.same d ∙ h
+  same_db d h = after.tallies.same d ∙ h
 
   was_db : (d : List ℕ) → HasDb w' d → HasDb w d
-  was_db d h = sym (tallies.same d) ∙ h
+  was_db d h = sym (after.tallies.same d) ∙ h
 
-  own_knows : PartyKnows w' chains' n (settled facts call next)
-  own_knows = record {
-    has = subst (λ d. HasDb w' d) (sym (settle_db facts call next)) (same_db facts.db (i.parties n p at).has);
-    knows = settle_knows s' chains' n facts call next own_next;
-  }
+  reaches : Reaches (HasDb w') s' chains' n task.call standing
+  reaches = follow_reaches (HasDb w') s' chains' n task.call facts task.work moment answer (same_db facts.db (i.parties n p at).has) (same_db (db_of task.work) knows.has)
+      (log_after logs.Manifest (db_of task.work) knows.has).sound knows.fits after.brings
+
+  own_knows : PartyKnows w' chains' n (settled task.call standing)
+  own_knows = record { has = reaches.0; knows = settle_knows (HasDb w') s' chains' n task.call standing.facts standing.next reaches.1 }
 
   pub stepped_inv : Inv w' chains'
   stepped_inv = record {
-    tidy = tidy_after position.db w.store s' (i.named position.db has) stored i.tidy;
+    tidy = tidy_after k0 db0 w.store s' (i.named db0 has) after.stored i.tidy;
     named = λ d h. i.named d (was_db d h);
-    logs = λ d h. (log_after d (was_db d h)).sound;
-    told = tallies.told;
-    parties = each_knows w w' chains chains' n (settled facts call next) (party_in_place n p (settled facts call next) w.parties at) (λ k ne. others_stay n k (settled facts call next) w.parties ne)
-        same_db (λ d h. (log_after d h).grows) own_knows i.parties;
+    logs = λ k d h. (log_after k d (was_db d h)).sound;
+    told = after.tallies.told;
+    parties = each_knows w w' chains chains' n (settled task.call standing) (party_in_place n p (settled task.call standing) w.parties at) (λ k ne. others_stay n k (settled task.call standing) w.parties ne)
+        same_db (λ k d h. (log_after k d h).grows) own_knows i.parties;
   }
 
 -- ---- events
 
-step_inv : (w : World) (chains : Chains) (n : ℕ) (p : Party) (moment : ℤ) (mark : Mark) → Inv w chains → party_of n w.parties ≡ Some p → (state : State) → StateKnows w.store chains n p.facts state
+step_inv : (w : World) (chains : Chains) (n : ℕ) (p : Party) (moment : ℤ) (mark : Mark) → Inv w chains → party_of n w.parties ≡ Some p → (state : State) → StateKnows (HasDb w) w.store chains n p.facts state
     → Inv (step_state w n p.facts state moment mark).world (chains_state w n p.facts state moment mark chains)
 step_inv w chains n p moment mark i at Resting k = i
 step_inv w chains n p moment mark i at Halted k = i
-step_inv w chains n p moment mark i at (Busy call purpose position) k = test (is_due position) (stepped_inv w chains i n p at call purpose position k moment mark)
+step_inv w chains n p moment mark i at (Busy task) k = test (is_due task.work) (stepped_inv w chains i n p at task k moment mark)
   where
-    test : (b : Bool) → Inv (stepped w n p.facts call purpose position moment mark).world (chains_stepped w n p.facts call purpose position moment mark chains)
-        → Inv (if b then stepped w n p.facts call purpose position moment mark else noted n w).world (if b then chains_stepped w n p.facts call purpose position moment mark chains else chains)
+    test : (b : Bool) → Inv (stepped w n p.facts task moment mark).world (chains_stepped w n p.facts task moment mark chains)
+        → Inv (if b then stepped w n p.facts task moment mark else noted n w).world (if b then chains_stepped w n p.facts task moment mark chains else chains)
     test true h = h
     test false h = i
 
 start_inv : (w : World) (chains : Chains) (n : ℕ) (p : Party) (call : Call) → Inv w chains → party_of n w.parties ≡ Some p → (state : State) → Inv (start_state w n p.facts state call).world chains
 start_inv w chains n p call i at Resting =
-    let next = begin p.facts call in
-    let has = (i.parties n p at).has in
-    moved_inv w chains n p (settled p.facts call next) i at (record {
-      has = subst (λ d. HasDb w d) (sym (settle_db p.facts call next)) has;
-      knows = settle_knows w.store chains n p.facts call next (begin_reaches w.store (chains p.facts.db) n p.facts call (i.logs p.facts.db has));
+    let standing = begin p.facts call in
+    moved_inv w chains n p (settled call standing) i at (record {
+      has = (i.parties n p at).has;
+      knows = settle_knows (HasDb w) w.store chains n call p.facts standing.next (begin_reaches (HasDb w) w.store chains n p.facts call (i.parties n p at).has);
     })
-start_inv w chains n p call i at (Busy under purpose position) = i
+start_inv w chains n p call i at (Busy task) = i
 start_inv w chains n p call i at Halted = i
 
 -- ids that are carried change nothing of it
@@ -255,7 +332,7 @@ carried_inv w chains n call i = record {
 stop_inv : (w : World) (chains : Chains) (n : ℕ) (p : Party) → Inv w chains → party_of n w.parties ≡ Some p → (state : State) → Inv (stop_state w n p.facts state).world chains
 stop_inv w chains n p i at Halted = i
 stop_inv w chains n p i at Resting = moved_inv w chains n p (halted p.facts) i at (record { has = (i.parties n p at).has; knows = tt })
-stop_inv w chains n p i at (Busy call purpose position) = moved_inv w chains n p (halted p.facts) i at (record { has = (i.parties n p at).has; knows = tt })
+stop_inv w chains n p i at (Busy task) = moved_inv w chains n p (halted p.facts) i at (record { has = (i.parties n p at).has; knows = tt })
 
 open_inv : (w : World) (chains : Chains) (n : ℕ) (kind : PartyKind) (db : List ℕ) (t : Tally) → Inv w chains → party_of n w.parties ≡ None → tally_of db w.tallies ≡ Some t → Inv (record w { parties = insert_entry nat_cmp w.parties n (newcomer kind db) }) chains
 open_inv w chains n kind db t i none found =
@@ -266,7 +343,7 @@ open_inv w chains n kind db t i none found =
       logs = i.logs;
       told = i.told;
       parties = each_knows w w' chains chains n (newcomer kind db) (insert_here nat_cmp number_order n (newcomer kind db) w.parties) (λ k ne. insert_else nat_cmp number_order n k (newcomer kind db) w.parties ne)
-          (λ d h. h) (λ d h. grows_not manifests d w.store (chains d)) (record { has = ap is_some found; knows = tt }) i.parties;
+          (λ d h. h) (λ k d h. grows_not (log_of k) d w.store (chains k d)) (record { has = ap is_some found; knows = tt }) i.parties;
     }
 
 -- one event that isn't bad keeps them all

@@ -3,82 +3,98 @@ use Rattle.std.proofs.Common.{◌≡◌, ℕ, ℤ, ◌+◌, ◌≤◌, Bool, tru
 use Rattle.std.proofs.lemmas.List.{append-nil}
 use Rattle.std.specs.Prelude.{if◌then◌else◌}
 use Rattle.slate_ids.specs.declared.object_path.ObjectPath.{ObjectPath}
-use Rattle.slate_ids.specs.declared.object_path.ObjectPath.TheVariants.{Manifest as ManifestPath}
-use Rattle.slate_store.specs.Store.{Store, effect}
+use Rattle.slate_store.specs.Store.{Store, object_at, effect}
 use Rattle.slate_store.specs.declared.mark.Mark.{Mark}
+use Rattle.slate_store.specs.declared.object.ObjectMetadata.{ObjectMetadata}
 use Rattle.slate_events.specs.declared.call.Call.{Call}
 use Rattle.slate_events.specs.declared.entry.Entry.{Entry}
 use Rattle.slate_events.specs.declared.event.Event.{Event}
 use Rattle.slate_events.specs.declared.event.Event.TheVariants.{Open, Start, Step, Stop}
+use Rattle.slate_log.specs.CommitPhase.{commit_asks}
 use Rattle.slate_log.specs.LogPaths.{version_path}
+use Rattle.slate_log.specs.ReadPhase.{read_asks}
 use Rattle.slate_log.specs.declared.advance_phase.AdvancePhase.TheVariants as advancing
+use Rattle.slate_log.specs.declared.commit_phase.CommitPhase.{CommitPhase}
 use Rattle.slate_log.specs.declared.commit_phase.CommitPhase.TheVariants as committing
-use Rattle.slate_log.specs.declared.log_kind.LogKind.TheVariants.{Manifest as ManifestLog}
+use Rattle.slate_log.specs.declared.log_kind.LogKind.{LogKind}
+use Rattle.slate_log.specs.declared.log_kind.LogKind.TheVariants as logs
+use Rattle.slate_log.specs.declared.read_phase.ReadPhase.{ReadPhase}
 use Rattle.slate_log.specs.declared.read_phase.ReadPhase.TheVariants as reading
+use Rattle.slate_gc.specs.Pass.{pass_asks}
+use Rattle.slate_gc.specs.declared.gc_pass.GcPass.TheVariants as gc
 use Rattle.slate_gc.specs.declared.pass_phase.PassPhase.{PassPhase}
 use Rattle.slate_gc.specs.declared.pass_phase.PassPhase.TheVariants as passing
-use Rattle.slate_protocol.specs.ByRows.{Standings, standings_after, entry_store}
+use Rattle.slate_protocol.specs.ByRows.{AllTold, all_told_after, entry_store}
 use Rattle.slate_protocol.specs.Chains.{bound_in}
-use Rattle.slate_protocol.specs.Logs.{Author, Chains, author_of, manifests, chains_stepped, chains_state, chains_at, chains_after, chains_of}
-use Rattle.slate_protocol.specs.Phrases.{asks, phrase_asks, is_due}
+use Rattle.slate_protocol.specs.Holding.{IsManifestThat}
+use Rattle.slate_protocol.specs.Logs.{Chains, log_of, manifests, phrase_of, chains_stepped, chains_state, chains_at, chains_after, chains_of}
+use Rattle.slate_protocol.specs.Owners.{owner_of}
+use Rattle.slate_protocol.specs.Owners.Owner.{Version}
 use Rattle.slate_protocol.specs.Reach.{IsNeeded, InReach, Reachable, IsSpare}
-use Rattle.slate_protocol.specs.Reach.InReach.{OfManifest}
+use Rattle.slate_protocol.specs.Reach.InReach.{OfVersion}
 use Rattle.slate_protocol.specs.Runs.{Course, Ran, going_on, run}
 use Rattle.slate_protocol.specs.Safe.{took_away, path_if, removed_by_call, removed_by, gone, NoneReachable, IsCollected, AllCollected, IsPresent, IsSafe}
+use Rattle.slate_protocol.specs.Works.{asks, is_due, db_of}
 use Rattle.slate_protocol.specs.World.{World, Transition, HasDb, party_of, tally_of, noted, stepped, step_state, start_state, stop_state, carrying, may_start, open_at, start_at, step_at, stop_at, happens}
 use Rattle.slate_protocol.specs.declared.party.Facts.{Facts}
 use Rattle.slate_protocol.specs.declared.party.Party.{Party}
-use Rattle.slate_protocol.specs.declared.party.Purpose.{Purpose}
-use Rattle.slate_protocol.specs.declared.party.Purpose.TheVariants.{Reading, Committing, Passing}
 use Rattle.slate_protocol.specs.declared.party.State.{State}
 use Rattle.slate_protocol.specs.declared.party.State.TheVariants.{Resting, Busy, Halted}
-use Rattle.slate_protocol.specs.declared.position.Phrase.{Phrase}
-use Rattle.slate_protocol.specs.declared.position.Phrase.TheVariants.{Read, Commit, Pass}
 use Rattle.slate_protocol.specs.declared.tally.Tally.{Tally}
+use Rattle.slate_protocol.specs.declared.work.Work.{Work}
+use Rattle.slate_protocol.specs.declared.work.Work.TheVariants.{ReadManifest, CommitManifest, Pass}
 use Rattle.slate_laws.proofs.Facts.{IsReached, Grows}
+use Rattle.slate_laws.proofs.Passes.{PassKnows}
+use Rattle.slate_laws.proofs.Paths.{version_owner}
 use Rattle.slate_laws.proofs.Puts.{grows_not}
 use Rattle.slate_laws.proofs.Rows.{AllMatch, ended, event_brings, all_after}
 use Rattle.slate_laws.proofs.Runs.{Inv, StateKnows, log_after, same_tallies, event_inv}
 use Rattle.slate_laws.proofs.Spares.{not_needed}
 use Rattle.slate_laws.proofs.Steps.{PhraseKnows}
+use Rattle.slate_laws.proofs.Zeros.{NoZero, zero_stays}
 
 -- ---- what an event leaves of each log
 
--- the same databases, whose logs have grown
+-- the same databases, whose logs have grown, with nothing at the number 0
 pub record EventAfter (w : World) (chains : Chains) (v : World) (chains' : Chains) : Type 0 where
   pub same : (db : List ℕ) → is_some (tally_of db v.tallies) ≡ is_some (tally_of db w.tallies)
-  pub grows : (db : List ℕ) → HasDb w db → Grows manifests db w.store (chains db) v.store (chains' db)
+  pub grows : (k : LogKind) (db : List ℕ) → HasDb w db → Grows (log_of k) db w.store (chains k db) v.store (chains' k db)
+  pub zero : NoZero w → NoZero v
 
 -- an event that leaves store, tallies and chains
 leaves_all : (w v : World) (chains : Chains) → v.store ≡ w.store → v.tallies ≡ w.tallies → EventAfter w chains v chains
 leaves_all w v chains store tallies = record {
   same = λ db. ap (λ (ts : List (List ℕ × Tally)). is_some (tally_of db ts)) tallies;
-  grows = λ db has. subst (λ (s : Store). Grows manifests db w.store (chains db) s (chains db)) (sym store) (grows_not manifests db w.store (chains db));
+  grows = λ k db has. subst (λ (s : Store). Grows (log_of k) db w.store (chains k db) s (chains k db)) (sym store) (grows_not (log_of k) db w.store (chains k db));
+  zero = λ h k db has. ap (λ (s : Store). object_at (version_path k db 0) s) store ∙ h k db (ap (λ (ts : List (List ℕ × Tally)). is_some (tally_of db ts)) (sym tallies) ∙ has);
 }
 
-step_after : (w : World) (chains : Chains) (i : Inv w chains) (n : ℕ) (p : Party) (at : party_of n w.parties ≡ Some p) (moment : ℤ) (mark : Mark) (state : State) → StateKnows w.store chains n p.facts state
+step_after : (w : World) (chains : Chains) (i : Inv w chains) (n : ℕ) (p : Party) (at : party_of n w.parties ≡ Some p) (moment : ℤ) (mark : Mark) (state : State) → StateKnows (HasDb w) w.store chains n p.facts state
     → EventAfter w chains (step_state w n p.facts state moment mark).world (chains_state w n p.facts state moment mark chains)
 step_after w chains i n p at moment mark Resting k = leaves_all w w chains refl refl
 step_after w chains i n p at moment mark Halted k = leaves_all w w chains refl refl
-step_after w chains i n p at moment mark (Busy call purpose position) k = test (is_due position) (record {
-  same = λ db. same_tallies w chains i n p at call purpose position k moment mark db;
-  grows = λ db has. (log_after w chains i n p at call purpose position k moment mark db has).grows;
+step_after w chains i n p at moment mark (Busy task) k = test (is_due task.work) (record {
+  same = λ db. same_tallies w chains i n p at task k moment mark db;
+  grows = λ log db has. (log_after w chains i n p at task k moment mark log db has).grows;
+  zero = λ h log db has.
+      let had = sym (same_tallies w chains i n p at task k moment mark db) ∙ has in
+      zero_stays log db (i.named db had) w.store chains n p.facts task.call task.work moment mark (i.named (db_of task.work) k.has) k.knows (h log db had);
 })
   where
-    test : (b : Bool) → EventAfter w chains (stepped w n p.facts call purpose position moment mark).world (chains_stepped w n p.facts call purpose position moment mark chains)
-        → EventAfter w chains (if b then stepped w n p.facts call purpose position moment mark else noted n w).world (if b then chains_stepped w n p.facts call purpose position moment mark chains else chains)
+    test : (b : Bool) → EventAfter w chains (stepped w n p.facts task moment mark).world (chains_stepped w n p.facts task moment mark chains)
+        → EventAfter w chains (if b then stepped w n p.facts task moment mark else noted n w).world (if b then chains_stepped w n p.facts task moment mark chains else chains)
     test true h = h
     test false h = leaves_all w w chains refl refl
 
 start_after : (w : World) (chains : Chains) (n : ℕ) (facts : Facts) (state : State) (call : Call) → EventAfter w chains (start_state (carrying n call w) n facts state call).world chains
 start_after w chains n facts Resting call = leaves_all w _ chains refl refl
-start_after w chains n facts (Busy under purpose position) call = leaves_all w _ chains refl refl
+start_after w chains n facts (Busy task) call = leaves_all w _ chains refl refl
 start_after w chains n facts Halted call = leaves_all w _ chains refl refl
 
 stop_after : (w : World) (chains : Chains) (n : ℕ) (facts : Facts) (state : State) → EventAfter w chains (stop_state w n facts state).world chains
 stop_after w chains n facts Halted = leaves_all w w chains refl refl
 stop_after w chains n facts Resting = leaves_all w _ chains refl refl
-stop_after w chains n facts (Busy call purpose position) = leaves_all w _ chains refl refl
+stop_after w chains n facts (Busy task) = leaves_all w _ chains refl refl
 
 pub event_after : (w : World) (chains : Chains) (e : Event) (d : Transition) → Inv w chains → happens w e ≡ Some d → EventAfter w chains d.world (chains_after w e chains)
 event_after w chains (Open n kind db) d i h = opened (party_of n w.parties) (tally_of db w.tallies) h
@@ -121,8 +137,9 @@ all_gone w chains (x ∷ xs) ys h k = (h.0, all_gone w chains xs ys h.1 k)
 module _ (w : World) (chains : Chains) (v : World) (chains' : Chains) (a : EventAfter w chains v chains') where
   stays_gone : (path : ObjectPath) → IsCollected w chains path → IsCollected v chains' path
   stays_gone path h =
-      let g = a.grows h.db h.has in
+      let g = a.grows h.log h.db h.has in
       record {
+        log = h.log;
         db = h.db;
         number = h.number;
         is = h.is;
@@ -135,62 +152,63 @@ module _ (w : World) (chains : Chains) (v : World) (chains' : Chains) (a : Event
   all_stay [] h = tt
   all_stay (path ∷ paths) h = (stays_gone path h.0, all_stay paths h.1)
 
-  -- and so does what a delete of a number removes that is spare and at or below the boundary
-  delete_gone : (db : List ℕ) (n : ℕ) (b : Bool) → HasDb w db → IsReached manifests db w.store n × IsSpare manifests (chains db) n → AllCollected v chains' (path_if b (ManifestPath db n))
-  delete_gone db n true has h = (stays_gone (ManifestPath db n) (record { db = db; number = n; is = refl; has = has; spare = h.1; bounded = h.0.reached }), tt)
-  delete_gone db n false has h = tt
+  -- and so does what a delete of a manifest removes that is spare and at or below the boundary
+  delete_gone : (db : List ℕ) (m : ObjectMetadata) (b : Bool) → HasDb w db → IsManifestThat db (λ n. IsReached manifests db w.store n × IsSpare manifests (chains logs.Manifest db) n) m → AllCollected v chains' (path_if b m.location)
+  delete_gone db m true has h = (stays_gone m.location (record { log = logs.Manifest; db = db; number = h.number; is = h.is; has = has; spare = h.has.1; bounded = h.has.0.reached }), tt)
+  delete_gone db m false has h = tt
 
-  pass_gone : (db : List ℕ) (author : Author) (options : _) (phase : PassPhase) (s : Store) → HasDb w db → PhraseKnows w.store (chains db) db author Passing (Pass options phase) → AllCollected v chains' (removed_by_call (phrase_asks db (Pass options phase)) w.store s)
-  pass_gone db author options passing.Listing s has k = tt
-  pass_gone db author options (passing.Getting now n dates) s has k = tt
-  pass_gone db author options (passing.Bounding n ns) s has k = tt
-  pass_gone db author options (passing.Advancing (advancing.Bounding n) ns) s has k = tt
-  pass_gone db author options (passing.Advancing (advancing.Creating n) ns) s has k = tt
-  pass_gone db author options (passing.Advancing (advancing.Replacing n tag) ns) s has k = tt
-  pass_gone db author options (passing.Advancing advancing.Over ns) s has k = tt
-  pass_gone db author options (passing.Deleting [] counts) s has k = tt
-  pass_gone db author options (passing.Deleting (n ∷ ns) counts) s has k = delete_gone db n (took_away (version_path ManifestLog db n) w.store s) has k.0
-  pass_gone db author options passing.Over s has k = absurd k
+  collect_gone : (db : List ℕ) (phase : PassPhase) (s : Store) → HasDb w db → PassKnows w.store (chains logs.Manifest db) db phase → AllCollected v chains' (removed_by_call (pass_asks db phase) w.store s)
+  collect_gone db passing.Listing s has k = tt
+  collect_gone db (passing.Getting n found) s has k = tt
+  collect_gone db (passing.Bounding n candidates) s has k = tt
+  collect_gone db (passing.Advancing (advancing.Bounding n) picked) s has k = tt
+  collect_gone db (passing.Advancing (advancing.Creating n) picked) s has k = tt
+  collect_gone db (passing.Advancing (advancing.Replacing n tag) picked) s has k = tt
+  collect_gone db (passing.Advancing advancing.Over picked) s has k = tt
+  collect_gone db (passing.Deleting [] counts) s has k = tt
+  collect_gone db (passing.Deleting (m ∷ ms) counts) s has k = delete_gone db m (took_away m.location w.store s) has k.0
+  collect_gone db passing.Over s has k = absurd k
 
-  phrase_gone : (db : List ℕ) (author : Author) (purpose : Purpose) (phrase : Phrase) (s : Store) → HasDb w db → PhraseKnows w.store (chains db) db author purpose phrase → AllCollected v chains' (removed_by_call (phrase_asks db phrase) w.store s)
-  phrase_gone db author Reading (Read reading.Listing) s has k = tt
-  phrase_gone db author Reading (Read (reading.Getting n)) s has k = tt
-  phrase_gone db author Reading (Read (reading.Bounding n m)) s has k = tt
-  phrase_gone db author Reading (Read reading.Over) s has k = tt
-  phrase_gone db author (Committing now) (Commit (committing.Putting n bytes m)) s has k = tt
-  phrase_gone db author (Committing now) (Commit (committing.Bounding n m)) s has k = tt
-  phrase_gone db author (Committing now) (Commit committing.Over) s has k = tt
-  phrase_gone db author Passing (Pass options phase) s has k = pass_gone db author options phase s has k
-  phrase_gone db author Reading (Commit phase) s has k = absurd k
-  phrase_gone db author Reading (Pass options phase) s has k = absurd k
-  phrase_gone db author (Committing now) (Read phase) s has k = absurd k
-  phrase_gone db author (Committing now) (Pass options phase) s has k = absurd k
-  phrase_gone db author Passing (Read phase) s has k = absurd k
-  phrase_gone db author Passing (Commit phase) s has k = absurd k
+  read_gone : {T : Type 0} (db : List ℕ) (k : LogKind) (phase : ReadPhase T) (s : Store) → AllCollected v chains' (removed_by_call (read_asks db k phase) w.store s)
+  read_gone db k reading.Listing s = tt
+  read_gone db k (reading.Getting n) s = tt
+  read_gone db k (reading.Bounding n m) s = tt
+  read_gone db k reading.Over s = tt
+
+  commit_gone : {T : Type 0} (db : List ℕ) (k : LogKind) (phase : CommitPhase T) (s : Store) → AllCollected v chains' (removed_by_call (commit_asks db k phase) w.store s)
+  commit_gone db k (committing.Putting n bytes m) s = tt
+  commit_gone db k (committing.Bounding n m) s = tt
+  commit_gone db k committing.Over s = tt
+
+  work_gone : (n : ℕ) (facts : Facts) (call : Call) (work : Work) (s : Store) → HasDb w (db_of work) → PhraseKnows w.store chains n facts call (phrase_of work) → AllCollected v chains' (removed_by_call (asks work) w.store s)
+  work_gone n facts call (ReadManifest purpose db phase) s has k = read_gone db logs.Manifest phase s
+  work_gone n facts call (CommitManifest purpose now db phase) s has k = commit_gone db logs.Manifest phase s
+  work_gone n facts call (Pass db options (gc.Reading phase)) s has k = read_gone db logs.Manifest phase s
+  work_gone n facts call (Pass db options (gc.Committing now phase)) s has k = commit_gone db logs.Manifest phase s
+  work_gone n facts call (Pass db options (gc.Collecting phase)) s has k = collect_gone db phase s has k
 
   -- what a step removed
-  pub step_gone : (n : ℕ) (facts : Facts) (state : State) (moment : ℤ) (mark : Mark) → HasDb w facts.db → StateKnows w.store chains n facts state → AllCollected v chains' (removed_by (step_state w n facts state moment mark).entry w.store)
-  step_gone n facts Resting moment mark has k = tt
-  step_gone n facts Halted moment mark has k = tt
-  step_gone n facts (Busy call purpose position) moment mark has k =
-      let s = (effect mark (asks position) moment w.store).store in
-      let own = subst (λ d. PhraseKnows w.store (chains d) d (author_of n facts call purpose) purpose position.phrase) (sym k.0) k.1 in
-      test (is_due position) (phrase_gone position.db (author_of n facts call purpose) purpose position.phrase s (subst (λ d. HasDb w d) (sym k.0) has) own)
+  pub step_gone : (n : ℕ) (facts : Facts) (state : State) (moment : ℤ) (mark : Mark) → StateKnows (HasDb w) w.store chains n facts state → AllCollected v chains' (removed_by (step_state w n facts state moment mark).entry w.store)
+  step_gone n facts Resting moment mark k = tt
+  step_gone n facts Halted moment mark k = tt
+  step_gone n facts (Busy task) moment mark k =
+      let s = (effect mark (asks task.work) moment w.store).store in
+      test (is_due task.work) (work_gone n facts task.call task.work s k.has k.knows)
     where
-      test : (b : Bool) → AllCollected v chains' (removed_by (stepped w n facts call purpose position moment mark).entry w.store)
-          → AllCollected v chains' (removed_by (if b then stepped w n facts call purpose position moment mark else noted n w).entry w.store)
+      test : (b : Bool) → AllCollected v chains' (removed_by (stepped w n facts task moment mark).entry w.store)
+          → AllCollected v chains' (removed_by (if b then stepped w n facts task moment mark else noted n w).entry w.store)
       test true h = h
       test false h = tt
 
   start_gone : (n : ℕ) (facts : Facts) (state : State) (call : Call) (u : World) → AllCollected v chains' (removed_by (start_state u n facts state call).entry w.store)
   start_gone n facts Resting call u = tt
-  start_gone n facts (Busy under purpose position) call u = tt
+  start_gone n facts (Busy task) call u = tt
   start_gone n facts Halted call u = tt
 
   stop_gone : (n : ℕ) (facts : Facts) (state : State) → AllCollected v chains' (removed_by (stop_state w n facts state).entry w.store)
   stop_gone n facts Halted = tt
   stop_gone n facts Resting = tt
-  stop_gone n facts (Busy call purpose position) = tt
+  stop_gone n facts (Busy task) = tt
 
   pub event_gone : (e : Event) (d : Transition) → Inv w chains → happens w e ≡ Some d → AllCollected v chains' (removed_by d.entry w.store)
   event_gone (Open n kind db) d i h = opened (party_of n w.parties) (tally_of db w.tallies) h
@@ -215,7 +233,7 @@ module _ (w : World) (chains : Chains) (v : World) (chains' : Chains) (a : Event
       went (Some p) at h =
           let same : step_state w n p.facts p.state moment mark ≡ d = cc in
           let known = i.parties n p at in
-          subst (λ (r : Transition). AllCollected v chains' (removed_by r.entry w.store)) same (step_gone n p.facts p.state moment mark known.has known.knows)
+          subst (λ (r : Transition). AllCollected v chains' (removed_by r.entry w.store)) same (step_gone n p.facts p.state moment mark known.knows)
   event_gone (Stop n) d i h = went (party_of n w.parties) h
     where
       went : (o : Option Party) → stop_at w n o ≡ Some d → AllCollected v chains' (removed_by d.entry w.store)
@@ -241,21 +259,21 @@ more_gone c v d chains' paths e r = record {
       (append_assoc paths (removed_by d.entry c.world.store) (gone r.entries d.world.store) ∙ ap (λ (s : Store). paths ++ (removed_by d.entry c.world.store ++ gone r.entries s)) e) r.all;
 }
 
-pub run_gone : (es : List Event) (place : ℕ) (c v : Course) (standings : Standings) (chains : Chains) (paths : List ObjectPath) → AllMatch standings c.world → Inv c.world chains → AllCollected c.world chains paths → run es place c ≡ ended v
+pub run_gone : (es : List Event) (place : ℕ) (c v : Course) (all : AllTold) (chains : Chains) (paths : List ObjectPath) → AllMatch all c.world → Inv c.world chains → AllCollected c.world chains paths → run es place c ≡ ended v
     → RunGone c v (chains_of es c.world chains) paths
-run_gone [] place c v standings chains paths m i h is =
+run_gone [] place c v all chains paths m i h is =
     let same : c ≡ v = ap (λ (r : Ran). r.course) is in
     record {
       entries = [];
       trail = ap (λ (x : Course). x.trail) (sym same) ∙ sym (append-nil c.trail);
       all = subst (λ (ps : List ObjectPath). AllCollected v.world chains ps) (sym (append-nil paths)) (subst (λ (x : Course). AllCollected x.world chains paths) same h);
     }
-run_gone (e ∷ es) place c v standings chains paths m i h is =
+run_gone (e ∷ es) place c v all chains paths m i h is =
     went (happens c.world e) refl is
     (λ d k at.
     let after = event_after c.world chains e d i at in
-    run_gone es (place + 1) (going_on c d) v (standings_after e d.entry standings) (chains_after c.world e chains) (paths ++ removed_by d.entry c.world.store)
-    (all_after e standings c.world d m (event_brings e standings c.world d m at)) (event_inv c.world chains e d at i)
+    run_gone es (place + 1) (going_on c d) v (all_told_after e d.entry all) (chains_after c.world e chains) (paths ++ removed_by d.entry c.world.store)
+    (all_after e all c.world d m (event_brings e all c.world d m at)) (event_inv c.world chains e d at i)
     (all_gone d.world (chains_after c.world e chains) paths (removed_by d.entry c.world.store) (all_stay c.world chains d.world (chains_after c.world e chains) after paths h)
     (event_gone c.world chains d.world (chains_after c.world e chains) after e d i at)) k)
   where
@@ -263,7 +281,7 @@ run_gone (e ∷ es) place c v standings chains paths m i h is =
         → ((d : Transition) → run es (place + 1) (going_on c d) ≡ ended v → happens c.world e ≡ Some d → RunGone (going_on c d) v (chains_of es d.world (chains_after c.world e chains)) (paths ++ removed_by d.entry c.world.store))
         → RunGone c v (elim o as (λ _. Chains) [ None ↦ chains | Some d ↦ chains_of es d.world (chains_after c.world e chains) ]) paths
     went None at is f = absurd (cc (ap (λ (r : Ran). r.bad) is))
-    went (Some d) at is f = more_gone c v d (chains_of es d.world (chains_after c.world e chains)) paths (event_brings e standings c.world d m at).store (f d is at)
+    went (Some d) at is f = more_gone c v d (chains_of es d.world (chains_after c.world e chains)) paths (event_brings e all c.world d m at).store (f d is at)
 
 -- ---- so it is safe
 
@@ -271,19 +289,22 @@ module _ (w : World) (chains : Chains) (i : Inv w chains) where
   unreachable_one : (path : ObjectPath) → IsCollected w chains path → Reachable w chains path → ⊥
   unreachable_one path h r = by_reach r.reach
     where
-      by_reach : InReach (chains r.db) r.db path → ⊥
-      by_reach (OfManifest n is needed) =
-          let same : ManifestPath h.db h.number ≡ ManifestPath r.db n = sym h.is ∙ is in
-          let same_db : h.db ≡ r.db = cc in
-          let same_number : h.number ≡ n = cc in
-          not_needed manifests (chains h.db) h.number h.spare (subst (λ k. IsNeeded manifests (chains h.db) k) (sym same_number) (subst (λ d. IsNeeded manifests (chains d) n) (sym same_db) needed))
+      by_reach : InReach chains r.db path → ⊥
+      by_reach (OfVersion k n is needed) =
+          let same : Version h.log h.db h.number ≡ Version k r.db n = sym (version_owner h.log h.db h.number) ∙ (ap owner_of (sym h.is ∙ is) ∙ version_owner k r.db n) in
+          let same_log : h.log ≡ k = cc (same) in
+          let same_db : h.db ≡ r.db = cc (same) in
+          let same_number : h.number ≡ n = cc (same) in
+          let own : IsNeeded (log_of k) (chains k h.db) h.number = subst (λ j. IsNeeded (log_of k) (chains k h.db) j) (sym same_number) (subst (λ d. IsNeeded (log_of k) (chains k d) n) (sym same_db) needed) in
+          not_needed (log_of h.log) (chains h.log h.db) h.number h.spare (subst (λ j. IsNeeded (log_of j) (chains j h.db) h.number) (sym same_log) own)
 
   none_reachable : (paths : List ObjectPath) → AllCollected w chains paths → NoneReachable w chains paths
   none_reachable [] h = tt
   none_reachable (path ∷ paths) h = (unreachable_one path h.0, none_reachable paths h.1)
 
-  stands_there : (db : List ℕ) (n : ℕ) → HasDb w db → IsNeeded manifests (chains db) n → IsPresent w chains db n
-  stands_there db n has needed = let k = (i.logs db has).needed n needed in record { link = k.link; committed = k.at; stands = k.stands }
+  stands_there : (k : LogKind) (db : List ℕ) (n : ℕ) → HasDb w db → IsNeeded (log_of k) (chains k db) n → IsPresent w chains k db n
+  stands_there logs.Manifest db n has needed = let it = (i.logs logs.Manifest db has).needed n needed in record { link = it.link; committed = it.at; stands = it.stands }
+  stands_there logs.Compactions db n has needed = let it = (i.logs logs.Compactions db has).needed n needed in record { link = it.link; committed = it.at; stands = it.stands }
 
   pub is_safe : (paths : List ObjectPath) → AllCollected w chains paths → IsSafe w chains paths
   is_safe paths h = record { unreachable = none_reachable paths h; stands = stands_there; collected = h }
@@ -302,24 +323,24 @@ run_same (e ∷ es) place c v chains db i is =
     went None at is f = absurd (cc (ap (λ (r : Ran). r.bad) is))
     went (Some d) at is f = f d is at
 
-pub run_rises : (es : List Event) (place : ℕ) (c v : Course) (chains : Chains) (db : List ℕ) → Inv c.world chains → HasDb c.world db → run es place c ≡ ended v
-    → (before now : ℕ) → bound_in manifests db c.world.store ≡ Some before → bound_in manifests db v.world.store ≡ Some now → before ≤ now
-run_rises [] place c v chains db i has is before now was read =
+pub run_rises : (log : LogKind) (es : List Event) (place : ℕ) (c v : Course) (chains : Chains) (db : List ℕ) → Inv c.world chains → HasDb c.world db → run es place c ≡ ended v
+    → (before now : ℕ) → bound_in (log_of log) db c.world.store ≡ Some before → bound_in (log_of log) db v.world.store ≡ Some now → before ≤ now
+run_rises log [] place c v chains db i has is before now was read =
     let same : c ≡ v = ap (λ (r : Ran). r.course) is in
-    let here : bound_in manifests db c.world.store ≡ Some now = subst (λ (x : Course). bound_in manifests db x.world.store ≡ Some now) (sym same) read in
+    let here : bound_in (log_of log) db c.world.store ≡ Some now = subst (λ (x : Course). bound_in (log_of log) db x.world.store ≡ Some now) (sym same) read in
     let equal : before ≡ now = cc (was, here) in
     omega arith
-run_rises (e ∷ es) place c v chains db i has is before now was read =
+run_rises log (e ∷ es) place c v chains db i has is before now was read =
     went (happens c.world e) refl is
     (λ d k at.
     let after = event_after c.world chains e d i at in
     let mid_inv = event_inv c.world chains e d at i in
     let mid_has : HasDb d.world db = after.same db ∙ has in
-    let log = mid_inv.logs db mid_has in
-    let was_there = (after.grows db has).bound log.bound log.read in
+    let mid = mid_inv.logs log db mid_has in
+    let was_there = (after.grows log db has).bound mid.bound mid.read in
     let equal : was_there.0 ≡ before = cc (was_there.1, was) in
     let up = was_there.2 in
-    let rest = run_rises es (place + 1) (going_on c d) v (chains_after c.world e chains) db mid_inv mid_has k log.bound now log.read read in
+    let rest = run_rises log es (place + 1) (going_on c d) v (chains_after c.world e chains) db mid_inv mid_has k mid.bound now mid.read read in
     omega arith)
   where
     went : (o : Option Transition) → happens c.world e ≡ o → (elim o as (λ _. Ran) [ None ↦ record { course = c; bad = Some place } | Some done ↦ run es (place + 1) (going_on c done) ]) ≡ ended v

@@ -9,7 +9,7 @@ use Rattle.slate_laws.proofs.Links.{link_here, link_there, same_or_not, at_most}
 module _ {V A : Type 0} (log : Log V A) where
   -- what is spare isn't needed
   pub not_needed : (c : List (Link V A)) (k : ℕ) → IsSpare log c k → IsNeeded log c k → ⊥
-  not_needed c k h (Greatest e) = let lt = h.below in omega arith
+  not_needed c k h (Greatest pos e) = let lt = h.below in omega arith
   not_needed c k h (Named named) = cc (named, h.unnamed)
 
   -- so a spare number is another than a needed one

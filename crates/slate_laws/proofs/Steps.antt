@@ -1,143 +1,204 @@
--- One step of a party's phrase: what it leaves of each log, of the store and of the tallies, and what its answer brings.
-use Rattle.std.proofs.Common.{◌≡◌, ◌≢◌, ℕ, ℤ, Bool, true, false, List, Option, Some, None, Ok, Err, refl, sym, ap, ◌∙◌, subst}
+-- One step of the phrase under way: what it leaves of its log, and what its answer brings.
+use Rattle.std.proofs.Common.{◌≡◌, ◌≢◌, ℕ, ℤ, pos, Bool, true, false, List, Option, Some, None, ◌⊎◌, inl, inr, refl, sym, ap, ◌∙◌, subst}
 use Rattle.std.specs.Prelude.{if◌then◌else◌, bytes_eq}
 use Rattle.slate_ids.specs.Ids.{is_db_path}
 use Rattle.slate_manifest_parts.specs.Decoding.{decoded_manifest}
-use Rattle.slate_encodable.specs.Normal.{normal_manifest}
-use Rattle.slate_model.specs.declared.manifest.Manifest.{Manifest}
-use Rattle.slate_store.specs.Machines.{Goes, Stay, End}
 use Rattle.slate_store.specs.Store.{Store, effect}
 use Rattle.slate_store.specs.declared.mark.Mark.{Mark}
+use Rattle.slate_store.specs.declared.store_answer.StoreAnswer.{StoreAnswer}
+use Rattle.slate_store.specs.declared.store_call.StoreCall.{StoreCall}
 use Rattle.slate_log.specs.CommitPhase.{commit_asks, commit_goes}
 use Rattle.slate_log.specs.ReadPhase.{read_asks, read_goes}
-use Rattle.slate_gc.specs.Pass.{pass_asks, pass_goes}
-use Rattle.slate_gc.specs.declared.pass_counts.PassCounts.{PassCounts}
-use Rattle.slate_gc.specs.declared.pass_options.PassOptions.{PassOptions}
-use Rattle.slate_gc.specs.declared.pass_phase.PassPhase.{PassPhase}
 use Rattle.slate_log.specs.declared.commit_phase.CommitPhase.{CommitPhase}
 use Rattle.slate_log.specs.declared.commit_phase.CommitPhase.TheVariants.{Putting, Bounding, Over}
-use Rattle.slate_log.specs.declared.log_kind.LogKind.TheVariants.{Manifest as ManifestLog}
-use Rattle.slate_log.specs.declared.read_phase.ReadPhase.{ReadPhase}
+use Rattle.slate_log.specs.declared.log_kind.LogKind.{LogKind}
+use Rattle.slate_log.specs.declared.log_kind.LogKind.TheVariants as logs
+use Rattle.slate_gc.specs.Pass.{pass_asks, pass_goes}
+use Rattle.slate_gc.specs.declared.filter_word.FilterWord.TheVariants.{Nothing}
+use Rattle.slate_gc.specs.declared.gc_pass.GcPass.TheVariants as passing
+use Rattle.slate_gc.specs.declared.pass_options.PassOptions.{PassOptions}
+use Rattle.slate_events.specs.declared.call.Call.{Call}
 use Rattle.slate_protocol.specs.Chains.{Link, with_link}
-use Rattle.slate_protocol.specs.Logs.{Author, Chain, Chains, manifests, put_by, with_put, chains_put}
-use Rattle.slate_protocol.specs.Phrases.{phrase_asks, phrase_goes, read_on, commit_on, pass_on}
+use Rattle.slate_protocol.specs.Logs.{Author, Held, log_of, Chain, Chains, Phrase, Reads, Commits, Collects, phrase_of, Put, put_by, chain_with, chains_put}
+use Rattle.slate_protocol.specs.Works.{db_of, asks}
 use Rattle.slate_protocol.specs.World.{wrote}
-use Rattle.slate_protocol.specs.declared.party.Purpose.{Purpose}
-use Rattle.slate_protocol.specs.declared.party.Purpose.TheVariants.{Reading, Committing, Passing}
-use Rattle.slate_protocol.specs.declared.position.Phrase.{Phrase}
-use Rattle.slate_protocol.specs.declared.position.Phrase.TheVariants.{Read, Commit, Pass}
-use Rattle.slate_protocol.specs.declared.position.Position.{Position}
-use Rattle.slate_protocol.specs.declared.position.Ended.{Ended}
-use Rattle.slate_protocol.specs.declared.position.Ended.TheVariants.{NoVersion, Version, Committed, Passed}
-use Rattle.slate_laws.proofs.Stores.{IsTidy, bytes_same, no_bytes}
-use Rattle.slate_laws.proofs.Facts.{IsSound, IsValue, ReadKnows, CommitKnows, ReadBrings, CommitBrings}
-use Rattle.slate_laws.proofs.Manifests.{manifests_log}
+use Rattle.slate_protocol.specs.declared.party.Facts.{Facts}
+use Rattle.slate_protocol.specs.declared.work.Purpose.{Purpose}
+use Rattle.slate_protocol.specs.declared.work.Purpose.TheVariants.{Once}
+use Rattle.slate_protocol.specs.declared.work.Work.{Work}
+use Rattle.slate_protocol.specs.declared.work.Work.TheVariants as works
+use Rattle.slate_laws.proofs.Stores.{IsTidy, decides, bytes_same}
+use Rattle.slate_laws.proofs.Facts.{IsSound, ReadKnows, CommitKnows, ReadBrings, CommitBrings}
+use Rattle.slate_laws.proofs.Manifests.{log_laws}
+use Rattle.slate_laws.proofs.Paths.{AreApart}
 use Rattle.slate_laws.proofs.Puts.{Leaves, leaves_not}
 use Rattle.slate_laws.proofs.Turns.{chain_if, read_step, bound_step, put_step}
 use Rattle.slate_laws.proofs.Passes.{PassKnows, PassBrings, pass_step}
 
--- what a party knows while it is in a phrase with a purpose: it reads to go on, commits what it made, or is in a pass
-abbrev pub PhraseKnows : Store → Chain → List ℕ → Author → Purpose → Phrase → Type 0
-PhraseKnows s c db author Reading (Read phase) = ReadKnows manifests db s c phase
-PhraseKnows s c db author (Committing now) (Commit phase) = CommitKnows manifests db s c author phase
-PhraseKnows s c db author Passing (Pass options phase) = PassKnows s c db phase
-PhraseKnows s c db author _ _ = ⊥
+-- ---- phrases
 
-abbrev pub EndBrings : Chain → Ended → Type 0
-EndBrings c NoVersion = Unit {0}
-EndBrings c (Version n m) = IsValue c n m
-EndBrings c (Committed n m) = IsValue c n (normal_manifest m)
-EndBrings c (Passed counts) = Unit {0}
+-- the log of a phrase, and its database
+abbrev pub log_in : Phrase → LogKind
+log_in (Reads k db phase) = k
+log_in (Commits k db purpose now phase) = k
+log_in (Collects db phase) = logs.Manifest
 
--- what a phrase's answer brings
-abbrev pub PhraseBrings : Store → Chain → List ℕ → Author → Purpose → Goes Position Ended → Type 0
-PhraseBrings s c db author purpose (Stay position) = (position.db ≡ db) × PhraseKnows s c db author purpose position.phrase
-PhraseBrings s c db author purpose (End position (Ok ended)) = EndBrings c ended
-PhraseBrings s c db author purpose (End position (Err e)) = Unit {0}
+abbrev pub db_in : Phrase → List ℕ
+db_in (Reads k db phase) = db
+db_in (Commits k db purpose now phase) = db
+db_in (Collects db phase) = db
 
-read_around : (s : Store) (c : Chain) (db : List ℕ) (author : Author) (g : Goes (ReadPhase Manifest) (Option (ℕ × Manifest))) → ReadBrings manifests db s c g → PhraseBrings s c db author Reading (read_on db g)
-read_around s c db author (Stay phase) h = (refl, h)
-read_around s c db author (End phase (Ok (Some version))) h = h
-read_around s c db author (End phase (Ok None)) h = tt
-read_around s c db author (End phase (Err e)) h = tt
+-- its store call
+abbrev pub phrase_asks : Phrase → StoreCall
+phrase_asks (Reads k db phase) = read_asks db (log_of k).kind phase
+phrase_asks (Commits k db purpose now phase) = commit_asks db (log_of k).kind phase
+phrase_asks (Collects db phase) = pass_asks db phase
 
-commit_around : (s : Store) (c : Chain) (db : List ℕ) (author : Author) (now : ℤ) (g : Goes (CommitPhase Manifest) (ℕ × Manifest)) → CommitBrings manifests db s c author g → PhraseBrings s c db author (Committing now) (commit_on db g)
-commit_around s c db author now (Stay phase) h = (refl, h)
-commit_around s c db author now (End phase (Ok version)) h = h
-commit_around s c db author now (End phase (Err e)) h = tt
+-- they are those of the work
+pub work_asks : (work : Work) → asks work ≡ phrase_asks (phrase_of work)
+work_asks (works.ReadManifest purpose db phase) = refl
+work_asks (works.CommitManifest purpose now db phase) = refl
+work_asks (works.Pass db options (passing.Reading phase)) = refl
+work_asks (works.Pass db options (passing.Committing now phase)) = refl
+work_asks (works.Pass db options (passing.Collecting phase)) = refl
 
-pass_around : (s : Store) (c : Chain) (db : List ℕ) (author : Author) (options : PassOptions) (g : Goes PassPhase PassCounts) → PassBrings s c db g → PhraseBrings s c db author Passing (pass_on db options g)
-pass_around s c db author options (Stay phase) h = (refl, h)
-pass_around s c db author options (End phase (Ok counts)) h = tt
-pass_around s c db author options (End phase (Err e)) h = tt
+pub work_db : (work : Work) → db_in (phrase_of work) ≡ db_of work
+work_db (works.ReadManifest purpose db phase) = refl
+work_db (works.CommitManifest purpose now db phase) = refl
+work_db (works.Pass db options (passing.Reading phase)) = refl
+work_db (works.Pass db options (passing.Committing now phase)) = refl
+work_db (works.Pass db options (passing.Collecting phase)) = refl
 
--- ---- the chain of this database after a step, and those of the others
+-- the author of what a party commits in a call for a purpose
+abbrev pub author_of : ℕ → Facts → Call → Purpose → ℤ → Author
+author_of n facts call purpose now = record { party = n; facts = facts; call = call; purpose = purpose; now = now }
 
-pub none_put : (b : Bool) (db : List ℕ) (chains : Chains) (d : List ℕ) → chains_put b db None chains d ≡ chains d
-none_put false db chains d = refl
-none_put true db chains d = test (bytes_eq d db)
+-- the author of a phrase, which counts where it commits
+abbrev pub author_in : ℕ → Facts → Call → Phrase → Author
+author_in n facts call (Reads k db phase) = author_of n facts call Once (pos 0)
+author_in n facts call (Commits k db purpose now phase) = author_of n facts call purpose now
+author_in n facts call (Collects db phase) = author_of n facts call Once (pos 0)
+
+pub author_party : (n : ℕ) (facts : Facts) (call : Call) (phrase : Phrase) → (author_in n facts call phrase).party ≡ n
+author_party n facts call (Reads k db phase) = refl
+author_party n facts call (Commits k db purpose now phase) = refl
+author_party n facts call (Collects db phase) = refl
+
+-- what a party knows while it is in a phrase
+abbrev pub PhraseKnows : Store → Chains → ℕ → Facts → Call → Phrase → Type 0
+PhraseKnows s chains n facts call (Reads k db phase) = ReadKnows (log_of k) db s (chains k db) phase
+PhraseKnows s chains n facts call (Commits k db purpose now phase) = CommitKnows (log_of k) db s (chains k db) (author_of n facts call purpose now) phase
+PhraseKnows s chains n facts call (Collects db phase) = PassKnows s (chains logs.Manifest db) db phase
+
+-- what a phrase's answer at a moment brings
+abbrev pub PhraseBrings : Store → Chains → ℕ → Facts → Call → Phrase → ℤ → StoreAnswer → Type 0
+PhraseBrings s chains n facts call (Reads k db phase) moment answer = ReadBrings (log_of k) db s (chains k db) (read_goes (log_of k).kind (log_of k).decoded phase answer)
+PhraseBrings s chains n facts call (Commits k db purpose now phase) moment answer = CommitBrings (log_of k) db s (chains k db) (author_of n facts call purpose now) (commit_goes phase answer)
+PhraseBrings s chains n facts call (Collects db phase) moment answer = (options : PassOptions) → PassBrings s (chains logs.Manifest db) db (pass_goes decoded_manifest options moment phase answer)
+
+-- ---- the chain of this log after a put, and those of the others
+
+chain_own : (k : LogKind) (l : Link (Held k) Author) (c : Chain k) → chain_with k k l c ≡ with_link l c
+chain_own logs.Manifest l c = refl
+chain_own logs.Compactions l c = refl
+
+chain_else : (k j : LogKind) (l : Link (Held j) Author) (c : Chain k) → k ≢ j → chain_with k j l c ≡ c
+chain_else logs.Manifest logs.Manifest l c ne = absurd (ne refl)
+chain_else logs.Compactions logs.Compactions l c ne = absurd (ne refl)
+chain_else logs.Manifest logs.Compactions l c ne = refl
+chain_else logs.Compactions logs.Manifest l c ne = refl
+
+abbrev pub put_of : (k : LogKind) → List ℕ → Link (Held k) Author → Put
+put_of k db l = record { log = k; db = db; link = l }
+
+pub none_put : (b : Bool) (chains : Chains) (k : LogKind) (d : List ℕ) → chains_put b None chains k d ≡ chains k d
+none_put false chains k d = refl
+none_put true chains k d = refl
+
+pub own_put : (b : Bool) (k : LogKind) (db : List ℕ) (l : Link (Held k) Author) (chains : Chains) → chains_put b (Some (put_of k db l)) chains k db ≡ chain_if b l (chains k db)
+own_put false k db l chains = refl
+own_put true k db l chains = ap (λ (b : Bool). if b then chain_with k k l (chains k db) else chains k db) (bytes_same db) ∙ chain_own k l (chains k db)
+
+pub other_put : (b : Bool) (k : LogKind) (db : List ℕ) (l : Link (Held k) Author) (chains : Chains) (j : LogKind) (d : List ℕ) → AreApart j d k db → chains_put b (Some (put_of k db l)) chains j d ≡ chains j d
+other_put false k db l chains j d apart = refl
+other_put true k db l chains j d apart = test (bytes_eq d db) refl
   where
-    test : (b : Bool) → (if b then chains d else chains d) ≡ chains d
-    test true = refl
-    test false = refl
+    test : (t : Bool) → bytes_eq d db ≡ t → (if t then chain_with j k l (chains j d) else chains j d) ≡ chains j d
+    test true is = chain_else j k l (chains j d) (λ e. apart e ((decides d db).0 is))
+    test false is = refl
 
-pub own_put : (b : Bool) (db : List ℕ) (l : Link Manifest Author) (chains : Chains) → chains_put b db (Some l) chains db ≡ chain_if b l (chains db)
-own_put false db l chains = refl
-own_put true db l chains = ap (λ (b : Bool). if b then with_link l (chains db) else chains db) (bytes_same db)
+-- ---- a step
 
-pub other_put : (b : Bool) (db : List ℕ) (l : Option (Link Manifest Author)) (chains : Chains) (d : List ℕ) → d ≢ db → chains_put b db l chains d ≡ chains d
-other_put false db l chains d ne = refl
-other_put true db l chains d ne = ap (λ (b : Bool). if b then with_put l (chains d) else chains d) (no_bytes d db ne)
+abbrev pub AfterCall : Store → Phrase → Mark → ℤ → Store
+AfterCall s phrase mark moment = (effect mark (phrase_asks phrase) moment s).store
+
+abbrev pub chains_next : Store → Chains → ℕ → Facts → Call → Phrase → Mark → ℤ → Chains
+chains_next s chains n facts call phrase mark moment = chains_put (wrote s (AfterCall s phrase mark moment)) (put_by n facts call phrase) chains
 
 -- what a step leaves of its own log, and what its answer brings
-pub record AfterPhrase (s : Store) (chains : Chains) (db : List ℕ) (author : Author) (purpose : Purpose) (phrase : Phrase) (mark : Mark) (moment : ℤ) : Type 0 where
-  pub leaves : Leaves manifests db author s (chains db) (effect mark (phrase_asks db phrase) moment s).store (chains_put (wrote s (effect mark (phrase_asks db phrase) moment s).store) db (put_by author phrase) chains db)
-  pub brings : PhraseBrings (effect mark (phrase_asks db phrase) moment s).store (chains_put (wrote s (effect mark (phrase_asks db phrase) moment s).store) db (put_by author phrase) chains db) db author purpose (phrase_goes db phrase moment (effect mark (phrase_asks db phrase) moment s).answer)
+pub record AfterPhrase (s : Store) (chains : Chains) (n : ℕ) (facts : Facts) (call : Call) (phrase : Phrase) (mark : Mark) (moment : ℤ) : Type 0 where
+  pub leaves : Leaves (log_of (log_in phrase)) (db_in phrase) (author_in n facts call phrase) s (chains (log_in phrase) (db_in phrase)) (AfterCall s phrase mark moment) (chains_next s chains n facts call phrase mark moment (log_in phrase) (db_in phrase))
+  pub brings : PhraseBrings (AfterCall s phrase mark moment) (chains_next s chains n facts call phrase mark moment) n facts call phrase moment (effect mark (phrase_asks phrase) moment s).answer
 
-module _ (s : Store) (chains : Chains) (db : List ℕ) (author : Author) (named : is_db_path db ≡ true) (tidy : IsTidy s.objects) (i : IsSound manifests db s (chains db)) (mark : Mark) (moment : ℤ) where
-  -- a step that puts no version
-  quiet : (purpose : Purpose) (phrase : Phrase) → put_by author phrase ≡ None → Leaves manifests db author s (chains db) (effect mark (phrase_asks db phrase) moment s).store (chains db)
-      → PhraseBrings (effect mark (phrase_asks db phrase) moment s).store (chains db) db author purpose (phrase_goes db phrase moment (effect mark (phrase_asks db phrase) moment s).answer) → AfterPhrase s chains db author purpose phrase mark moment
-  quiet purpose phrase none leaves brings =
-      let o = effect mark (phrase_asks db phrase) moment s in
-      let chain : chains_put (wrote s o.store) db (put_by author phrase) chains db ≡ chains db = ap (λ (l : Option (Link Manifest Author)). chains_put (wrote s o.store) db l chains db) none ∙ none_put (wrote s o.store) db chains db in
+-- what a pass leaves of its log doesn't hang on its options
+any_options : PassOptions
+any_options = record { min_age = 0; dry_run = true; filter = Nothing }
+
+module _ (s : Store) (chains : Chains) (n : ℕ) (facts : Facts) (call : Call) (tidy : IsTidy s.objects) (mark : Mark) (moment : ℤ) where
+  module _ (k : LogKind) (db : List ℕ) (i : IsSound (log_of k) db s (chains k db)) where
+    -- a step of a read
+    reads : (phase : _) → ReadKnows (log_of k) db s (chains k db) phase → AfterPhrase s chains n facts call (Reads k db phase) mark moment
+    reads phase h =
+        let o = effect mark (read_asks db (log_of k).kind phase) moment s in
+        let r = read_step (log_of k) (log_laws k) db s (chains k db) i tidy phase mark moment h in
+        let chain = none_put (wrote s o.store) chains k db in
+        record {
+          leaves = subst (λ (c : Chain k). Leaves (log_of k) db (author_of n facts call Once (pos 0)) s (chains k db) o.store c) (sym chain)
+              (subst (λ (t : Store). Leaves (log_of k) db (author_of n facts call Once (pos 0)) s (chains k db) t (chains k db)) (sym r.same) (leaves_not (log_of k) db (author_of n facts call Once (pos 0)) s (chains k db) i));
+          brings = subst (λ (c : Chain k). ReadBrings (log_of k) db o.store c (read_goes (log_of k).kind (log_of k).decoded phase o.answer)) (sym chain)
+              (subst (λ (t : Store). ReadBrings (log_of k) db t (chains k db) (read_goes (log_of k).kind (log_of k).decoded phase o.answer)) (sym r.same) r.brings);
+        }
+
+    -- a step of a commit
+    commits : (named : is_db_path db ≡ true) (purpose : Purpose) (now : ℤ) (phase : CommitPhase (Held k)) → CommitKnows (log_of k) db s (chains k db) (author_of n facts call purpose now) phase
+        → AfterPhrase s chains n facts call (Commits k db purpose now phase) mark moment
+    commits named purpose now (Bounding m v) h =
+        let author = author_of n facts call purpose now in
+        let o = effect mark (commit_asks db (log_of k).kind (Bounding m v)) moment s in
+        let r = bound_step (log_of k) (log_laws k) db s (chains k db) i author m v mark moment h in
+        let chain = none_put (wrote s o.store) chains k db in
+        record {
+          leaves = subst (λ (c : Chain k). Leaves (log_of k) db author s (chains k db) o.store c) (sym chain)
+              (subst (λ (t : Store). Leaves (log_of k) db author s (chains k db) t (chains k db)) (sym r.same) (leaves_not (log_of k) db author s (chains k db) i));
+          brings = subst (λ (c : Chain k). CommitBrings (log_of k) db o.store c author (commit_goes (Bounding m v) o.answer)) (sym chain)
+              (subst (λ (t : Store). CommitBrings (log_of k) db t (chains k db) author (commit_goes (Bounding m v) o.answer)) (sym r.same) r.brings);
+        }
+    commits named purpose now (Putting m bytes v) h =
+        let author = author_of n facts call purpose now in
+        let o = effect mark (commit_asks db (log_of k).kind (Putting m bytes v)) moment s in
+        let l : Link (Held k) Author = record { number = m; bytes = bytes; value = (log_of k).normal v; by = Some author } in
+        let r = put_step (log_of k) (log_laws k) db s (chains k db) i author named m bytes v moment h mark in
+        let chain = own_put (wrote s o.store) k db l chains in
+        record {
+          leaves = subst (λ (c : Chain k). Leaves (log_of k) db author s (chains k db) o.store c) (sym chain) r.leaves;
+          brings = subst (λ (c : Chain k). CommitBrings (log_of k) db o.store c author (commit_goes (Putting m bytes v) o.answer)) (sym chain) r.brings;
+        }
+    commits named purpose now Over h = absurd h
+
+  -- a step of what a pass collects
+  collects : (db : List ℕ) (named : is_db_path db ≡ true) (i : IsSound (log_of logs.Manifest) db s (chains logs.Manifest db)) (phase : _) → PassKnows s (chains logs.Manifest db) db phase → AfterPhrase s chains n facts call (Collects db phase) mark moment
+  collects db named i phase h =
+      let author = author_of n facts call Once (pos 0) in
+      let o = effect mark (pass_asks db phase) moment s in
+      let c = chains logs.Manifest db in
+      let chain = none_put (wrote s o.store) chains logs.Manifest db in
+      let step = λ (options : PassOptions). pass_step db named author options s c i tidy phase mark moment h in
       record {
-        leaves = subst (λ (c : Chain). Leaves manifests db author s (chains db) o.store c) (sym chain) leaves;
-        brings = subst (λ (c : Chain). PhraseBrings o.store c db author purpose (phrase_goes db phrase moment o.answer)) (sym chain) brings;
+        leaves = subst (λ (d : Chain logs.Manifest). Leaves (log_of logs.Manifest) db author s c o.store d) (sym chain) (step any_options).leaves;
+        brings = λ options. subst (λ (d : Chain logs.Manifest). PassBrings o.store d db (pass_goes decoded_manifest options moment phase o.answer)) (sym chain) (step options).brings;
       }
 
-  -- one that leaves the store
-  still : (purpose : Purpose) (phrase : Phrase) → put_by author phrase ≡ None → (effect mark (phrase_asks db phrase) moment s).store ≡ s
-      → PhraseBrings s (chains db) db author purpose (phrase_goes db phrase moment (effect mark (phrase_asks db phrase) moment s).answer) → AfterPhrase s chains db author purpose phrase mark moment
-  still purpose phrase none same brings =
-      let o = effect mark (phrase_asks db phrase) moment s in
-      quiet purpose phrase none (subst (λ (t : Store). Leaves manifests db author s (chains db) t (chains db)) (sym same) (leaves_not manifests db author s (chains db) i))
-      (subst (λ (t : Store). PhraseBrings t (chains db) db author purpose (phrase_goes db phrase moment o.answer)) (sym same) brings)
-
-  pub phrase_step : (purpose : Purpose) (phrase : Phrase) → PhraseKnows s (chains db) db author purpose phrase → AfterPhrase s chains db author purpose phrase mark moment
-  phrase_step Reading (Read phase) h =
-      let r = read_step manifests manifests_log db s (chains db) i tidy phase mark moment h in
-      still Reading (Read phase) refl r.same (read_around s (chains db) db author (read_goes ManifestLog manifests.decoded phase (effect mark (read_asks db ManifestLog phase) moment s).answer) r.brings)
-  phrase_step (Committing now) (Commit (Bounding n m)) h =
-      let r = bound_step manifests manifests_log db s (chains db) i author n m mark moment h in
-      still (Committing now) (Commit (Bounding n m)) refl r.same (commit_around s (chains db) db author now (commit_goes (Bounding n m) (effect mark (commit_asks db ManifestLog (Bounding n m)) moment s).answer) r.brings)
-  phrase_step (Committing now) (Commit (Putting n bytes m)) h =
-      let o = effect mark (commit_asks db ManifestLog (Putting n bytes m)) moment s in
-      let l : Link Manifest Author = record { number = n; bytes = bytes; value = normal_manifest m; by = Some author } in
-      let r = put_step manifests manifests_log db s (chains db) i author named n bytes m moment h mark in
-      let chain = own_put (wrote s o.store) db l chains in
-      record {
-        leaves = subst (λ (c : Chain). Leaves manifests db author s (chains db) o.store c) (sym chain) r.leaves;
-        brings = subst (λ (c : Chain). PhraseBrings o.store c db author (Committing now) (commit_on db (commit_goes (Putting n bytes m) o.answer))) (sym chain)
-            (commit_around o.store (chain_if (wrote s o.store) l (chains db)) db author now (commit_goes (Putting n bytes m) o.answer) r.brings);
-      }
-  phrase_step (Committing now) (Commit Over) h = absurd h
-  phrase_step Passing (Pass options phase) h =
-      let r = pass_step db named author options s (chains db) i tidy phase mark moment h in
-      quiet Passing (Pass options phase) refl r.leaves (pass_around (effect mark (pass_asks db phase) moment s).store (chains db) db author options (pass_goes decoded_manifest options moment phase (effect mark (pass_asks db phase) moment s).answer) r.brings)
-  phrase_step Reading (Commit phase) h = absurd h
-  phrase_step Reading (Pass options phase) h = absurd h
-  phrase_step (Committing now) (Read phase) h = absurd h
-  phrase_step (Committing now) (Pass options phase) h = absurd h
-  phrase_step Passing (Read phase) h = absurd h
-  phrase_step Passing (Commit phase) h = absurd h
+  pub phrase_step : (phrase : Phrase) → is_db_path (db_in phrase) ≡ true → IsSound (log_of (log_in phrase)) (db_in phrase) s (chains (log_in phrase) (db_in phrase)) → PhraseKnows s chains n facts call phrase → AfterPhrase s chains n facts call phrase mark moment
+  phrase_step (Reads k db phase) named i h = reads k db i phase h
+  phrase_step (Commits k db purpose now phase) named i h = commits k db i named purpose now phase h
+  phrase_step (Collects db phase) named i h = collects db named i phase h

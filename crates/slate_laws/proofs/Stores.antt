@@ -42,7 +42,7 @@ same_name d db = test (bytes_eq d db) refl
     test false e = inr ((decides d db).1 e)
 
 -- the test of a look-up compares texts
-test_is : (p q : ObjectPath) → is_at (path_cmp p) q ≡ bytes_eq (path_text p) (path_text q)
+pub test_is : (p q : ObjectPath) → is_at (path_cmp p) q ≡ bytes_eq (path_text p) (path_text q)
 test_is p q = is_eq-slice_cmp (path_text p) (path_text q)
 
 pub finds : (p : ObjectPath) → is_at (path_cmp p) p ≡ true

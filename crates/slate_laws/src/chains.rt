@@ -1,12 +1,12 @@
 //! Chains: what one event changes of them, and what a list tells.
-ghost use Rattle.std.specs.Prelude.{◌≡◌, ℕ, ℤ, List, Some, true};
+ghost use Rattle.std.specs.Prelude.{◌≡◌, ℕ, ◌<◌, ℤ, List, Some, None, true};
 ghost use Rattle.slate_ids.specs.declared.object_path.ObjectPath.{ObjectPath};
 ghost use Rattle.slate_store.specs.Store.{Store, stands_at, listed, effect};
-ghost use Rattle.slate_store.specs.declared.list_dir.ListDir.TheVariants.{Manifests};
 ghost use Rattle.slate_store.specs.declared.mark.Mark.{Mark};
 ghost use Rattle.slate_store.specs.declared.store_call.StoreCall.TheVariants.{PutNew};
 ghost use Rattle.slate_log.specs.Boundary.{greatest};
-ghost use Rattle.slate_log.specs.declared.log_kind.LogKind.TheVariants.{Manifest as ManifestLog};
+ghost use Rattle.slate_log.specs.LogPaths.{folder};
+ghost use Rattle.slate_log.specs.declared.log_kind.LogKind.{LogKind};
 ghost use Rattle.slate_events.specs.declared.db_spec.DbSpec.{DbSpec};
 ghost use Rattle.slate_events.specs.declared.event.Event.{Event};
 ghost use Rattle.slate_protocol.specs.ByRows.{party_in};
@@ -15,20 +15,25 @@ ghost use Rattle.slate_protocol.specs.Lawful.{IsAccepted, chains_at_end, world_a
 ghost use Rattle.slate_protocol.specs.Logs.{chains_after};
 ghost use Rattle.slate_protocol.specs.World.{HasDb};
 
-/// An event leaves the chain of a database, or puts one version on top, by the party of the event.
+/// An event leaves the chain of a log, or puts one version on top, by the party of the event.
 pub fn changed()
-    ensures { (specs : List DbSpec) (events : List Event) (event : Event) (db : List ℕ)
+    ensures { (specs : List DbSpec) (events : List Event) (event : Event) (k : LogKind) (db : List ℕ)
         → IsAccepted specs → HasDb (world_at_end specs events) db
-        → Changed (λ author. author.party ≡ party_in event) (chains_at_end specs events db)
-        (chains_after (world_at_end specs events) event (chains_at_end specs events) db) }
+        → Changed (λ author. author.party ≡ party_in event) (chains_at_end specs events k db)
+        (chains_after (world_at_end specs events) event (chains_at_end specs events) k db) }
 {}
 
-/// The greatest number that a list of a database's manifests gives is the greatest committed one.
+/// The greatest number that a list of a log gives is the greatest committed one; where none is committed, it gives none.
 pub fn list_top()
-    ensures { (specs : List DbSpec) (events : List Event) (db : List ℕ)
+    ensures some { (specs : List DbSpec) (events : List Event) (k : LogKind) (db : List ℕ)
         → IsAccepted specs → HasDb (world_at_end specs events) db
-        → greatest ManifestLog (listed (Manifests db) (world_at_end specs events).store)
-        ≡ Some (top (chains_at_end specs events db)) }
+        → 0 < top (chains_at_end specs events k db)
+        → greatest k (listed (folder k db) (world_at_end specs events).store)
+        ≡ Some (top (chains_at_end specs events k db)) }
+    ensures none { (specs : List DbSpec) (events : List Event) (k : LogKind) (db : List ℕ)
+        → IsAccepted specs → HasDb (world_at_end specs events) db
+        → top (chains_at_end specs events k db) ≡ 0
+        → greatest k (listed (folder k db) (world_at_end specs events).store) ≡ None }
 {}
 
 /// A put at a path that is taken changes nothing.

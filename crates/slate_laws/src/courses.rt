@@ -5,10 +5,11 @@ ghost use Rattle.slate_events.specs.declared.event.Event.{Event};
 ghost use Rattle.slate_protocol.specs.Lawful.{IsAccepted, IsRun, Lawful};
 ghost use Rattle.slate_protocol.specs.Runs.{Course, opening, run};
 
-/// Whatever happened in a run: its commits are one chain, each stands in the store, no fenced writer committed, each step
-/// made the call that its row names, and each reply is the row's.
+/// Whatever happens in a run of accepted databases and events, at each moment of it: the commits of each log are one chain, each
+/// stands in the store above the boundary, no fenced writer committed, each step made the call that its row names, each reply is
+/// the row's, and nothing that was deleted is reachable. Between two moments no boundary falls.
 pub fn lawful()
-    ensures { (course : Course) → IsRun course → Lawful course }
+    ensures { (specs : List DbSpec) (events : List Event) → IsAccepted specs → Lawful specs events }
 {}
 
 /// Accepted databases begin a run.

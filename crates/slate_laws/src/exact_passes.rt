@@ -1,10 +1,10 @@
 //! Passes: the deletes that they make.
-ghost use Rattle.std.specs.Prelude.{ℕ, Bool, List};
+ghost use Rattle.std.specs.Prelude.{◌≡◌, ℕ, Bool, List, [], true};
 ghost use Rattle.slate_ids.specs.declared.gc_message.GcMessage.{GcMessage};
 ghost use Rattle.slate_events.specs.declared.call.Call.TheVariants.{Pass};
-ghost use Rattle.slate_events.specs.declared.filter_word.FilterWord.{FilterWord};
+ghost use Rattle.slate_gc.specs.declared.filter_word.FilterWord.{FilterWord};
 ghost use Rattle.slate_protocol.specs.Calls.{pass_options};
-ghost use Rattle.slate_protocol.specs.Passes.{IsExact};
+ghost use Rattle.slate_protocol.specs.Passes.{IsExact, deletes_made};
 ghost use Rattle.slate_protocol.specs.Rows.{Answered};
 ghost use Rattle.slate_protocol.specs.declared.party.Facts.{Facts};
 
@@ -15,4 +15,10 @@ pub fn exact_pass()
     ensures { (facts : Facts) (pass : GcMessage) (min_age : ℕ) (dry_run : Bool) (filter : FilterWord)
         (answers : List Answered)
         → IsExact facts (Pass pass min_age dry_run filter) (pass_options min_age dry_run filter) answers }
+{}
+
+/// Along any answers, a dry run deletes nothing.
+pub fn dry_run()
+    ensures { (min_age : ℕ) (filter : FilterWord) (facts : Facts) (pass : GcMessage) (answers : List Answered)
+        → deletes_made facts (Pass pass min_age true filter) answers ≡ [] }
 {}

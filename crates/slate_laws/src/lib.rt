@@ -4,12 +4,18 @@
 
 mod chains;
 mod courses;
+mod events_done;
 mod exact_passes;
+mod needs;
 mod passes_alone;
 mod safe_parties;
 
 pub use chains::{changed, list_top, taken_path};
 pub use courses::{begins, goes_on, lawful, stops};
-pub use exact_passes::exact_pass;
+pub use events_done::{bad_after, checkpoints_carried, ulids_carried};
+pub use exact_passes::{dry_run, exact_pass};
+pub use needs::needed_versions;
 pub use passes_alone::undisturbed_pass;
-pub use safe_parties::{above_boundary, candidates_spare, commits_hold, due_bounded, reads_answer};
+pub use safe_parties::{
+    above_boundary, commits_hold, due_bounded, late_put_is_refused, picks_spare, reads_answer,
+};

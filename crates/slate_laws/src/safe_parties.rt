@@ -1,75 +1,92 @@
 //! Safety: what stands behind the promise that nothing reachable is deleted.
-ghost use Rattle.std.specs.Prelude.{◌≡◌, ℕ, ◌<◌, ◌≤◌, ◌^◌, ℤ, List, Some, Ok};
-ghost use Rattle.slate_model.specs.declared.manifest.Manifest.{Manifest};
+ghost use Rattle.std.specs.Prelude.{◌≡◌, ℕ, ◌<◌, ◌≤◌, ◌^◌, ℤ, List, ◌∷◌, ◌++◌, Some, Ok};
+ghost use Rattle.slate_ids.specs.declared.object_path.ObjectPath.{ObjectPath};
 ghost use Rattle.slate_store.specs.Machines.{End};
 ghost use Rattle.slate_store.specs.Store.{effect};
 ghost use Rattle.slate_store.specs.declared.mark.Mark.{Mark};
-ghost use Rattle.slate_events.specs.declared.call.Call.{Call};
 ghost use Rattle.slate_events.specs.declared.db_spec.DbSpec.{DbSpec};
 ghost use Rattle.slate_events.specs.declared.event.Event.{Event};
-ghost use Rattle.slate_gc.specs.declared.pass_options.PassOptions.{PassOptions};
 ghost use Rattle.slate_gc.specs.declared.pass_phase.PassPhase.{PassPhase};
-ghost use Rattle.slate_log.specs.declared.commit_phase.CommitPhase.TheVariants.{Putting};
+ghost use Rattle.slate_log.specs.LogPaths.{version_path};
+ghost use Rattle.slate_log.specs.ReadPhase.{read_asks, read_goes};
+ghost use Rattle.slate_log.specs.declared.commit_phase.CommitPhase.TheVariants.{Putting, Bounding};
+ghost use Rattle.slate_log.specs.declared.log_kind.LogKind.{LogKind};
+ghost use Rattle.slate_log.specs.declared.log_kind.LogKind.TheVariants as logs;
 ghost use Rattle.slate_log.specs.declared.read_phase.ReadPhase.{ReadPhase};
 ghost use Rattle.slate_protocol.specs.Chains.{bound_in, AgreesAt};
-ghost use Rattle.slate_protocol.specs.Holding.{IsVersion, IsMadeOf, Each, candidates_in, due_in};
-ghost use Rattle.slate_protocol.specs.Lawful.{IsAccepted, chains_at_end, world_at_end};
-ghost use Rattle.slate_protocol.specs.Logs.{manifests};
-ghost use Rattle.slate_protocol.specs.Phrases.{asks, goes, at_read, at_commit, at_pass};
+ghost use Rattle.slate_protocol.specs.Holding.{IsVersion, IsMadeOf, Each, IsManifestThat, IsRefused, picks_in, due_in};
+ghost use Rattle.slate_protocol.specs.Lawful.{IsAccepted, AreGood, chains_at_end, gone_after, world_at_end};
+ghost use Rattle.slate_protocol.specs.Logs.{Held, log_of, manifests, phrase_of};
+ghost use Rattle.slate_protocol.specs.Logs.Phrase.{Reads, Commits, Collects};
 ghost use Rattle.slate_protocol.specs.Reach.{IsSpare};
+ghost use Rattle.slate_protocol.specs.Rows.{follow};
+ghost use Rattle.slate_protocol.specs.Works.{asks, goes};
 ghost use Rattle.slate_protocol.specs.World.{HasDb, party_of};
 ghost use Rattle.slate_protocol.specs.declared.party.Party.{Party};
-ghost use Rattle.slate_protocol.specs.declared.party.Purpose.TheVariants.{Reading, Committing, Passing};
 ghost use Rattle.slate_protocol.specs.declared.party.State.TheVariants.{Busy};
-ghost use Rattle.slate_protocol.specs.declared.position.Ended.TheVariants.{Version};
-ghost use Rattle.slate_protocol.specs.declared.position.Position.{Position};
+ghost use Rattle.slate_protocol.specs.declared.party.Task.{Task};
+ghost use Rattle.slate_protocol.specs.declared.work.Purpose.{Purpose};
 
 /// An object that stands above the boundary has the bytes that were committed at its number, and no other stands there.
 pub fn above_boundary()
-    ensures { (specs : List DbSpec) (events : List Event) (db : List ℕ) (bound number : ℕ)
+    ensures { (specs : List DbSpec) (events : List Event) (k : LogKind) (db : List ℕ) (bound number : ℕ)
         → IsAccepted specs → HasDb (world_at_end specs events) db
-        → bound_in manifests db (world_at_end specs events).store ≡ Some bound
+        → bound_in (log_of k) db (world_at_end specs events).store ≡ Some bound
         → bound < number → number < 2 ^ 64
-        → AgreesAt manifests db (world_at_end specs events).store (chains_at_end specs events db) number }
+        → AgreesAt (log_of k) db (world_at_end specs events).store (chains_at_end specs events k db) number }
 {}
 
-/// A party that is about to commit a version holds what its call makes of the committed version before.
+/// A party that is about to commit a version holds what it makes of the committed version before, for the purpose of its commit.
 pub fn commits_hold()
-    ensures { (specs : List DbSpec) (events : List Event) (n : ℕ) (p : Party) (call : Call)
-        (now : ℤ) (number : ℕ) (bytes : List ℕ) (m : Manifest)
-        → IsAccepted specs → party_of n (world_at_end specs events).parties ≡ Some p
-        → p.state ≡ Busy call (Committing now) (at_commit p.facts.db (Putting number bytes m))
-        → IsMadeOf (chains_at_end specs events p.facts.db) call now number m }
+    ensures { (specs : List DbSpec) (events : List Event) (n : ℕ) (p : Party) (task : Task)
+        (k : LogKind) (db : List ℕ) (purpose : Purpose) (now : ℤ) (number : ℕ) (bytes : List ℕ) (v : Held k)
+        → IsAccepted specs → party_of n (world_at_end specs events).parties ≡ Some p → p.state ≡ Busy task
+        → phrase_of task.work ≡ Commits k db purpose now (Putting number bytes v)
+        → IsMadeOf k (chains_at_end specs events k db)
+        (record { party = n; facts = p.facts; call = task.call; purpose = purpose; now = now }) number v }
 {}
 
 /// A version that the end of a read answers is a committed one, whatever its party's step was marked.
 pub fn reads_answer()
-    ensures { (specs : List DbSpec) (events : List Event) (n : ℕ) (p : Party) (call : Call)
-        (phase : ReadPhase Manifest) (mark : Mark) (moment : ℤ) (to : Position) (number : ℕ) (m : Manifest)
-        → IsAccepted specs → party_of n (world_at_end specs events).parties ≡ Some p
-        → p.state ≡ Busy call Reading (at_read p.facts.db phase)
-        → goes (at_read p.facts.db phase) moment
-        (effect mark (asks (at_read p.facts.db phase)) moment (world_at_end specs events).store).answer
-        ≡ End to (Ok (Version number m))
-        → IsVersion (chains_at_end specs events p.facts.db) number m }
+    ensures { (specs : List DbSpec) (events : List Event) (n : ℕ) (p : Party) (task : Task)
+        (k : LogKind) (db : List ℕ) (phase to : ReadPhase (Held k)) (mark : Mark) (moment : ℤ) (number : ℕ) (v : Held k)
+        → IsAccepted specs → party_of n (world_at_end specs events).parties ≡ Some p → p.state ≡ Busy task
+        → phrase_of task.work ≡ Reads k db phase
+        → read_goes k (log_of k).decoded phase
+        (effect mark (read_asks db k phase) moment (world_at_end specs events).store).answer
+        ≡ End to (Ok (Some (number, v)))
+        → IsVersion (chains_at_end specs events k db) number v }
 {}
 
-/// The candidates of a pass whose reads have ended, and what is left of its picks, are below the greatest committed version, and
-/// that version names none of them.
-pub fn candidates_spare()
-    ensures { (specs : List DbSpec) (events : List Event) (n : ℕ) (p : Party) (call : Call)
-        (options : PassOptions) (phase : PassPhase)
-        → IsAccepted specs → party_of n (world_at_end specs events).parties ≡ Some p
-        → p.state ≡ Busy call Passing (at_pass p.facts.db options phase)
-        → Each (IsSpare manifests (chains_at_end specs events p.facts.db)) (candidates_in phase) }
+/// What a pass picked, and what is left of it, are manifests below the greatest committed version, and that version names none of
+/// them.
+pub fn picks_spare()
+    ensures { (specs : List DbSpec) (events : List Event) (n : ℕ) (p : Party) (task : Task) (db : List ℕ) (phase : PassPhase)
+        → IsAccepted specs → party_of n (world_at_end specs events).parties ≡ Some p → p.state ≡ Busy task
+        → phrase_of task.work ≡ Collects db phase
+        → Each (IsManifestThat db (IsSpare manifests (chains_at_end specs events logs.Manifest db))) (picks_in phase) }
 {}
 
 /// What is left of the picks of a pass is at or below the boundary.
 pub fn due_bounded()
-    ensures { (specs : List DbSpec) (events : List Event) (n : ℕ) (p : Party) (call : Call)
-        (options : PassOptions) (phase : PassPhase) (bound : ℕ)
-        → IsAccepted specs → party_of n (world_at_end specs events).parties ≡ Some p
-        → p.state ≡ Busy call Passing (at_pass p.facts.db options phase)
-        → bound_in manifests p.facts.db (world_at_end specs events).store ≡ Some bound
-        → Each (λ number. number ≤ bound) (due_in phase) }
+    ensures { (specs : List DbSpec) (events : List Event) (n : ℕ) (p : Party) (task : Task) (db : List ℕ) (phase : PassPhase)
+        (bound : ℕ)
+        → IsAccepted specs → party_of n (world_at_end specs events).parties ≡ Some p → p.state ≡ Busy task
+        → phrase_of task.work ≡ Collects db phase
+        → bound_in manifests db (world_at_end specs events).store ≡ Some bound
+        → Each (IsManifestThat db (λ number. number ≤ bound)) (due_in phase) }
+{}
+
+/// Where the object of a number was removed, the step of a party that reads the boundary to commit this number ends its call with a
+/// refusal, whatever the mark: no call whose put was collected is answered as committed.
+pub fn late_put_is_refused()
+    ensures { (specs : List DbSpec) (events : List Event) (n : ℕ) (p : Party) (task : Task)
+        (k : LogKind) (db : List ℕ) (purpose : Purpose) (now : ℤ) (number : ℕ) (v : Held k)
+        (front back : List ObjectPath) (mark : Mark) (moment : ℤ)
+        → IsAccepted specs → AreGood specs events
+        → party_of n (world_at_end specs events).parties ≡ Some p → p.state ≡ Busy task
+        → phrase_of task.work ≡ Commits k db purpose now (Bounding number v)
+        → gone_after specs events ≡ front ++ version_path k db number ∷ back
+        → IsRefused (follow p.facts task.call moment
+        (goes task.work moment (effect mark (asks task.work) moment (world_at_end specs events).store).answer)).next }
 {}
