@@ -15,10 +15,10 @@ use Rattle.std.specs.declared.cmp.Ordering.TheVariants.{Less, Equal, Greater}
 use Rattle.slate_ids.specs.Ulids.{same_id, id_cmp as ulid_cmp}
 use Rattle.slate_model.specs.declared.checkpoint.Checkpoint.{Checkpoint}
 use Rattle.slate_events.specs.declared.db_spec.DbSpec.{DbSpec}
-use Rattle.slate_protocol.specs.Ids.{Carried, id_cmp, is_carried, nobodys}
+use Rattle.slate_protocol.specs.Ids.{Pool, checkpoint_cmp, is_carried, only_named}
 use Rattle.slate_protocol.specs.World.{db_cmp, tally_of}
 use Rattle.slate_protocol.specs.declared.tally.Tally.{Tally}
-use Rattle.slate_protocol.specs.Specs.{and_more, seen_from, is_seen, tables_seen_from, ids_from, carried_from, tallies_from, first_tally}
+use Rattle.slate_protocol.specs.Specs.{and_more, seen_from, is_seen, tables_seen_from, ids_from, checkpoints_from, tallies_from, first_tally}
 use Rattle.slate_opening.specs.Differing.{have_one_path, have_one_id, all_checkpoints, all_table_ids}
 
 -- ---- notes of any kind
@@ -144,9 +144,13 @@ one_name a b h = (bytes_eq-Decides a b).0 (sym (is_eq-slice_cmp a b) ∙ h)
 id_grows : (seen : List (ℕ × ℕ)) (k q : ℕ × ℕ) → is_seen q (insert_key ulid_cmp seen k) ≡ (same_id k q || is_seen q seen)
 id_grows seen k q = key_grows ulid_cmp one_id seen k q ∙ ap (λ t. t || is_seen q seen) (id_told k q)
 
-checkpoint_grows : (carried : Carried) (k q : Checkpoint) → is_carried q.id (insert_entry id_cmp carried k.id nobodys) ≡ (have_one_id k q || is_carried q.id carried)
+-- what is known of ids of checkpoints
+abbrev pub Notes : Type 0
+Notes = Pool (List ℕ)
+
+checkpoint_grows : (carried : Notes) (k q : Checkpoint) → is_carried checkpoint_cmp q.id (insert_entry checkpoint_cmp carried k.id (only_named k.id).1) ≡ (have_one_id k q || is_carried checkpoint_cmp q.id carried)
 checkpoint_grows carried k q =
-    entry_grows id_cmp one_name carried k.id nobodys q.id ∙ ap (λ t. t || is_carried q.id carried) (is_eq-slice_cmp q.id k.id)
+    entry_grows checkpoint_cmp one_name carried k.id (only_named k.id).1 q.id ∙ ap (λ t. t || is_carried checkpoint_cmp q.id carried) (is_eq-slice_cmp q.id k.id)
 
 abbrev pub Tallies : Type 0
 Tallies = List (List ℕ × Tally)
@@ -165,15 +169,15 @@ seen_noted : (seen ids : List (ℕ × ℕ)) → seen_from seen ids ≡ noted is_
 seen_noted seen [] = refl
 seen_noted seen (id ∷ ids) = ap (λ (r : Option (List (ℕ × ℕ))). if is_seen id seen then None else r) (seen_noted (note_id seen id) ids)
 
-abbrev pub note_checkpoint : Carried → Checkpoint → Carried
-note_checkpoint carried c = insert_entry id_cmp carried c.id nobodys
+abbrev pub note_checkpoint : Notes → Checkpoint → Notes
+note_checkpoint carried c = insert_entry checkpoint_cmp carried c.id (only_named c.id).1
 
-abbrev pub is_noted : Checkpoint → Carried → Bool
-is_noted c carried = is_carried c.id carried
+abbrev pub is_noted : Checkpoint → Notes → Bool
+is_noted c carried = is_carried checkpoint_cmp c.id carried
 
-ids_noted : (carried : Carried) (cs : List Checkpoint) → ids_from carried cs ≡ noted is_noted note_checkpoint carried cs
+ids_noted : (carried : Notes) (cs : List Checkpoint) → ids_from carried cs ≡ noted is_noted note_checkpoint carried cs
 ids_noted carried [] = refl
-ids_noted carried (c ∷ cs) = ap (λ (r : Option Carried). if is_carried c.id carried then None else r) (ids_noted (note_checkpoint carried c) cs)
+ids_noted carried (c ∷ cs) = ap (λ (r : Option Notes). if is_carried checkpoint_cmp c.id carried then None else r) (ids_noted (note_checkpoint carried c) cs)
 
 abbrev pub note_path : Tallies → DbSpec → Tallies
 note_path tallies spec = insert_entry db_cmp tallies spec.path first_tally
@@ -206,19 +210,19 @@ tables_noted seen (spec ∷ specs) =
     ∙ seen_append seen (map (λ t. t.0) spec.tables) (all_table_ids specs)
 
 -- checkpoints, and then others
-ids_append : (carried : Carried) (xs ys : List Checkpoint) → and_more (ids_from carried xs) (λ more. ids_from more ys) ≡ ids_from carried (xs ++ ys)
+ids_append : (carried : Notes) (xs ys : List Checkpoint) → and_more (ids_from carried xs) (λ more. ids_from more ys) ≡ ids_from carried (xs ++ ys)
 ids_append carried [] ys = refl
-ids_append carried (x ∷ xs) ys = by (is_carried x.id carried) (ids_append (note_checkpoint carried x) xs ys)
+ids_append carried (x ∷ xs) ys = by (is_carried checkpoint_cmp x.id carried) (ids_append (note_checkpoint carried x) xs ys)
   where
     by : (b : Bool) → and_more (ids_from (note_checkpoint carried x) xs) (λ more. ids_from more ys) ≡ ids_from (note_checkpoint carried x) (xs ++ ys)
         → and_more (if b then None else ids_from (note_checkpoint carried x) xs) (λ more. ids_from more ys) ≡ (if b then None else ids_from (note_checkpoint carried x) (xs ++ ys))
     by true rest = refl
     by false rest = rest
 
-carried_noted : (carried : Carried) (specs : List DbSpec) → carried_from carried specs ≡ ids_from carried (all_checkpoints specs)
-carried_noted carried [] = refl
-carried_noted carried (spec ∷ specs) =
-    more_same (ids_from carried spec.manifest.core.checkpoints) (λ more. carried_from more specs) (λ more. ids_from more (all_checkpoints specs)) (λ more. carried_noted more specs)
+checkpoints_noted : (carried : Notes) (specs : List DbSpec) → checkpoints_from carried specs ≡ ids_from carried (all_checkpoints specs)
+checkpoints_noted carried [] = refl
+checkpoints_noted carried (spec ∷ specs) =
+    more_same (ids_from carried spec.manifest.core.checkpoints) (λ more. checkpoints_from more specs) (λ more. ids_from more (all_checkpoints specs)) (λ more. checkpoints_noted more specs)
     ∙ ids_append carried spec.manifest.core.checkpoints (all_checkpoints specs)
 
 -- ---- nothing comes twice
@@ -249,8 +253,8 @@ tables_apart specs = told (tables_seen_from [] specs) (seen_from [] (all_table_i
 all_apart : (cs : List Checkpoint) → (is_some (ids_from [] cs) ≡ true) ↔ IsDistinct have_one_id cs
 all_apart cs = told (ids_from [] cs) (noted is_noted note_checkpoint [] cs) (IsDistinct have_one_id cs) (ids_noted [] cs) (apart_from is_noted note_checkpoint have_one_id checkpoint_grows [] cs (none_carried cs))
 
-pub checkpoints_apart : (specs : List DbSpec) → (is_some (carried_from [] specs) ≡ true) ↔ IsDistinct have_one_id (all_checkpoints specs)
-checkpoints_apart specs = told (carried_from [] specs) (ids_from [] (all_checkpoints specs)) (IsDistinct have_one_id (all_checkpoints specs)) (carried_noted [] specs) (all_apart (all_checkpoints specs))
+pub checkpoints_apart : (specs : List DbSpec) → (is_some (checkpoints_from [] specs) ≡ true) ↔ IsDistinct have_one_id (all_checkpoints specs)
+checkpoints_apart specs = told (checkpoints_from [] specs) (ids_from [] (all_checkpoints specs)) (IsDistinct have_one_id (all_checkpoints specs)) (checkpoints_noted [] specs) (all_apart (all_checkpoints specs))
 
 pub paths_apart : (specs : List DbSpec) → (is_some (tallies_from [] specs) ≡ true) ↔ IsDistinct have_one_path specs
 paths_apart specs = told (tallies_from [] specs) (noted has_path note_path [] specs) (IsDistinct have_one_path specs) (tallies_noted [] specs) (apart_from has_path note_path have_one_path path_grows [] specs (none_there specs))

@@ -1,2 +1,3 @@
 pub mod Opened
 pub mod Differing
+pub mod Pools

@@ -9,7 +9,7 @@ use Rattle.slate_opening.specs.declared.opening.Opening.{Opening}
 
 -- the state of these parts, with no party
 abbrev pub world_of : Opening → World
-world_of o = record { tallies = o.tallies.entries; deleted = 0; store = o.store.store; parties = []; carried = o.carried.entries }
+world_of o = record { tallies = o.tallies.entries; deleted = 0; store = o.store.store; parties = []; carried = o.carried }
 
 -- the state as a run of the databases begins; or the first cause that refuses them; or memory ran out
 abbrev pub OpensState : List DbSpec → Result Opening NewError → Type 0

@@ -1,44 +1,16 @@
 //! The ids that databases bring as a run begins: none comes twice, and those of runs fall.
-ghost use Rattle.std.specs.Prelude.{◌≡◌, ◌&&◌, [], Some, None, map, is_some, IfOk, option_map, if◌then◌else◌};
+ghost use Rattle.std.specs.Prelude.{◌≡◌, ◌&&◌, [], Some, None, map, is_some, IfOk, if◌then◌else◌};
 ghost use Rattle.std.specs.List.{list_all};
 ghost use Rattle.slate_protocol.specs.Specs as opens;
 
-use crate::carried::{Carried, NOBODYS};
 use slate_events::DbSpec;
 use slate_ids::{OutOfMemory, Ulid};
-use slate_model::{Checkpoint, LsmTreeState, SortedRun, SsTableInfo, SsTableView};
+use slate_model::{LsmTreeState, SortedRun, SsTableInfo, SsTableView};
 use std::alloc::Global;
 use std::collections::{BTreeSet, VecDeque};
 
 /// Ids of tables or views, in order.
 type Seen = BTreeSet<(u64, u128)>;
-
-// Notes the ids of checkpoints. False where one was carried already.
-fn add_ids(carried: &mut Carried, checkpoints: &[Checkpoint]) -> Result<bool, OutOfMemory>
-    ensures { IfOk result (λ all. (if all then Some carried.new.entries else None)
-        ≡ opens.ids_from carried.old.entries checkpoints.now) }
-{
-    for checkpoint in checkpoints {
-        if carried.contains_key(&checkpoint.id) {
-            return Ok(false);
-        }
-        carried.insert(checkpoint.id, NOBODYS)?;
-    }
-    Ok(true)
-}
-
-/// The ids of all checkpoints. None where one comes twice.
-pub(crate) fn open_carried(alloc: Global, specs: &[DbSpec]) -> Result<Option<Carried>, OutOfMemory>
-    ensures { IfOk result (λ o. option_map (λ c. c.entries) o ≡ opens.carried_from [] specs.now) }
-{
-    let mut carried = Carried::new(alloc);
-    for spec in specs {
-        if !add_ids(&mut carried, spec.manifest.core.checkpoints.as_slice())? {
-            return Ok(None);
-        }
-    }
-    Ok(Some(carried))
-}
 
 // The parts of an id, by which ids are ordered.
 fn parts_of(id: &Ulid) -> (u64, u128)

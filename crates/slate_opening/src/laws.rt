@@ -13,7 +13,7 @@ ghost use Rattle.slate_events.specs.declared.db_spec.DbSpec.{DbSpec as Database}
 pub fn nothing_comes_twice()
     ensures paths { (specs : List Database) → (is_some (opens.tallies_from [] specs) ≡ true)
         ↔ IsDistinct have_one_path specs }
-    ensures checkpoints { (specs : List Database) → (is_some (opens.carried_from [] specs) ≡ true)
+    ensures checkpoints { (specs : List Database) → (is_some (opens.checkpoints_from [] specs) ≡ true)
         ↔ IsDistinct have_one_id (all_checkpoints specs) }
     ensures tables { (specs : List Database) → (is_some (opens.tables_seen_from [] specs) ≡ true)
         ↔ IsDistinct same_id (all_table_ids specs) }

@@ -2,6 +2,7 @@
 //! and committed numbers from then on.
 #![tactic(auto)]
 
+mod call_ids;
 mod carried;
 mod causes;
 mod ids;
@@ -9,6 +10,8 @@ mod laws;
 mod new_error;
 mod objects;
 mod opening;
+mod opening_ids;
+mod pools;
 mod tallies;
 
 pub use carried::{Carried, carry, is_stale};

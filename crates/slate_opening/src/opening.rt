@@ -8,9 +8,10 @@ ghost use Rattle.slate_opening.specs.Opened.{OpensState};
 
 use crate::carried::Carried;
 use crate::causes::cause_beside;
-use crate::ids::{are_tables_in_order, open_carried};
+use crate::ids::are_tables_in_order;
 use crate::new_error::NewError;
 use crate::objects::{open_objects, open_store};
+use crate::opening_ids::open_carried;
 use crate::tallies::Tallies;
 use slate_events::{ClusterCause, DbSpec};
 use slate_ids::{OutOfMemory, Ulid};
@@ -24,7 +25,7 @@ use std::alloc::Global;
 pub struct Opening {
     /// The databases by path, each with its first manifest committed.
     pub tallies: Tallies,
-    /// The ids of all checkpoints, which nobody brings.
+    /// The ids that the databases carry, which nobody brings.
     pub carried: Carried,
     /// The first manifests and the tables.
     pub store: MemoryStore,
