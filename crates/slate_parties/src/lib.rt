@@ -1,8 +1,8 @@
 //! The parties of a cluster, and what an event does to its state.
 #![tactic(auto)]
 
+mod kinds;
 mod parties;
-mod party_calls;
 mod state;
 
 pub use state::ClusterState;

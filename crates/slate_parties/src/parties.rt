@@ -1,173 +1,163 @@
-//! The parties of a cluster, by number.
-ghost use Rattle.std.specs.Prelude.{◌≡◌, true, OnOk, OnErr, IfOk, option_copied, IsSome};
-ghost use Rattle.std.specs.BTreeMap.{insert_entry};
-ghost use Rattle.std.specs.Ordering.{nat_cmp};
-ghost use Rattle.slate_protocol.specs.Calls as has;
-ghost use Rattle.slate_protocol.specs.World.{party_of, with_party, newcomer};
-ghost use Rattle.slate_parties.specs.Numbered.{IsBusyAt, NumberStarted, NumberStepped, NumberStopped};
+//! What events do to a party.
+ghost use Rattle.std.specs.Prelude.{◌≡◌, true, IfOk, OnErr};
+ghost use Rattle.slate_protocol.specs.World.{newcomer as comes};
+ghost use Rattle.slate_steps.specs.Onward.{next_of};
+ghost use Rattle.slate_parties.specs.Moved.{Begins, begins_at, start_entry, after_start};
+ghost use Rattle.slate_parties.specs.Moved.{Stops, is_busy, after_reply, StateMoves, StateStepped};
 
-use crate::party_calls::{begin_call, step_busy};
-use slate_events::{Call, Entry, FilterWord, PartyKind};
-use slate_ids::{DbPath, GcMessage, Millis, OutOfMemory};
-use slate_protocol::{Facts, Party, State};
-use slate_steps::PartyStep;
+use slate_events::{Call, Entry, PartyKind, Reply};
+use slate_ids::{DbPath, Millis, OutOfMemory};
+use slate_protocol::{Facts, Party, State, Task};
+use slate_steps::{Onward, PartyStep, begin, is_due, step_party};
 use slate_store::{Mark, MemoryStore};
 use std::alloc::Global;
-use std::collections::BTreeMap;
 
-pub(crate) type Parties = BTreeMap<u32, Party>;
-
-// Whether a call is a writer's.
-fn writer_has(call: &Call) -> bool
-    ensures { result ≡ has.writer_has call.now }
+/// A party that comes.
+pub(crate) fn newcomer(kind: PartyKind, db: DbPath) -> Party
+    ensures { result ≡ comes kind db }
 {
-    matches!(call, Call::OpenWriter | Call::Flush { .. })
-}
-
-// Whether a call is a holder's: it refreshes a checkpoint to a lifetime.
-fn holder_has(call: &Call) -> bool
-    ensures { result ≡ has.holder_has call.now }
-{
-    match call {
-        Call::WriteCheckpoint { .. } => true,
-        Call::ReplaceCheckpoint { .. } => true,
-        Call::RefreshCheckpoint { lifetime, .. } => lifetime.is_some(),
-        Call::DeleteCheckpoint { .. } => true,
-        _ => false,
+    Party {
+        facts: Facts {
+            kind,
+            db,
+            epoch: None,
+        },
+        state: State::Resting,
     }
 }
 
-// Whether a call is a collector's: so far, the pass of manifests alone.
-fn collector_has(call: &Call) -> bool
-    ensures { result ≡ has.collector_has call.now }
-{
-    match call {
-        Call::Pass {
-            pass: GcMessage::Manifest,
-            filter,
-            ..
-        } => !matches!(filter, FilterWord::Paths(_)),
-        _ => false,
-    }
+/// How a start leaves a party, and the reply of a call that has no store call to make.
+#[derive(Drop)]
+pub(crate) struct Begun {
+    pub state: State,
+    pub reply: Option<Reply>,
 }
 
-/// Whether a kind of party has a call.
-pub(crate) fn has_call(kind: PartyKind, call: &Call) -> bool
-    ensures { result ≡ has.has_call kind call.now }
+// A call at its beginning.
+fn at_beginning(call: Call, next: Onward) -> Begun
+    ensures { Begins call (next_of next) result.state result.reply }
 {
-    match kind {
-        PartyKind::Writer => writer_has(call),
-        PartyKind::Holder => holder_has(call),
-        PartyKind::Collector => collector_has(call),
-    }
-}
-
-/// The party of a number.
-pub(crate) fn find(parties: &Parties, number: u32) -> Option<&Party>
-    ensures { option_copied result ≡ party_of number parties.now.entries }
-{
-    parties.get(&number)
-}
-
-/// Adds a party that has no call. Running out of memory changes nothing.
-pub(crate) fn add(
-    parties: &mut Parties,
-    number: u32,
-    kind: PartyKind,
-    db: DbPath,
-) -> Result<(), OutOfMemory>
-    ensures ok { OnOk result (parties.new.entries
-        ≡ insert_entry nat_cmp parties.old.entries number (newcomer kind db)) }
-    ensures err { OnErr result (parties.new.entries ≡ parties.old.entries) }
-{
-    let facts = Facts {
-        kind,
-        db,
-        epoch: None,
-    };
-    parties.insert(
-        number,
-        Party {
-            facts,
+    match next {
+        Onward::Go(work) => Begun {
+            state: State::Busy(Task { call, work }),
+            reply: None,
+        },
+        Onward::Finish(reply) => Begun {
             state: State::Resting,
+            reply: Some(reply),
         },
-    )?;
-    Ok(())
-}
-
-// Puts a party in the place of the one of its number.
-fn put_back(parties: &mut Parties, number: u32, party: Party)
-    requires { IsSome (party_of number parties.old.entries) }
-    ensures { parties.new.entries ≡ with_party number party parties.old.entries }
-{
-    match parties.get_mut(&number) {
-        Some(place) => *place = party,
-        None => unreachable!(),
     }
 }
 
-/// Starts a call of a party.
-pub(crate) fn start(parties: &mut Parties, number: u32, call: Call) -> Entry
-    requires { IsSome (party_of number parties.old.entries) }
-    ensures { NumberStarted number call parties.old.entries (party_of number parties.old.entries)
-        result parties.new.entries }
+/// How a party starts a call. None where it has one, or was stopped.
+pub(crate) fn start(alloc: Global, party: &Party, call: &Call) -> Result<Option<Begun>, OutOfMemory>
+    ensures { IfOk result (λ o. begins_at party.now.facts party.now.state call.now o) }
 {
-    match find(parties, number) {
-        None => unreachable!(),
-        Some(party) => match &party.state {
-            State::Busy(_, _, _) | State::Halted => Entry::Idle { party: number },
-            State::Resting => {
-                let begun = begin_call(&party.facts, call);
-                put_back(parties, number, begun.party);
-                Entry::Started {
-                    party: number,
-                    reply: begun.reply,
-                }
+    match &party.state {
+        State::Resting => {
+            let next = begin(alloc, &party.facts, call)?;
+            Ok(Some(at_beginning(call.copy(alloc)?, next)))
+        }
+        State::Busy(_) | State::Halted => Ok(None),
+    }
+}
+
+// Lets a party do something else.
+fn set_state(party: &mut Party, state: State)
+    ensures { party.new ≡ record { facts = party.old.facts; state = state } }
+{
+    party.state = state;
+}
+
+/// Does a start to a party, as it was found to begin.
+pub(crate) fn take_start(number: u32, party: &mut Party, begun: Option<Begun>) -> Entry
+    ensures entry { result ≡ start_entry number begun }
+    ensures party { party.new ≡ after_start party.old begun }
+{
+    match begun {
+        None => Entry::Idle { party: number },
+        Some(begun) => {
+            set_state(party, begun.state);
+            Entry::Started {
+                party: number,
+                reply: begun.reply,
             }
-        },
+        }
     }
 }
 
-/// Stops a party. None where the event is bad.
-pub(crate) fn stop(parties: &mut Parties, number: u32) -> Option<Entry>
-    ensures { NumberStopped number parties.old.entries (party_of number parties.old.entries)
-        result parties.new.entries }
+/// Stops a party. False where it was stopped before.
+pub(crate) fn stop(party: &mut Party) -> bool
+    ensures { Stops party.old result party.new }
 {
-    match find(parties, number) {
-        None => None,
-        Some(party) => match &party.state {
-            State::Halted => Some(Entry::Idle { party: number }),
-            State::Resting | State::Busy(_, _, _) => {
-                let facts = party.facts;
-                let state = State::Halted;
-                put_back(parties, number, Party { facts, state });
-                Some(Entry::Stopped { party: number })
-            }
-        },
+    match &party.state {
+        State::Halted => false,
+        State::Resting | State::Busy(_) => {
+            set_state(party, State::Halted);
+            true
+        }
     }
 }
 
-/// Makes the store call that is due in the call of a party. Running out of memory changes nothing.
-pub(crate) fn step(
+// Whether a party has a call in which a store call is due.
+fn has_due_call(state: &State) -> bool
+    ensures { result ≡ is_busy state.now }
+{
+    match state {
+        State::Resting | State::Halted => false,
+        State::Busy(task) => is_due(&task.work),
+    }
+}
+
+// A reply ends the party's call.
+fn settle(party: &mut Party, reply: &Option<Reply>)
+    ensures { party.new ≡ after_reply party.old reply.now }
+{
+    if let Some(_) = reply {
+        set_state(party, State::Resting);
+    }
+}
+
+// Makes the store call that is due, and goes on with the party's call or ends it. Running out of memory changes nothing.
+fn step_busy(
     alloc: Global,
-    parties: &mut Parties,
-    number: u32,
+    party: &mut Party,
     store: &mut MemoryStore,
     moment: Millis,
     mark: Mark,
 ) -> Result<PartyStep, OutOfMemory>
-    requires { IsBusyAt (party_of number parties.old.entries) }
-    ensures ok { IfOk result (λ s. NumberStepped number moment mark
-        parties.old.entries (party_of number parties.old.entries) store.old.store store.new.store
-        s.made s.reply parties.new.entries) }
-    ensures kept_parties { OnErr result (parties.new.entries ≡ parties.old.entries) }
+    requires { is_busy party.old.state ≡ true }
+    ensures ok { IfOk result (λ s. StateMoves party.old.facts party.old.state moment mark
+        store.old.store store.new.store s party.new) }
+    ensures kept_party { OnErr result (party.new ≡ party.old) }
     ensures kept_store { OnErr result (store.new.store ≡ store.old.store) }
 {
-    match parties.get_mut(&number) {
-        Some(party) => match step_busy(alloc, party, store, moment, mark) {
-            Ok(stepped) => Ok(stepped),
-            Err(e) => Err(e),
-        },
-        None => unreachable!(),
+    match &mut party.state {
+        State::Resting | State::Halted => unreachable!(),
+        State::Busy(task) => {
+            let stepped = step_party(alloc, &mut party.facts, task, store, moment, mark)?;
+            settle(party, &stepped.reply);
+            Ok(stepped)
+        }
     }
+}
+
+/// Makes the store call that is due in the call of a party, and goes on with the call or ends it. None where no call is due. Running
+/// out of memory changes nothing.
+pub(crate) fn step(
+    alloc: Global,
+    party: &mut Party,
+    store: &mut MemoryStore,
+    moment: Millis,
+    mark: Mark,
+) -> Result<Option<PartyStep>, OutOfMemory>
+    ensures ok { IfOk result (λ o. StateStepped party.old moment mark store.old.store store.new.store
+        o party.new) }
+    ensures kept_party { OnErr result (party.new ≡ party.old) }
+    ensures kept_store { OnErr result (store.new.store ≡ store.old.store) }
+{
+    if !has_due_call(&party.state) {
+        return Ok(None);
+    }
+    Ok(Some(step_busy(alloc, party, store, moment, mark)?))
 }

@@ -1,18 +1,19 @@
 //! The state of a cluster, and what an event does to it.
-ghost use Rattle.std.specs.Prelude.{◌≡◌, IfOk, OnErr};
+ghost use Rattle.std.specs.Prelude.{◌≡◌, IfOk, OnErr, Some};
 ghost use Rattle.slate_events.specs.declared.event.Event.TheVariants as events;
-ghost use Rattle.slate_protocol.specs.World.{party_of, refuses_start};
+ghost use Rattle.slate_protocol.specs.World.{World, refuses_start as start_refused};
 ghost use Rattle.slate_opening.specs.Opened.{world_of};
 ghost use Rattle.slate_parties.specs.Events.{Happened};
 
-use crate::parties::{Parties, add, find, has_call, start, step, stop};
-use crate::party_calls::has_due_call;
+use crate::kinds::has_call;
+use crate::parties::{newcomer, start, step, stop, take_start};
 use slate_events::{Call, Entry, Event, PartyKind};
 use slate_ids::{DbPath, Millis, OutOfMemory};
 use slate_opening::{Carried, Opening, Tallies, carry, count, is_stale, tally};
-use slate_steps::PartyStep;
+use slate_protocol::Party;
 use slate_store::{Mark, MemoryStore};
 use std::alloc::Global;
+use std::collections::BTreeMap;
 use std::marker::Model;
 
 /// The databases with their greatest committed numbers, the count of deletes, the store, the parties, and the ids that were
@@ -22,7 +23,7 @@ pub struct ClusterState {
     tallies: Tallies,
     deleted: u64,
     store: MemoryStore,
-    parties: Parties,
+    parties: BTreeMap<u32, Party>,
     carried: Carried,
 }
 
@@ -36,8 +37,15 @@ impl Model for ClusterState {
       deleted = a.deleted;
       store = a.store.store;
       parties = a.parties.entries;
-      carried = a.carried.entries;
+      carried = a.carried;
     } };
+}
+
+// Whether a start of a call by a party is bad.
+fn refuses_start(carried: &Carried, party: &Party, call: &Call) -> bool
+    ensures { (w : World) → w.carried ≡ carried.now → result ≡ start_refused w call.now (Some party.now) }
+{
+    !has_call(party.facts.kind, call) || is_stale(carried, call)
 }
 
 impl ClusterState {
@@ -54,7 +62,7 @@ impl ClusterState {
             tallies,
             deleted: 0,
             store,
-            parties: Parties::new(alloc),
+            parties: BTreeMap::new(alloc),
             carried,
         }
     }
@@ -90,26 +98,17 @@ impl ClusterState {
         ensures ok { IfOk result (λ o. Happened self.old (events.Open number kind db) o self.new) }
         ensures err { OnErr result (self.new ≡ self.old) }
     {
-        match (find(&self.parties, number), self.tallies.get(&db)) {
+        match (self.parties.get(&number), self.tallies.get(&db)) {
             (None, Some(_)) => {
-                add(&mut self.parties, number, kind, db)?;
+                self.parties.insert(number, newcomer(kind, db))?;
                 Ok(Some(Entry::Opened { party: number }))
             }
             _ => Ok(None),
         }
     }
 
-    // Whether a start of a call by the party of a number is bad.
-    fn refuses_start(&self, number: u32, call: &Call) -> bool
-        ensures { result ≡ refuses_start self.now call.now (party_of number self.now.parties) }
-    {
-        match find(&self.parties, number) {
-            None => true,
-            Some(party) => !has_call(party.facts.kind, call) || is_stale(&self.carried, call),
-        }
-    }
-
     // A party starts a call, whose ids are carried.
+    #[tactic(auto, using(crate::proofs::Same::same_party, crate::proofs::Starting::start_happens))]
     fn start(
         &mut self,
         alloc: Global,
@@ -119,22 +118,36 @@ impl ClusterState {
         ensures ok { IfOk result (λ o. Happened self.old (events.Start number call.now) o self.new) }
         ensures err { OnErr result (self.new ≡ self.old) }
     {
-        if self.refuses_start(number, call) {
+        let Some(party) = self.parties.get_mut(&number) else {
+            return Ok(None);
+        };
+        if refuses_start(&self.carried, party, call) {
             return Ok(None);
         }
-        let started = call.copy(alloc)?;
+        let begun = start(alloc, party, call)?;
         carry(alloc, &mut self.carried, number, call)?;
-        Ok(Some(start(&mut self.parties, number, started)))
+        Ok(Some(take_start(number, party, begun)))
     }
 
     // A party stops.
+    #[tactic(auto, using(crate::proofs::Same::same_party))]
     fn stop(&mut self, number: u32) -> Option<Entry>
         ensures { Happened self.old (events.Stop number) result self.new }
     {
-        stop(&mut self.parties, number)
+        match self.parties.get_mut(&number) {
+            None => None,
+            Some(party) => {
+                if stop(party) {
+                    Some(Entry::Stopped { party: number })
+                } else {
+                    Some(Entry::Idle { party: number })
+                }
+            }
+        }
     }
 
     // A party that has a call makes its next store call.
+    #[tactic(auto, using(crate::proofs::Same::same_party))]
     fn step(
         &mut self,
         alloc: Global,
@@ -145,24 +158,15 @@ impl ClusterState {
         ensures ok { IfOk result (λ o. Happened self.old (events.Step number moment mark) o self.new) }
         ensures err { OnErr result (self.new ≡ self.old) }
     {
-        match find(&self.parties, number) {
-            None => return Ok(None),
-            Some(party) => {
-                if !has_due_call(&party.state) {
-                    return Ok(Some(Entry::Idle { party: number }));
-                }
-            }
-        }
+        let Some(party) = self.parties.get_mut(&number) else {
+            return Ok(None);
+        };
         let last_tag = self.store.last_tag();
         let objects = self.store.len();
-        let PartyStep { made, reply } = step(
-            alloc,
-            &mut self.parties,
-            number,
-            &mut self.store,
-            moment,
-            mark,
-        )?;
+        let Some(stepped) = step(alloc, party, &mut self.store, moment, mark)? else {
+            return Ok(Some(Entry::Idle { party: number }));
+        };
+        let made = stepped.made;
         tally(
             &mut self.tallies,
             &made.call,
@@ -175,7 +179,7 @@ impl ClusterState {
             moment,
             mark,
             answer: made.answer,
-            reply,
+            reply: stepped.reply,
         }))
     }
 

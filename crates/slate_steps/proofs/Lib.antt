@@ -1,2 +1,5 @@
 mod Around
+mod Rewinding
+mod Follows
 mod NeverMemory
+mod Ends

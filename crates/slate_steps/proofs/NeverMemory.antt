@@ -1,49 +1,67 @@
 -- By its definition a phrase never ends because memory ran out: that is the code's own.
-use Rattle.std.proofs.Common.{◌≡◌, ℕ, ℤ, ◌==◌, nat_le, Bool, true, false, true≢false, if◌then◌else◌, List, [], ◌∷◌, Option, Some, None, Result, Ok, Err, refl, sym, ◌∙◌, ap, subst, inl, inr}
+use Rattle.std.proofs.Common.{◌≡◌, ℕ, ◌+◌, ℤ, ◌==◌, nat_le, Bool, true, false, true≢false, if◌then◌else◌, List, [], ◌∷◌, drop, Option, Some, None, Result, Ok, Err, refl, sym, ◌∙◌, ap, subst, inl, inr}
 use Rattle.std.specs.Option.{ok_or}
+use Rattle.std.specs.List.{list_any}
+use Rattle.slate_ids.specs.Limits.{last_number}
 use Rattle.slate_ids.specs.Answers.{is_memory, OrMemory}
-use Rattle.slate_ids.specs.declared.error.SlateDBError.{SlateDBError}
-use Rattle.slate_ids.specs.declared.error.SlateDBError.TheVariants.{Corrupt, InvalidVersion, ManifestMissing}
+use Rattle.slate_ids.specs.declared.error.FieldName.{FieldName}
+use Rattle.slate_ids.specs.declared.error.FormatName.{FormatName}
 use Rattle.slate_ids.specs.declared.error.FormatName.TheVariants.{Manifest as ManifestFormat}
+use Rattle.slate_ids.specs.declared.error.SlateDBError.{SlateDBError}
+use Rattle.slate_ids.specs.declared.error.SlateDBError.TheVariants.{Corrupt, Exhausted, InvalidVersion, ManifestMissing, StoreFault}
+use Rattle.slate_ids.specs.declared.error.UpdateRule.{UpdateRule}
+use Rattle.slate_model.specs.Trees.{views_of}
 use Rattle.slate_model.specs.declared.manifest.Manifest.{Manifest}
+use Rattle.slate_parts.specs.InfoCodec.{unless_field}
+use Rattle.slate_parts.specs.Reading.{u16_in}
 use Rattle.slate_manifest_parts.specs.Decoding.{decoded_manifest, or_corrupt, after_version}
+use Rattle.slate_manifest_parts.specs.Gathered.{ById, gathered}
 use Rattle.slate_manifest_parts.specs.ManifestParts.{second_version}
 use Rattle.slate_manifest_parts.specs.OldManifests.{first_version}
-use Rattle.slate_parts.specs.Reading.{u16_in}
+use Rattle.slate_manifest_parts.specs.TypedManifests.{is_manifest}
+use Rattle.slate_encodable.specs.Unencodable.{early_field, late_field}
+use Rattle.slate_manifest_encoding.specs.Encoding.{encoded_manifest, encoded_with, unless_early}
+use Rattle.slate_layout.specs.Codec.{encoded, if_typed}
 use Rattle.slate_store.specs.Calls.{Told}
 use Rattle.slate_store.specs.Machines.{Goes, Stay, End, Stepped, Held}
 use Rattle.slate_store.specs.declared.store_answer.StoreAnswer.{StoreAnswer}
 use Rattle.slate_store.specs.declared.store_answer.StoreAnswer.TheVariants.{Found, Got, Created, Replaced, Deleted, Fault}
-use Rattle.slate_events.specs.declared.call.Call.{Call}
-use Rattle.slate_events.specs.declared.reply.Reply.TheVariants.{Refused}
 use Rattle.slate_store.specs.declared.object.ObjectMetadata.{ObjectMetadata}
-use Rattle.slate_gc.specs.Pass as gc
-use Rattle.slate_gc.specs.Pass.{PassGoes}
-use Rattle.slate_gc.specs.Picks.{Dated, greatest_number, picks}
-use Rattle.slate_gc.specs.declared.pass_counts.PassCounts.{PassCounts}
-use Rattle.slate_gc.specs.declared.pass_options.PassOptions.{PassOptions}
-use Rattle.slate_gc.specs.declared.pass_phase.PassPhase.{PassPhase}
-use Rattle.slate_gc.specs.declared.pass_phase.PassPhase.TheVariants as passing
 use Rattle.slate_log.specs.AdvancePhase.{AdvanceGoes, advance_goes, read_goes_to, written_goes}
 use Rattle.slate_log.specs.declared.advance_phase.AdvancePhase.{AdvancePhase}
 use Rattle.slate_log.specs.declared.advance_phase.AdvancePhase.TheVariants as advancing
 use Rattle.slate_log.specs.Boundary.{boundary_of, boundary_got, greatest}
-use Rattle.slate_log.specs.ReadPhase.{read_goes, listed_goes, decoded_goes, boundary_goes}
-use Rattle.slate_log.specs.CommitPhase.{commit_goes, created_goes, bounded_goes}
+use Rattle.slate_log.specs.Change.{some_commit, wanted}
+use Rattle.slate_log.specs.ReadPhase.{Reply, read_goes, listed_goes, decoded_goes, boundary_goes}
+use Rattle.slate_log.specs.CommitPhase.{CommitGoes, commit_goes, checked_commit, created_goes, bounded_goes, prepared}
 use Rattle.slate_log.specs.declared.log_kind.LogKind.TheVariants.{Manifest as ManifestLog}
 use Rattle.slate_log.specs.declared.read_phase.ReadPhase.{ReadPhase}
 use Rattle.slate_log.specs.declared.read_phase.ReadPhase.TheVariants as reading
 use Rattle.slate_log.specs.declared.commit_phase.CommitPhase.{CommitPhase}
 use Rattle.slate_log.specs.declared.commit_phase.CommitPhase.TheVariants as committing
-use Rattle.slate_protocol.specs.Phrases.{asks, goes, phrase_goes, read_on, commit_on, pass_on}
-use Rattle.slate_protocol.specs.Calls.{follow}
-use Rattle.slate_protocol.specs.declared.party.Facts.{Facts}
-use Rattle.slate_protocol.specs.declared.party.Purpose.{Purpose}
-use Rattle.slate_protocol.specs.declared.position.Phrase.{Phrase}
-use Rattle.slate_protocol.specs.declared.position.Phrase.TheVariants.{Read, Commit, Pass}
-use Rattle.slate_protocol.specs.declared.position.Position.{Position}
-use Rattle.slate_protocol.specs.declared.position.Ended.{Ended}
-use Rattle.slate_steps.specs.Followed.{Followed, Kept}
+use Rattle.slate_log.specs.declared.right.Right.{Right}
+use Rattle.slate_log.specs.declared.right.Right.TheVariants.{Plain}
+use Rattle.slate_updates.specs.Changes.{commit_of, floored, with_floor}
+use Rattle.slate_updates.specs.Checkpoints.{is_expired}
+use Rattle.slate_updates.specs.Rules.{manifest_refusal, refusal_of_update, refused_by}
+use Rattle.slate_updates.specs.declared.manifest_change.ManifestChange.TheVariants.{DropExpired}
+use Rattle.slate_gc.specs.Deletes.{has_object}
+use Rattle.slate_gc.specs.GcPass as whole
+use Rattle.slate_gc.specs.GcPass.{GcGoes}
+use Rattle.slate_gc.specs.Pass as gc
+use Rattle.slate_gc.specs.Pass.{PassGoes}
+use Rattle.slate_gc.specs.Picks.{picks}
+use Rattle.slate_gc.specs.declared.gc_pass.GcPass.{GcPass}
+use Rattle.slate_gc.specs.declared.gc_pass.GcPass.TheVariants as stages
+use Rattle.slate_gc.specs.declared.pass_counts.PassCounts.{PassCounts}
+use Rattle.slate_gc.specs.declared.pass_options.PassOptions.{PassOptions}
+use Rattle.slate_gc.specs.declared.pass_phase.PassPhase.{PassPhase}
+use Rattle.slate_gc.specs.declared.pass_phase.PassPhase.TheVariants as passing
+use Rattle.slate_protocol.specs.Works.{WorkGoes, asks, goes, read_on, commit_on, pass_on}
+use Rattle.slate_protocol.specs.declared.work.Purpose.{Purpose}
+use Rattle.slate_protocol.specs.declared.work.Work.{Work}
+use Rattle.slate_protocol.specs.declared.work.Work.TheVariants.{ReadManifest, CommitManifest, Pass}
+use Rattle.slate_protocol.specs.declared.work.Ended.{Ended}
 
 -- it goes on, ends well, or ends with a refusal other than that memory ran out
 abbrev IsPlain : {P R : Type 0} → Goes P R → Type 0
@@ -108,44 +126,86 @@ plain_commit (committing.Putting n bytes m) (Created tag) = plain_created n m ta
 plain_commit (committing.Bounding n m) (Got o) = plain_bounded n m (boundary_got o)
 plain_commit _ _ = refl
 
+-- ---- what a pass makes of the manifest read
+
+plain_field : (field : Option FieldName) (bytes : List ℕ) → IsPlainResult (unless_field field bytes)
+plain_field None bytes = tt
+plain_field (Some field) bytes = refl
+
+plain_with : (tables : Option ById) (m : Manifest) → IsPlainResult (encoded_with tables m)
+plain_with None m = refl
+plain_with (Some tables) m = plain_field (late_field _ m) _
+
+plain_early : (field : Option FieldName) (m : Manifest) → IsPlainResult (unless_early field m)
+plain_early None m = plain_with (gathered (views_of m.core) []) m
+plain_early (Some field) m = refl
+
+plain_typed : (name : FormatName) (typed : Bool) (r : Result (List ℕ) SlateDBError) → IsPlainResult r → IsPlainResult (if_typed name typed r)
+plain_typed name true (Ok bytes) h = tt
+plain_typed name false (Ok bytes) h = refl
+plain_typed name typed (Err e) h = h
+
+plain_encoded : (m : Manifest) → IsPlainResult (encoded m)
+plain_encoded m = plain_typed ManifestFormat (is_manifest m) (encoded_manifest m) (plain_early (early_field m) m)
+
+plain_checked : (rule : Option UpdateRule) (n : ℕ) (m : Manifest) (bytes : Result (List ℕ) SlateDBError) → IsPlainResult bytes → IsPlainResult (some_commit (checked_commit (refused_by rule) n m bytes))
+plain_checked None n m (Ok bytes) h = tt
+plain_checked None n m (Err e) h = h
+plain_checked (Some rule) n m bytes h = refl
+
+plain_prepared : (n : ℕ) (old m : Manifest) (right : Right) (last : Bool) → IsPlainResult (some_commit (if last then Err (Exhausted n) else checked_commit (manifest_refusal n old m right) (n + 1) m (encoded m)))
+plain_prepared n old m right true = refl
+plain_prepared n old m right false = plain_checked (refusal_of_update n old m) (n + 1) m (encoded m) (plain_encoded m)
+
+plain_wanted : (floor n : ℕ) (old new : Manifest) (right : Right) (some : Bool)
+    → IsPlainResult (wanted (λ made. prepared manifest_refusal encoded n old made right) (floored floor (if some then Ok (Some new) else Ok None)))
+plain_wanted floor n old new right true = plain_prepared n old (with_floor floor new) right (n == last_number)
+plain_wanted floor n old new right false = tt
+
+plain_removal : (now : ℤ) (n : ℕ) (m : Manifest) → IsPlainResult (commit_of encoded DropExpired now n m)
+plain_removal now n m = plain_wanted m.core.floor n m _ Plain (list_any (is_expired now) m.core.checkpoints)
+
 -- ---- passes
 
-plain_pass_listed : (now : ℤ) (found : List ObjectMetadata) (n : Option ℕ) → IsPlain (gc.listed_goes now found n)
-plain_pass_listed now found None = refl
-plain_pass_listed now found (Some n) = tt
+plain_pass_listed : (min_age : ℕ) (now : ℤ) (found : List ObjectMetadata) (n : Option ℕ) → IsPlain (gc.listed_goes min_age now found n)
+plain_pass_listed min_age now found None = refl
+plain_pass_listed min_age now found (Some n) = tt
 
-plain_pass_list : (now : ℤ) (a : StoreAnswer) → IsPlain (gc.list_goes now a)
-plain_pass_list now (Found found) = plain_pass_listed now found (greatest ManifestLog found)
-plain_pass_list now _ = refl
+plain_pass_list : (min_age : ℕ) (now : ℤ) (a : StoreAnswer) → IsPlain (gc.list_goes min_age now a)
+plain_pass_list min_age now (Found found) = plain_pass_listed min_age now found (greatest ManifestLog found)
+plain_pass_list min_age now _ = refl
 
-plain_pass_decoded : (options : PassOptions) (now : ℤ) (n : ℕ) (dates : List Dated) (r : Result Manifest SlateDBError) → IsPlainResult r → IsPlain (gc.decoded_goes n (gc.candidates_by options now n dates r))
-plain_pass_decoded options now n dates (Ok m) h = tt
-plain_pass_decoded options now n dates (Err e) h = h
+plain_pass_decoded : (n : ℕ) (found : List ObjectMetadata) (r : Result Manifest SlateDBError) → IsPlainResult r → IsPlain (gc.decoded_goes n found r)
+plain_pass_decoded n found (Ok m) h = tt
+plain_pass_decoded n found (Err e) h = h
 
-plain_pass_get : (options : PassOptions) (now : ℤ) (n : ℕ) (dates : List Dated) (a : StoreAnswer) → IsPlain (gc.get_goes decoded_manifest options now n dates a)
-plain_pass_get options now n dates (Got None) = refl
-plain_pass_get options now n dates (Got (Some o)) = plain_pass_decoded options now n dates (decoded_manifest o.bytes) (plain_version (u16_in o.bytes))
-plain_pass_get options now n dates _ = refl
+plain_pass_get : (n : ℕ) (found : List ObjectMetadata) (a : StoreAnswer) → IsPlain (gc.get_goes decoded_manifest n found a)
+plain_pass_get n found (Got None) = refl
+plain_pass_get n found (Got (Some o)) = plain_pass_decoded n found (decoded_manifest o.bytes) (plain_version (u16_in o.bytes))
+plain_pass_get n found _ = refl
 
-plain_pass_moves : (ns : List ℕ) (k : Option ℕ) → IsPlain (gc.moves_to ns k)
-plain_pass_moves ns None = tt
-plain_pass_moves ns (Some k) = tt
+plain_pass_moves : (picked : List ObjectMetadata) (k : Option ℕ) → IsPlain (gc.moves_to picked k)
+plain_pass_moves picked None = tt
+plain_pass_moves picked (Some k) = tt
 
-plain_pass_above : (n : ℕ) (ns : List ℕ) (b : Bool) → IsPlain (if b then End passing.Over (Err (ManifestMissing n)) else gc.bounded_next ns)
-plain_pass_above n ns true = refl
-plain_pass_above n ns false = plain_pass_moves ns (greatest_number ns)
+plain_pass_above : (options : PassOptions) (n : ℕ) (candidates : List ObjectMetadata) (b : Bool) → IsPlain (if b then End passing.Over (Err (ManifestMissing n)) else gc.bounded_next options candidates)
+plain_pass_above options n candidates true = refl
+plain_pass_above options n candidates false = plain_pass_moves (picks options candidates) (greatest ManifestLog candidates)
 
-plain_pass_bounded : (n : ℕ) (ns : List ℕ) (b : Option ℕ) → IsPlain (gc.bounded_goes n ns b)
-plain_pass_bounded n ns None = refl
-plain_pass_bounded n ns (Some b) = plain_pass_above n ns (nat_le n b)
+plain_pass_bounded : (options : PassOptions) (n : ℕ) (candidates : List ObjectMetadata) (b : Option ℕ) → IsPlain (gc.bounded_goes options n candidates b)
+plain_pass_bounded options n candidates None = refl
+plain_pass_bounded options n candidates (Some b) = plain_pass_above options n candidates (nat_le n b)
 
-plain_pass_bound : (n : ℕ) (ns : List ℕ) (a : StoreAnswer) → IsPlain (gc.bound_goes n ns a)
-plain_pass_bound n ns (Got o) = plain_pass_bounded n ns (boundary_got o)
-plain_pass_bound n ns _ = refl
+plain_pass_bound : (options : PassOptions) (n : ℕ) (candidates : List ObjectMetadata) (a : StoreAnswer) → IsPlain (gc.bound_goes options n candidates a)
+plain_pass_bound options n candidates (Got o) = plain_pass_bounded options n candidates (boundary_got o)
+plain_pass_bound options n candidates _ = refl
 
-plain_pass_left : (ns : List ℕ) (counts : PassCounts) → IsPlain (gc.deletes_next ns counts)
-plain_pass_left [] counts = tt
-plain_pass_left (n ∷ ns) counts = tt
+plain_pass_left : (left : List ObjectMetadata) (counts : PassCounts) (some : Bool) → IsPlain (if some then Stay (passing.Deleting left counts) else End passing.Over (Ok counts))
+plain_pass_left left counts true = tt
+plain_pass_left left counts false = tt
+
+plain_pass_next : (left : List ObjectMetadata) (counts : PassCounts) → IsPlain (gc.deletes_next left counts)
+plain_pass_next left counts = plain_pass_left left counts (has_object left)
 
 plain_advance_test : (n tag : ℕ) (b : Bool) → IsPlain {P = AdvancePhase} {R = Unit {0}} (if b then End advancing.Over (Ok tt) else Stay (advancing.Replacing n tag))
 plain_advance_test n tag true = tt
@@ -170,59 +230,76 @@ plain_advance (advancing.Creating n) (Created tag) = plain_advance_written n tag
 plain_advance (advancing.Replacing n old) (Replaced tag) = plain_advance_written n tag
 plain_advance _ _ = refl
 
-plain_pass_advanced : (options : PassOptions) (ns : List ℕ) (g : AdvanceGoes) → IsPlain g → IsPlain (gc.advanced_goes options ns g)
-plain_pass_advanced options ns (Stay phase) h = tt
-plain_pass_advanced options ns (End phase (Ok u)) h = plain_pass_left (picks options ns) _
-plain_pass_advanced options ns (End phase (Err e)) h = h
+plain_pass_advanced : (picked : List ObjectMetadata) (g : AdvanceGoes) → IsPlain g → IsPlain (gc.advanced_goes picked g)
+plain_pass_advanced picked (Stay phase) h = tt
+plain_pass_advanced picked (End phase (Ok u)) h = plain_pass_next picked _
+plain_pass_advanced picked (End phase (Err e)) h = h
 
-plain_pass_deletes : (ns : List ℕ) (counts : PassCounts) (a : StoreAnswer) → IsPlain (gc.delete_goes ns counts a)
-plain_pass_deletes [] counts a = refl
-plain_pass_deletes (n ∷ ns) counts Deleted = plain_pass_left ns _
-plain_pass_deletes (n ∷ ns) counts Fault = plain_pass_left ns _
-plain_pass_deletes (n ∷ ns) counts _ = refl
+plain_pass_deleted : (rest : List ObjectMetadata) (counts : PassCounts) (a : StoreAnswer) → IsPlain (gc.deleted_goes rest counts a)
+plain_pass_deleted rest counts Deleted = plain_pass_next rest _
+plain_pass_deleted rest counts Fault = plain_pass_next rest _
+plain_pass_deleted rest counts _ = refl
+
+plain_pass_deletes : (left : List ObjectMetadata) (counts : PassCounts) (a : StoreAnswer) (some : Bool) → IsPlain (if some then gc.deleted_goes (drop 1 left) counts a else End passing.Over (Err StoreFault))
+plain_pass_deletes left counts a true = plain_pass_deleted (drop 1 left) counts a
+plain_pass_deletes left counts a false = refl
 
 plain_pass : (options : PassOptions) (now : ℤ) (phase : PassPhase) (a : StoreAnswer) → IsPlain (gc.pass_goes decoded_manifest options now phase a)
-plain_pass options now passing.Listing a = plain_pass_list now a
-plain_pass options now (passing.Getting at n dates) a = plain_pass_get options at n dates a
-plain_pass options now (passing.Bounding n ns) a = plain_pass_bound n ns a
-plain_pass options now (passing.Advancing phase ns) a = plain_pass_advanced options ns (advance_goes phase a) (plain_advance phase a)
-plain_pass options now (passing.Deleting ns counts) a = plain_pass_deletes ns counts a
+plain_pass options now passing.Listing a = plain_pass_list options.min_age now a
+plain_pass options now (passing.Getting n found) a = plain_pass_get n found a
+plain_pass options now (passing.Bounding n candidates) a = plain_pass_bound options n candidates a
+plain_pass options now (passing.Advancing phase picked) a = plain_pass_advanced picked (advance_goes phase a) (plain_advance phase a)
+plain_pass options now (passing.Deleting left counts) a = plain_pass_deletes left counts a (has_object left)
 plain_pass options now passing.Over a = refl
 
-around_read : (db : List ℕ) (g : Goes (ReadPhase Manifest) (Option (ℕ × Manifest))) → IsPlain g → IsPlain (read_on db g)
-around_read db (Stay p) h = tt
-around_read db (End p (Ok None)) h = tt
-around_read db (End p (Ok (Some v))) h = tt
-around_read db (End p (Err e)) h = h
+plain_removes : (now : ℤ) (r : Result (Option (CommitPhase Manifest)) SlateDBError) → IsPlainResult r → IsPlain (whole.removal_goes now r)
+plain_removes now (Ok (Some commit)) h = tt
+plain_removes now (Ok None) h = tt
+plain_removes now (Err e) h = h
 
-around_pass : (db : List ℕ) (options : PassOptions) (g : PassGoes) → IsPlain g → IsPlain (pass_on db options g)
+plain_whole_read : (now : ℤ) (g : Reply Manifest) → IsPlain g → IsPlain (whole.read_on encoded now g)
+plain_whole_read now (Stay p) h = tt
+plain_whole_read now (End p (Ok None)) h = refl
+plain_whole_read now (End p (Ok (Some version))) h = plain_removes now (commit_of encoded DropExpired now version.0 version.1) (plain_removal now version.0 version.1)
+plain_whole_read now (End p (Err e)) h = h
+
+plain_whole_commit : (made : ℤ) (g : CommitGoes Manifest) → IsPlain g → IsPlain (whole.commit_on made g)
+plain_whole_commit made (Stay p) h = tt
+plain_whole_commit made (End p (Ok version)) h = tt
+plain_whole_commit made (End p (Err e)) h = h
+
+plain_collect : (g : PassGoes) → IsPlain g → IsPlain (whole.collect_on g)
+plain_collect (Stay p) h = tt
+plain_collect (End p (Ok counts)) h = tt
+plain_collect (End p (Err e)) h = h
+
+plain_gc : (options : PassOptions) (now : ℤ) (pass : GcPass) (a : StoreAnswer) → IsPlain (whole.gc_goes decoded_manifest encoded options now pass a)
+plain_gc options now (stages.Reading phase) a = plain_whole_read now _ (plain_read phase a)
+plain_gc options now (stages.Committing made phase) a = plain_whole_commit made _ (plain_commit phase a)
+plain_gc options now (stages.Collecting phase) a = plain_collect _ (plain_pass options now phase a)
+
+-- ---- works
+
+around_read : (purpose : Purpose) (db : List ℕ) (g : Reply Manifest) → IsPlain g → IsPlain (read_on purpose db g)
+around_read purpose db (Stay p) h = tt
+around_read purpose db (End p (Ok None)) h = tt
+around_read purpose db (End p (Ok (Some v))) h = tt
+around_read purpose db (End p (Err e)) h = h
+
+around_commit : (purpose : Purpose) (made : ℤ) (db : List ℕ) (g : CommitGoes Manifest) → IsPlain g → IsPlain (commit_on purpose made db g)
+around_commit purpose made db (Stay p) h = tt
+around_commit purpose made db (End p (Ok v)) h = tt
+around_commit purpose made db (End p (Err e)) h = h
+
+around_pass : (db : List ℕ) (options : PassOptions) (g : GcGoes) → IsPlain g → IsPlain (pass_on db options g)
 around_pass db options (Stay p) h = tt
 around_pass db options (End p (Ok counts)) h = tt
 around_pass db options (End p (Err e)) h = h
 
-around_commit : (db : List ℕ) (g : Goes (CommitPhase Manifest) (ℕ × Manifest)) → IsPlain g → IsPlain (commit_on db g)
-around_commit db (Stay p) h = tt
-around_commit db (End p (Ok v)) h = tt
-around_commit db (End p (Err e)) h = h
+plain_work : (work : Work) (now : ℤ) (a : StoreAnswer) → IsPlain (goes work now a)
+plain_work (ReadManifest purpose db phase) now a = around_read purpose db _ (plain_read phase a)
+plain_work (CommitManifest purpose made db phase) now a = around_commit purpose made db _ (plain_commit phase a)
+plain_work (Pass db options pass) now a = around_pass db options _ (plain_gc options now pass a)
 
-plain_phrase : (db : List ℕ) (phrase : Phrase) (now : ℤ) (a : StoreAnswer) → IsPlain (phrase_goes db phrase now a)
-plain_phrase db (Read phase) now a = around_read db _ (plain_read phase a)
-plain_phrase db (Commit phase) now a = around_commit db _ (plain_commit phase a)
-plain_phrase db (Pass options phase) now a = around_pass db options _ (plain_pass options now phase a)
-
-never_memory : (from to : Position) (now : ℤ) (a : StoreAnswer) (e : SlateDBError) → goes from now a ≡ End to (Err e) → is_memory e ≡ false
-never_memory from to now a e h = subst (λ (g : Goes Position Ended). IsPlain g) h (plain_phrase from.db from.phrase now a)
-
--- running out of memory left the call as it was
-pub kept_by : (purpose : Purpose) (from to : Position) {old new : Told} (moment : ℤ) (e : SlateDBError) → is_memory e ≡ true
-    → OrMemory {X = Ended} (Err e) (Held old new (asks from) moment from to) (Stepped old new (asks from) moment (goes from moment) (End to (Err e)))
-    → Kept purpose from old new purpose to
-kept_by purpose from to moment e h (inl step) = absurd (true≢false (sym h ∙ never_memory from to moment step.answer e step.gives))
-kept_by purpose from to moment e h (inr held) = record { same_purpose = refl; same_position = held.1.kept; contents = held.1.made.contents }
-
--- any other refusal is the reply
-pub refused_by : (facts : Facts) (call : Call) (purpose : Purpose) (from to : Position) {old new : Told} (moment : ℤ) (e : SlateDBError) → is_memory e ≡ false
-    → OrMemory {X = Ended} (Err e) (Held old new (asks from) moment from to) (Stepped old new (asks from) moment (goes from moment) (End to (Err e)))
-    → Followed facts call purpose from old new moment purpose to (Some (Refused e))
-refused_by facts call purpose from to moment e h (inl step) = record { answer = step.answer; makes = step.makes; next = ap (follow facts call purpose moment) step.gives }
-refused_by facts call purpose from to moment e h (inr held) = absurd (true≢false (sym held.0 ∙ h))
+pub never_memory : (from to : Work) (now : ℤ) (a : StoreAnswer) (e : SlateDBError) → goes from now a ≡ End to (Err e) → is_memory e ≡ false
+never_memory from to now a e h = subst (λ (g : WorkGoes). IsPlain g) h (plain_work from now a)

@@ -1,3 +1,4 @@
-pub mod PhraseSteps
+pub mod Onward
+pub mod WorkSteps
 pub mod Followed
 pub mod PartySteps

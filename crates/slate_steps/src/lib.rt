@@ -1,11 +1,11 @@
 //! The calls of a party: one step of a call makes the one store call that is due, and goes on from its answer.
 #![tactic(auto)]
 
-mod commits;
+mod calls;
 mod party_steps;
-mod phrases;
 mod steps;
-mod values;
+mod works;
 
+pub use calls::{Onward, begin};
 pub use party_steps::{PartyStep, step_party};
-pub use phrases::is_due;
+pub use works::is_due;

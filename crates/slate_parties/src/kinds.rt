@@ -1,0 +1,52 @@
+//! Which kind of party has which calls.
+ghost use Rattle.std.specs.Prelude.{◌≡◌};
+ghost use Rattle.slate_protocol.specs.Calls as has;
+
+use slate_events::{Call, PartyKind};
+use slate_gc::FilterWord;
+use slate_ids::GcMessage;
+
+// Whether a call is a writer's.
+fn writer_has(call: &Call) -> bool
+    ensures { result ≡ has.writer_has call.now }
+{
+    matches!(call, Call::OpenWriter | Call::Flush { .. })
+}
+
+// Whether a call is a holder's: it refreshes a checkpoint to a lifetime.
+fn holder_has(call: &Call) -> bool
+    ensures { result ≡ has.holder_has call.now }
+{
+    match call {
+        Call::WriteCheckpoint { .. } => true,
+        Call::ReplaceCheckpoint { .. } => true,
+        Call::RefreshCheckpoint { lifetime, .. } => lifetime.is_some(),
+        Call::DeleteCheckpoint { .. } => true,
+        _ => false,
+    }
+}
+
+// Whether a call is a collector's: so far, the pass of manifests alone.
+fn collector_has(call: &Call) -> bool
+    ensures { result ≡ has.collector_has call.now }
+{
+    match call {
+        Call::Pass {
+            pass: GcMessage::Manifest,
+            filter,
+            ..
+        } => !matches!(filter, FilterWord::Paths(_)),
+        _ => false,
+    }
+}
+
+/// Whether a kind of party has a call.
+pub(crate) fn has_call(kind: PartyKind, call: &Call) -> bool
+    ensures { result ≡ has.has_call kind call.now }
+{
+    match kind {
+        PartyKind::Writer => writer_has(call),
+        PartyKind::Holder => holder_has(call),
+        PartyKind::Collector => collector_has(call),
+    }
+}
