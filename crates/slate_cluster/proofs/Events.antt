@@ -1,13 +1,16 @@
 -- One more event of a run.
-use Rattle.std.proofs.Common.{◌≡◌, ℕ, zero, suc, add-one, ◌+◌, ◌-◌, ◌<◌, List, [], ◌∷◌, ◌++◌, length, get_or, take, drop, Option, Some, None, refl, sym, ap, ◌∙◌, subst, arith, drop-cons, append_assoc, length-drop}
-use Rattle.std.proofs.lemmas.List.{take_more, append-nil}
+use Rattle.std.proofs.Common.{◌≡◌, ℕ, zero, suc, add-one, ◌+◌, ◌-◌, ◌<◌, List, [], ◌∷◌, ◌++◌, length, get_or, take, drop, Option, Some, None, Result, Ok, Err, IfOk, refl, sym, ap, ◌∙◌, subst, arith, drop-cons, append_assoc, length-drop}
+use Rattle.std.proofs.lemmas.List.{take_more, append-nil, length-append}
+use Rattle.std.proofs.Math.Nat.{add-zero}
 use Rattle.std.proofs.Math.Seq.{take-length}
 use Rattle.slate_events.specs.declared.event.Event.{Event}
 use Rattle.slate_events.specs.declared.entry.Entry.{Entry}
 use Rattle.slate_protocol.specs.World.{World, Transition, happens}
 use Rattle.slate_protocol.specs.Runs.{Course, Ran, going_on, run}
 use Rattle.slate_parties.specs.Events.{Happened}
-use Rattle.slate_cluster.specs.Ran.{Extends}
+use Rattle.slate_cluster.specs.Ran.{Extends, HasRun}
+use Rattle.slate_cluster.specs.declared.cluster.Report.{Report}
+use Rattle.slate_cluster.specs.declared.cluster.ClusterError.{ClusterError}
 
 -- what a run makes of its next event
 abbrev next : List Event → ℕ → Course → Option Transition → Ran
@@ -90,3 +93,24 @@ added_entries old now g entries h =
 -- the entries of the events so far were added
 pub extended : (es : List Event) (i : ℕ) (old now : Course) → Goes es i old now → Extends old.trail now.trail
 extended es i old now g = (g.added, g.grown)
+
+-- a run without a bad event adds one entry for each event
+run_entries : (es : List Event) (place : ℕ) (c v : Course) → run es place c ≡ ended v → length v.trail ≡ length c.trail + length es
+run_entries [] place c v h = ap (λ (r : Ran). length r.course.trail) (sym h) ∙ sym (add-zero (length c.trail))
+run_entries (e ∷ es) place c v h = step (happens c.world e) h (λ d r. run_entries es (place + 1) (going_on c d) v r)
+  where
+    step : (o : Option Transition) → next es place c o ≡ ended v
+        → ((d : Transition) → run es (place + 1) (going_on c d) ≡ ended v → length v.trail ≡ length (c.trail ++ d.entry ∷ []) + length es) → length v.trail ≡ length c.trail + suc (length es)
+    step None r f = absurd (cc (ap (λ (y : Ran). y.bad) r))
+    step (Some d) r f = f d r ∙ one_more (length (c.trail ++ d.entry ∷ [])) (length c.trail) (length es) (length-append c.trail (d.entry ∷ []))
+      where
+        one_more : (n m k : ℕ) → n ≡ m + 1 → n + k ≡ m + suc k
+        one_more n m k e = omega arith
+
+-- the entries of a whole run are one for each event
+pub one_each : (old new : Course) (es : List Event) (r : Result Report ClusterError) → HasRun old es r new → IfOk r (λ report. length report.entries.items ≡ length es)
+one_each old new es (Ok report) h = counted (length report.entries.items) (length es) (length old.trail) (length new.trail) (run_entries es 0 old new h.0) (ap length h.1 ∙ length-append old.trail report.entries.items)
+  where
+    counted : (n k m all : ℕ) → all ≡ m + k → all ≡ m + n → n ≡ k
+    counted n k m all told added = omega arith
+one_each old new es (Err e) h = tt

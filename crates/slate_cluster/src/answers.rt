@@ -1,7 +1,6 @@
 //! The text that is written for an input, and the status that goes with it.
 ghost use Rattle.std.specs.Prelude.{◌≡◌, Ok, IfOk, string_bytes};
 ghost use Rattle.slate_script.specs.Scripts.{script_of};
-ghost use Rattle.slate_protocol.specs.Lawful.{Lawful};
 ghost use Rattle.slate_protocol.specs.Runs.{run};
 ghost use Rattle.slate_protocol.specs.Reports.{report_text};
 ghost use Rattle.slate_reports.specs.Endings.{text_for, run_status, status_for, IsLawfulRun};
@@ -9,6 +8,7 @@ ghost use Rattle.slate_reports.specs.Endings.{text_for, run_status, status_for, 
 use crate::cluster::{Cluster, ClusterError};
 use slate_events::{Event, Script, ScriptError};
 use slate_ids::OutOfMemory;
+use slate_laws::lawful;
 use slate_opening::NewError;
 use slate_reports::{Status, bad_cluster, bad_script, report};
 use slate_script::read_script;
@@ -40,9 +40,8 @@ fn report_of(alloc: Global, cluster: &Cluster, bad: Option<u64>) -> Result<Strin
 
 // Does the events, and answers the place of the first bad one.
 fn done(alloc: Global, cluster: &mut Cluster, events: &[Event]) -> Result<Option<u64>, OutOfMemory>
-    ensures run { IfOk result (λ bad. run events.now 0 cluster.old
+    ensures { IfOk result (λ bad. run events.now 0 cluster.old
         ≡ record { course = cluster.new; bad = bad }) }
-    ensures lawful { Lawful cluster.new }
 {
     match cluster.do_events(alloc, events) {
         Ok(()) => Ok(None),
@@ -64,7 +63,6 @@ fn status_of(bad: Option<u64>) -> Status
 fn answer_run(alloc: Global, cluster: Cluster, events: &[Event]) -> Result<Output, OutOfMemory>
     ensures text { IfOk result (λ a. string_bytes a.text ≡ report_text (run events.now 0 cluster)) }
     ensures status { IfOk result (λ a. a.status ≡ run_status (run events.now 0 cluster).bad) }
-    ensures lawful { IfOk result (λ _. Lawful (run events.now 0 cluster).course) }
 {
     let mut cluster = cluster;
     let bad = done(alloc, &mut cluster, events)?;
@@ -80,6 +78,7 @@ fn answer_script(alloc: Global, script: Script) -> Result<Output, OutOfMemory>
     ensures status { IfOk result (λ a. a.status ≡ status_for (Ok script)) }
     ensures lawful { IfOk result (λ _. IsLawfulRun (Ok script)) }
 {
+    lawful();
     match Cluster::new(alloc, script.databases.into_vec()) {
         Ok(cluster) => answer_run(alloc, cluster, script.events.as_slice()),
         Err(NewError::BadCluster(cause)) => Ok(Output {

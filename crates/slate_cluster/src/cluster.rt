@@ -1,18 +1,17 @@
 //! The cluster: parties over one store, with the trail of what happened.
-ghost use Rattle.std.specs.Prelude.{◌≡◌};
+ghost use Rattle.std.specs.Prelude.{◌≡◌, ◌++◌, List, None, IfOk, length};
+ghost use Rattle.slate_events.specs.declared.event.Event.{Event as Happening};
 ghost use Rattle.slate_protocol.specs.Lawful.{Lawful};
+ghost use Rattle.slate_protocol.specs.Runs.{opening, run as after};
 ghost use Rattle.slate_cluster.specs.Opened.{Opens};
 ghost use Rattle.slate_cluster.specs.Ran.{HasDone, HasRun};
 
 use crate::progress::Progress;
 use slate_events::{DbSpec, Entry, Event};
-use slate_ids::DbPath;
 use slate_laws::{begins, goes_on, lawful, stops};
-use slate_opening::{NewError, names};
-use slate_protocol::Tally;
+use slate_opening::{NewError, Tallies, names};
 use slate_store::MemoryStore;
 use std::alloc::Global;
-use std::collections::BTreeMap;
 use std::marker::Model;
 
 /// Parties at one store. Contracts see the databases as they were given, what happened so far, and the state after it. Each
@@ -68,8 +67,13 @@ impl Cluster {
     pub fn run(&mut self, alloc: Global, events: &[Event]) -> Result<Report, ClusterError>
         // The entries are those of the pure run, and so is the state.
         ensures run { HasRun self.old events.now result self.new }
-        // Whatever happened since the cluster was made, it was lawful: one chain, fenced epochs, each step its row's.
-        ensures lawful { Lawful self.new }
+        // A whole run has one entry for each event.
+        ensures entries { IfOk result (λ report. length report.entries.items ≡ length events.now) }
+        // Whatever events led here, with these after them the law of every run holds at each moment: one chain a log, fenced epochs,
+        // each step its row's, nothing reachable deleted.
+        ensures lawful { (before : List Happening)
+            → after before 0 (opening self.old.specs) ≡ record { course = self.old; bad = None }
+            → Lawful self.old.specs (before ++ events.now) }
     {
         goes_on();
         stops();
@@ -79,12 +83,10 @@ impl Cluster {
 
     /// As `run`, without the report: no entry is copied.
     pub(crate) fn do_events(&mut self, alloc: Global, events: &[Event]) -> Result<(), ClusterError>
-        ensures done { HasDone self.old events.now result self.new }
-        ensures lawful { Lawful self.new }
+        ensures { HasDone self.old events.now result self.new }
     {
         goes_on();
         stops();
-        lawful();
         self.progress.do_events(alloc, events)
     }
 
@@ -92,27 +94,27 @@ impl Cluster {
     pub fn trail(&self) -> &[Entry]
         ensures { result.now ≡ self.now.trail }
     {
-        self.progress.trail()
+        self.progress.trail.as_slice()
     }
 
     /// The store as it stands.
     pub fn store(&self) -> &MemoryStore
         ensures { result.now.store ≡ self.now.world.store }
     {
-        self.progress.store()
+        self.progress.state.store()
     }
 
     /// The databases by path, with their greatest committed numbers.
-    pub(crate) fn tallies(&self) -> &BTreeMap<DbPath, Tally>
+    pub(crate) fn tallies(&self) -> &Tallies
         ensures { result.now.entries ≡ self.now.world.tallies }
     {
-        self.progress.tallies()
+        self.progress.state.tallies()
     }
 
     /// How many deletes removed an object.
     pub(crate) fn deleted(&self) -> u64
         ensures { result ≡ self.now.world.deleted }
     {
-        self.progress.deleted()
+        self.progress.state.deleted()
     }
 }

@@ -5,21 +5,18 @@ ghost use Rattle.slate_cluster.specs.Ran.{Extends, HasDone, HasRun};
 
 use crate::cluster::{ClusterError, Report};
 use slate_events::{DbSpec, Entry, Event};
-use slate_ids::{DbPath, OutOfMemory};
+use slate_ids::OutOfMemory;
 use slate_opening::{NewError, opened};
 use slate_parties::ClusterState;
-use slate_protocol::Tally;
-use slate_store::MemoryStore;
 use std::alloc::Global;
-use std::collections::BTreeMap;
 use std::marker::Model;
 
 /// The databases as they were given, what happened so far, and the state after it.
 #[derive(Drop)]
 pub(crate) struct Progress {
-    specs: Vec<DbSpec>,
-    trail: Vec<Entry>,
-    state: ClusterState,
+    pub specs: Vec<DbSpec>,
+    pub trail: Vec<Entry>,
+    pub state: ClusterState,
 }
 
 impl Model for Progress {
@@ -93,33 +90,5 @@ impl Progress {
                 place: events.len() as u64,
             }),
         }
-    }
-
-    /// The entries of all events.
-    pub fn trail(&self) -> &[Entry]
-        ensures { result.now ≡ self.now.trail }
-    {
-        self.trail.as_slice()
-    }
-
-    /// The store as it stands.
-    pub fn store(&self) -> &MemoryStore
-        ensures { result.now.store ≡ self.now.world.store }
-    {
-        self.state.store()
-    }
-
-    /// The databases by path, with their greatest committed numbers.
-    pub fn tallies(&self) -> &BTreeMap<DbPath, Tally>
-        ensures { result.now.entries ≡ self.now.world.tallies }
-    {
-        self.state.tallies()
-    }
-
-    /// How many deletes removed an object.
-    pub fn deleted(&self) -> u64
-        ensures { result ≡ self.now.world.deleted }
-    {
-        self.state.deleted()
     }
 }

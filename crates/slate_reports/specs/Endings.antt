@@ -130,7 +130,7 @@ Answers read old new _ = ⊥
 
 -- the run of a script is lawful, where there is one
 abbrev pub IsLawfulScript : Option ClusterCause → Script → Type 0
-IsLawfulScript None script = Lawful (ran_of script).course
+IsLawfulScript None script = Lawful script.databases script.events
 IsLawfulScript (Some c) script = Unit {0}
 
 -- the run of what the bytes stand for is lawful, where there is one

@@ -8,7 +8,7 @@ use Rattle.slate_protocol.specs.declared.tally.Tally.{Tally}
 
 -- a state of which these parts are told
 abbrev pub world_of : List (List ℕ × Tally) → ℕ → Store → World
-world_of tallies deleted store = record { tallies = tallies; deleted = deleted; store = store; parties = []; carried = [] }
+world_of tallies deleted store = record { tallies = tallies; deleted = deleted; store = store; parties = []; carried = record { checkpoints = []; ulids = [] } }
 
 -- a run of which the entries and the state are told
 abbrev pub course_of : List Entry → World → Course
