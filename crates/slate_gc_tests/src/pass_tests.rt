@@ -1,11 +1,11 @@
 //! Passes over a store in memory.
 
-use slate_gc::{Numbers, PassCounts, PassOptions, PassPhase, candidates_of, dated, is_aged};
-use slate_ids::{CheckpointId, DbPath, Listed, Millis, ObjectPath, SlateDBError};
+use slate_gc::{FilterWord, Objects, PassCounts, PassOptions, PassPhase, aged, is_aged, unneeded};
+use slate_ids::{CheckpointId, DbPath, Listed, Millis, ObjectPath, SlateDBError, Text};
 use slate_layout::{ManifestCodec, encode_manifest};
 use slate_log::{LogKind, Sequenced};
 use slate_model::{Checkpoint, Manifest, ManifestCore};
-use slate_store::{Mark, MemoryStore, ObjectStore, Step, StoreAnswer, perform};
+use slate_store::{Mark, MemoryStore, ObjectMetadata, ObjectStore, Step, StoreAnswer, perform};
 use std::alloc::Global;
 use std::process::Abort;
 
@@ -20,32 +20,40 @@ const OLD: [Millis; 3] = [0, 0, 0];
 /// The first version is older than the least age, and the second is just as old.
 const TIE: [Millis; 3] = [NOW - 1001, NOW - 1000, 0];
 
-/// What a pass makes of old versions.
-const OPTIONS: PassOptions = PassOptions {
-    min_age: 1000,
-    dry_run: false,
-    allows: true,
-};
+/// The options of a pass, whose least age is a second.
+#[derive(Clone, Copy, Debug)]
+enum Way {
+    Plain,
+    /// The filter allows nothing.
+    Filtered,
+    /// Nothing is to be deleted.
+    Dry,
+    /// Nothing is old enough.
+    Young,
+    /// The filter allows what lies at these paths.
+    At(&'static [&'static str]),
+}
 
-/// The filter allows nothing.
-const FILTERED: PassOptions = PassOptions {
-    min_age: 1000,
-    dry_run: false,
-    allows: false,
-};
+const OPTIONS: Way = Way::Plain;
 
-const DRY: PassOptions = PassOptions {
-    min_age: 1000,
-    dry_run: true,
-    allows: true,
-};
+const FILTERED: Way = Way::Filtered;
 
-/// Nothing is old enough.
-const YOUNG: PassOptions = PassOptions {
-    min_age: u64::MAX,
-    dry_run: false,
-    allows: true,
-};
+const DRY: Way = Way::Dry;
+
+const YOUNG: Way = Way::Young;
+
+/// The path of the second version, and one that no candidate has.
+const AT_SECOND: Way = Way::At(&[
+    "db/manifest/00000000000000000003.manifest",
+    "db/manifest/00000000000000000002.manifest",
+]);
+
+/// Paths that no candidate has.
+const AT_OTHERS: Way = Way::At(&[
+    "db/manifest/00000000000000000003.manifest",
+    "db/manifest/1.manifest",
+    "other/manifest/00000000000000000001.manifest",
+]);
 
 /// What happens between two steps of a pass.
 #[derive(Clone, Copy, Debug)]
@@ -90,7 +98,7 @@ const FIRST_AND_LAST: [bool; 3] = [true, false, true];
 const ZERO: Counts = (0, 0, 0);
 
 /// What a pass makes of what is there.
-const PASSES: [(Given, PassOptions, Then, End, Left); 26] = [
+const PASSES: [(Given, Way, Then, End, Left); 28] = [
     // the list, the greatest, the boundary, the get and the put of the advance, and two deletes
     (
         (OLD, &[], None),
@@ -125,6 +133,21 @@ const PASSES: [(Given, PassOptions, Then, End, Left); 26] = [
     (
         (OLD, &[], None),
         DRY,
+        NOTHING,
+        (5, ZERO, 0),
+        (Some("2"), ALL),
+    ),
+    // a filter of paths picks the candidates that lie there
+    (
+        (OLD, &[], None),
+        AT_SECOND,
+        NOTHING,
+        (6, (1, 1, 0), 0),
+        (Some("2"), FIRST_AND_LAST),
+    ),
+    (
+        (OLD, &[], None),
+        AT_OTHERS,
         NOTHING,
         (5, ZERO, 0),
         (Some("2"), ALL),
@@ -278,6 +301,36 @@ const PASSES: [(Given, PassOptions, Then, End, Left); 26] = [
         (Some("2"), THIRD),
     ),
 ];
+
+/// These texts.
+fn texts(rt: &impl Abort, alloc: Global, paths: &[&str]) -> Listed<Text> {
+    let mut listed = Listed::new(alloc);
+    for path in paths {
+        let text = Text::copy_of(alloc, path).expect(rt, "memory");
+        listed.push(text).expect(rt, "memory");
+    }
+    listed
+}
+
+fn filter_of(rt: &impl Abort, alloc: Global, way: Way) -> FilterWord {
+    match way {
+        Way::Filtered => FilterWord::Nothing,
+        Way::At(paths) => FilterWord::Paths(texts(rt, alloc, paths)),
+        _ => FilterWord::All,
+    }
+}
+
+fn options_of(rt: &impl Abort, alloc: Global, way: Way) -> PassOptions {
+    PassOptions {
+        min_age: if matches!(way, Way::Young) {
+            u64::MAX
+        } else {
+            1000
+        },
+        dry_run: matches!(way, Way::Dry),
+        filter: filter_of(rt, alloc, way),
+    }
+}
 
 fn manifests(rt: &impl Abort) -> Manifests {
     let db = DbPath::from_text("db")
@@ -464,23 +517,24 @@ fn ends_so(
     alloc: Global,
     log: &Manifests,
     given: &Given,
-    options: &PassOptions,
+    way: Way,
     then: Then,
     wanted: &End,
     left: &Left,
 ) -> bool {
     let mut store = store_of(rt, alloc, log.db, given);
-    let (steps, counts, refusal) = end(rt, alloc, log, options, &mut store, then);
+    let options = options_of(rt, alloc, way);
+    let (steps, counts, refusal) = end(rt, alloc, log, &options, &mut store, then);
     steps == wanted.0 && counts == wanted.1 && refusal == wanted.2 && has_left(log.db, &store, left)
 }
 
 #[test]
 fn passes_end_so(rt: HostRuntime) {
     let log = manifests(&rt);
-    for (given, options, then, wanted, left) in &PASSES {
+    for (given, way, then, wanted, left) in &PASSES {
         assert!(rt;
-            ends_so(&rt, rt.alloc(), &log, given, options, *then, wanted, left),
-            "{given:?} {options:?} {then:?}"
+            ends_so(&rt, rt.alloc(), &log, given, *way, *then, wanted, left),
+            "{given:?} {way:?} {then:?}"
         );
     }
 }
@@ -488,7 +542,8 @@ fn passes_end_so(rt: HostRuntime) {
 /// The end of a pass over an empty store.
 fn end_of_nothing(rt: &impl Abort, alloc: Global) -> End {
     let mut store = MemoryStore::new(alloc, Vec::new(alloc));
-    end(rt, alloc, &manifests(rt), &OPTIONS, &mut store, NOTHING)
+    let options = options_of(rt, alloc, OPTIONS);
+    end(rt, alloc, &manifests(rt), &options, &mut store, NOTHING)
 }
 
 #[test]
@@ -499,7 +554,8 @@ fn without_versions_there_is_no_pass(rt: HostRuntime) {
 
 /// Whether a pass whose call is asked, made and answered apart goes on to the next.
 fn goes_on(rt: &impl Abort, alloc: Global, log: &Manifests, store: &mut MemoryStore) -> bool {
-    gets(alloc, log, &answered(rt, alloc, log, store))
+    let options = options_of(rt, alloc, OPTIONS);
+    gets(alloc, log, &options, &answered(rt, alloc, log, store))
 }
 
 /// The answer to the first call of a pass.
@@ -514,9 +570,9 @@ fn answered(
 }
 
 /// Whether a pass goes on from its list to the get of the third version.
-fn gets(alloc: Global, log: &Manifests, answer: &StoreAnswer) -> bool {
+fn gets(alloc: Global, log: &Manifests, options: &PassOptions, answer: &StoreAnswer) -> bool {
     let mut pass = PassPhase::Listing;
-    let step = pass.goes_on(alloc, &log.codec, &OPTIONS, NOW, answer);
+    let step = pass.goes_on(alloc, &log.codec, options, NOW, answer);
     is_again(&step) && is_getting(&pass)
 }
 
@@ -525,7 +581,7 @@ fn is_again(step: &Step<PassCounts>) -> bool {
 }
 
 fn is_getting(pass: &PassPhase) -> bool {
-    matches!(pass, PassPhase::Getting(NOW, 3, _))
+    matches!(pass, PassPhase::Getting(3, _))
 }
 
 #[test]
@@ -552,71 +608,144 @@ fn ages_saturate(rt: HostRuntime) {
     }
 }
 
-/// The numbers and the moments of the versions that a list of the store finds.
+/// The objects older than `min_age` at moment 3600 that a list of the store finds.
 fn listed(
     rt: &impl Abort,
     alloc: Global,
     db: DbPath,
+    min_age: u64,
     moments: [Millis; 3],
-) -> Listed<(u64, Millis)> {
+) -> Listed<ObjectMetadata> {
     let store = store_of(rt, alloc, db, &(moments, &[], Some("1")));
     let found = store
         .listed(alloc, &LogKind::Manifest.folder(db))
         .expect(rt, "memory");
-    dated(alloc, LogKind::Manifest, found.as_slice()).expect(rt, "memory")
+    aged(alloc, min_age, 3600, found.as_slice()).expect(rt, "memory")
 }
 
-/// A least age, the greatest version, the named ones, how many candidates there are, and the first.
-const COLLECTED: [(u64, u64, &[u64], u64, Option<u64>); 5] = [
-    (0, 3, &[], 2, Some(1)),
-    (1000, 3, &[], 1, Some(1)),
-    (999, 3, &[1], 1, Some(2)),
-    (0, 2, &[], 1, Some(1)),
-    (0, 3, &[1, 2], 0, None),
+/// How many objects there are, and the numbers of the first and of the greatest version.
+type Held = (u64, Option<u64>, Option<u64>);
+
+/// A least age, the greatest version, the named ones, and the candidates.
+const COLLECTED: [(u64, u64, &[u64], Held); 5] = [
+    (0, 3, &[], (2, Some(1), Some(2))),
+    (1000, 3, &[], (1, Some(1), Some(1))),
+    (999, 3, &[1], (1, Some(2), Some(2))),
+    (0, 2, &[], (1, Some(1), Some(1))),
+    (0, 3, &[1, 2], (0, None, None)),
 ];
 
-/// How many candidates the versions of the moments 0, 2600 and 3000 give at moment 3600, and the first.
+fn held(objects: &Objects) -> Held {
+    let first = match objects.first() {
+        None => None,
+        Some(object) => LogKind::Manifest.number_of(&object.location),
+    };
+    (objects.len(), first, objects.greatest())
+}
+
+/// The candidates among versions of the moments 0, 2600 and 3000 at moment 3600.
 fn collected(
     rt: &impl Abort,
     alloc: Global,
     min_age: u64,
     greatest: u64,
     named: &[u64],
-) -> (u64, Option<u64>) {
-    let listed = listed(rt, alloc, manifests(rt).db, [0, 2600, 3000]);
+) -> Objects {
+    let listed = listed(rt, alloc, manifests(rt).db, min_age, [0, 2600, 3000]);
     let checkpoints = naming(rt, alloc, named);
-    let numbers = candidates_of(
-        alloc,
-        min_age,
-        3600,
-        greatest,
-        checkpoints.as_slice(),
-        listed.as_slice(),
-    )
-    .expect(rt, "memory");
-    (numbers.len(), numbers.first())
+    unneeded(alloc, greatest, checkpoints.as_slice(), listed.as_slice()).expect(rt, "memory")
 }
 
 #[test]
 fn old_unnamed_versions_are_candidates(rt: HostRuntime) {
-    for (min_age, greatest, named, count, first) in &COLLECTED {
-        assert!(rt; collected(&rt, rt.alloc(), *min_age, *greatest, named) == (*count, *first));
+    for (min_age, greatest, named, wanted) in &COLLECTED {
+        let objects = collected(&rt, rt.alloc(), *min_age, *greatest, named);
+        assert!(rt; held(&objects) == *wanted);
     }
 }
 
-/// The numbers 4, 9 and 7.
-fn three(rt: &impl Abort, alloc: Global) -> Numbers {
-    let mut numbers = Numbers::new(alloc);
-    numbers.push(4).expect(rt, "memory");
-    numbers.push(9).expect(rt, "memory");
-    numbers.push(7).expect(rt, "memory");
-    numbers
+/// Adds the object of a version.
+fn add(rt: &impl Abort, db: DbPath, objects: &mut Objects, n: u64) {
+    let object = ObjectMetadata {
+        location: ObjectPath::Manifest(db, n),
+        last_modified: 0,
+        size: 0,
+        e_tag: n,
+    };
+    objects.push(object).expect(rt, "memory");
+}
+
+/// The versions 4, 9 and 7.
+fn three(rt: &impl Abort, alloc: Global) -> Objects {
+    let db = manifests(rt).db;
+    let mut objects = Objects::new(alloc);
+    add(rt, db, &mut objects, 4);
+    add(rt, db, &mut objects, 9);
+    add(rt, db, &mut objects, 7);
+    objects
+}
+
+/// Those of these objects that lie at paths.
+fn those_at(rt: &impl Abort, alloc: Global, objects: &Objects, paths: &[&str]) -> Held {
+    let texts = texts(rt, alloc, paths);
+    held(
+        &objects
+            .those_at(alloc, texts.as_slice())
+            .expect(rt, "memory"),
+    )
 }
 
 #[test]
-fn numbers_are_a_queue(rt: HostRuntime) {
-    let mut numbers = three(&rt, rt.alloc());
-    assert!(rt; numbers.len() == 3 && numbers.first() == Some(4) && numbers.greatest() == Some(9));
-    numbers.drop_first();
-    assert!(rt; numbers.len() == 2 && numbers.first() == Some(9));
+fn objects_are_a_queue(rt: HostRuntime) {
+    let mut objects = three(&rt, rt.alloc());
+    assert!(rt; held(&objects) == (3, Some(4), Some(9)));
+    objects.drop_first();
+    assert!(rt; held(&objects) == (2, Some(9), Some(9)));
+}
+
+/// Paths, and the objects at them.
+const LYING: [(&[&str], Held); 3] = [
+    (
+        &[
+            "db/manifest/00000000000000000007.manifest",
+            "db/manifest/00000000000000000004.manifest",
+        ],
+        (2, Some(4), Some(7)),
+    ),
+    (
+        &["db/manifest/00000000000000000008.manifest"],
+        (0, None, None),
+    ),
+    (&[], (0, None, None)),
+];
+
+#[test]
+fn objects_lie_at_their_paths(rt: HostRuntime) {
+    let objects = three(&rt, rt.alloc());
+    for (paths, wanted) in &LYING {
+        assert!(rt; those_at(&rt, rt.alloc(), &objects, paths) == *wanted);
+    }
+}
+
+/// Whether a copy of a filter allows the same two paths.
+fn is_copied(rt: &impl Abort, alloc: Global) -> bool {
+    let filter = filter_of(rt, alloc, AT_SECOND);
+    match filter.copy(alloc).expect(rt, "memory") {
+        FilterWord::Paths(paths) => has_two(paths.as_slice()),
+        _ => false,
+    }
+}
+
+fn has_two(paths: &[Text]) -> bool {
+    match paths.last() {
+        None => false,
+        Some(path) => {
+            paths.len() == 2 && path.as_str() == "db/manifest/00000000000000000002.manifest"
+        }
+    }
+}
+
+#[test]
+fn a_copy_of_a_filter_has_its_paths(rt: HostRuntime) {
+    assert!(rt; is_copied(&rt, rt.alloc()));
 }

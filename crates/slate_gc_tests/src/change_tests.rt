@@ -1,0 +1,168 @@
+//! Changes of a manifest: their floors and their fences.
+
+use slate_ids::{CheckpointId, SlateDBError, Ulid};
+use slate_layout::ManifestCodec;
+use slate_log::{CommitPhase, Right};
+use slate_model::{Checkpoint, CheckpointOptions, Manifest, ManifestCore};
+use slate_updates::ManifestChange;
+use std::alloc::Global;
+use std::process::Abort;
+
+/// A change of a manifest that has checkpoint 3.
+#[derive(Clone, Copy, Debug)]
+enum Put {
+    Raise,
+    /// By the writer of this epoch.
+    Flush(Option<u64>),
+    Write,
+    Replace,
+    Refresh,
+    Delete,
+    /// At moment 1000, at which checkpoint 3 is expired.
+    Expire,
+}
+
+/// A change, the old floor, and that of the new manifest, whose watermark is 5.
+const FLOORS: [(Put, u64, u64); 11] = [
+    (Put::Raise, 0, 0),
+    (Put::Raise, 7, 7),
+    (Put::Flush(Some(2)), 0, 5),
+    (Put::Flush(Some(2)), 4, 5),
+    (Put::Flush(Some(2)), 5, 5),
+    (Put::Flush(Some(2)), 7, 7),
+    (Put::Write, 0, 5),
+    (Put::Replace, 0, 5),
+    (Put::Refresh, 0, 5),
+    (Put::Delete, 7, 7),
+    (Put::Expire, 0, 5),
+];
+
+/// A writer, and the number of its refusal where the version read has writer epoch 2.
+const FENCED: [(Option<u64>, u8); 4] = [(None, 8), (Some(1), 2), (Some(2), 0), (Some(3), 0)];
+
+fn plain() -> CheckpointOptions {
+    CheckpointOptions {
+        lifetime: None,
+        source: None,
+        name: None,
+    }
+}
+
+fn change(put: Put) -> ManifestChange {
+    let three = CheckpointId::from_u64(3);
+    let nine = CheckpointId::from_u64(9);
+    match put {
+        Put::Raise => ManifestChange::RaiseWriter,
+        Put::Flush(writer) => ManifestChange::Flush {
+            writer,
+            seq: 6,
+            tick: 50,
+        },
+        Put::Write => ManifestChange::WriteCheckpoint {
+            id: nine,
+            options: plain(),
+        },
+        Put::Replace => ManifestChange::ReplaceCheckpoint {
+            old: three,
+            id: nine,
+            options: plain(),
+        },
+        Put::Refresh => ManifestChange::RefreshCheckpoint {
+            id: three,
+            lifetime: None,
+        },
+        Put::Delete => ManifestChange::DeleteCheckpoint { id: three },
+        Put::Expire => ManifestChange::DropExpired,
+    }
+}
+
+/// A manifest with writer epoch 2, this floor, watermark 5, and checkpoint 3.
+fn marked(rt: &impl Abort, alloc: Global, floor: u64) -> Manifest {
+    let mut manifest = Manifest::initial(alloc, ManifestCore::new(alloc));
+    manifest.writer_epoch = 2;
+    manifest.core.floor = floor;
+    manifest.core.tree.last_compacted_l0_sst_view_id = Some(Ulid::from_parts(5, 1));
+    let checkpoint = Checkpoint {
+        id: CheckpointId::from_u64(3),
+        manifest_id: 3,
+        expire_time: Some(1000),
+        create_time: 0,
+        name: None,
+    };
+    manifest
+        .core
+        .checkpoints
+        .push(checkpoint)
+        .expect(rt, "memory");
+    manifest
+}
+
+fn floor_of(made: &Result<Option<Manifest>, SlateDBError>) -> Option<u64> {
+    match made {
+        Ok(Some(manifest)) => Some(manifest.core.floor),
+        _ => None,
+    }
+}
+
+/// The floor of what a change makes of version 7.
+fn floor_after(rt: &impl Abort, alloc: Global, put: Put, floor: u64) -> Option<u64> {
+    let manifest = marked(rt, alloc, floor);
+    floor_of(&change(put).make(alloc, 1000, 7, &manifest))
+}
+
+#[test]
+fn changes_raise_the_floor(rt: HostRuntime) {
+    for (put, floor, wanted) in &FLOORS {
+        let made = floor_after(&rt, rt.alloc(), *put, *floor);
+        assert!(rt; made == Some(*wanted), "{put:?} {floor}");
+    }
+}
+
+/// Whether a commit puts version 8.
+fn puts_eight(commit: &Option<CommitPhase<Manifest>>) -> bool {
+    match commit {
+        None => false,
+        Some(phase) => matches!(phase, CommitPhase::Putting(8, _, _)),
+    }
+}
+
+/// The number of the refusal of a commit of version 8; 99 where another is put.
+fn told(commit: &Result<Option<CommitPhase<Manifest>>, SlateDBError>) -> u8 {
+    match commit {
+        Ok(commit) => { if puts_eight(commit) { 0 } else { 99 } }
+        Err(e) => e.code(),
+    }
+}
+
+/// The number of the refusal of a change's commit after version 7.
+fn refusal_of(rt: &impl Abort, alloc: Global, put: Put) -> u8 {
+    let manifest = marked(rt, alloc, 0);
+    told(&change(put).commit(alloc, &ManifestCodec, 1000, 7, &manifest))
+}
+
+#[test]
+fn stale_writers_are_refused(rt: HostRuntime) {
+    for (writer, refusal) in &FENCED {
+        assert!(rt;
+            refusal_of(&rt, rt.alloc(), Put::Flush(*writer)) == *refusal,
+            "{writer:?}"
+        );
+    }
+}
+
+/// Whether a version with writer epoch 2 has no fence for a change.
+fn passes(rt: &impl Abort, alloc: Global, put: Put) -> bool {
+    change(put).refusal_at(&marked(rt, alloc, 0)).is_none()
+}
+
+#[test]
+fn flushes_alone_have_a_fence(rt: HostRuntime) {
+    assert!(rt; passes(&rt, rt.alloc(), Put::Raise));
+    assert!(rt; passes(&rt, rt.alloc(), Put::Expire));
+    assert!(rt; !passes(&rt, rt.alloc(), Put::Flush(Some(1))));
+}
+
+#[test]
+fn changes_have_the_plain_right(rt: HostRuntime) {
+    assert!(rt; matches!(change(Put::Write).right(), Right::Plain));
+}
