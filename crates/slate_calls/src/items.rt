@@ -33,7 +33,7 @@ fn open(alloc: Global, d: &Value) -> Result<EventItem, JsonError>
     let party = required(alloc, d, "open")?;
     let kind = required(alloc, d, "kind")?;
     let db = required(alloc, d, "db")?;
-    Ok(EventItem::Once(Event::Open { party, kind, db }))
+    Ok(EventItem::Once(Event::open(alloc, party, kind, db)?))
 }
 
 #[tactic(auto, unfolding(crate::specs::Events::start_in))]
@@ -42,7 +42,7 @@ fn start(alloc: Global, d: &Value) -> Result<EventItem, JsonError>
 {
     let party = required(alloc, d, "start")?;
     let call = read_call(alloc, d)?;
-    Ok(EventItem::Once(Event::Start { party, call }))
+    Ok(EventItem::Once(Event::start(alloc, party, call)?))
 }
 
 #[tactic(auto, unfolding(crate::specs::Events::step_in))]

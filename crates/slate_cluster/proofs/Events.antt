@@ -70,6 +70,10 @@ goes_wrong es i d old now lt g h =
     let e = get_or es i d in
     g.left ∙ (ap (λ xs. run xs i now) (drop_event es i e lt (same_event es i d e lt)) ∙ run_bad e (drop (i + 1) es) i now h)
 
+-- all events were done
+pub whole : (es : List Event) (i : ℕ) (old now : Course) → i ≡ length es → Goes es i old now → run es 0 old ≡ record { course = now; bad = None }
+whole es i old now e g = ap (λ (xs : List Event). run xs 0 old) (sym (ap (λ (n : ℕ). take n es) e ∙ take-length es)) ∙ g.so_far
+
 -- one more event, as the loop's code has it
 pub goes_further : (es : List Event) (i : ℕ) (d : Event) (old now : Course) (entry : Entry) (world : World) (trail : List Entry) → i < length es → Goes es i old now → Happened now.world (get_or es i d) (Some entry) world → trail ≡ now.trail ++ entry ∷ []
     → Goes es (i + 1) old (record { specs = now.specs; trail = trail; world = world })

@@ -1,4 +1,4 @@
 mod Events
-mod Reports
+mod ToldLines
 mod Outcomes
 mod Reached

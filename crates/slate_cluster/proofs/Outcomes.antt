@@ -1,14 +1,17 @@
 -- What follows from how the program ends.
-use Rattle.std.proofs.Common.{◌≡◌, ◌↔◌, ◌⊎◌, inl, inr, ℕ, ◌≤◌, ◌<◌, List, ◌++◌, length, Option, Some, None, Result, Ok, Err, IfSome, refl, sym, ap, ◌∙◌, subst, arith, length-append}
+use Rattle.std.proofs.Common.{◌≡◌, ◌↔◌, ◌⊎◌, inl, inr, ℕ, ◌≤◌, ◌<◌, List, ◌++◌, length, Option, Some, None, Result, Ok, Err, IfOk, IfSome, refl, sym, ap, ◌∙◌, subst, arith, length-append}
 use Rattle.std.proofs.lemmas.List.{append-nil}
 use Rattle.slate_store.specs.Counts.{Rose}
 use Rattle.slate_script.specs.Scripts.{script_of}
+use Rattle.slate_events.specs.declared.db_spec.DbSpec.{DbSpec}
+use Rattle.slate_events.specs.declared.event.Event.{Event}
 use Rattle.slate_events.specs.declared.script.Script.{Script}
 use Rattle.slate_events.specs.declared.cluster_cause.ClusterCause.{ClusterCause}
 use Rattle.slate_events.specs.declared.script.ScriptPlace.{ScriptPlace}
+use Rattle.slate_protocol.specs.Lawful.{IsAccepted, Lawful}
 use Rattle.slate_protocol.specs.Specs.{cause_of_specs}
 use Rattle.slate_reports.specs.Commands.{help_text, run_help_text, version_text}
-use Rattle.slate_reports.specs.Endings.{End, GoesWell, Stays, Fails, ReadsWhole, ReadsTooLong, WritesWhole, WritesFront, Writes, after_fault, Delivers, Answers, IfAnswered, Runs, Outcome, ExactlyEnds, EndsTooLong, text_for, status_for, script_status, run_status, ran_of, limit}
+use Rattle.slate_reports.specs.Endings.{End, GoesWell, Stays, Fails, ReadsWhole, ReadsTooLong, WritesWhole, WritesFront, Writes, after_fault, Delivers, Answers, IfAnswered, IsLawfulRun, IsLawfulScript, Runs, Outcome, ExactlyEnds, EndsTooLong, text_for, status_for, script_status, run_status, ran_of, limit}
 use Rattle.slate_reports.specs.declared.command.Command.{Command}
 use Rattle.slate_reports.specs.declared.command.Command.TheVariants.{Run, RunHelp, Help, Version}
 use Rattle.slate_reports.specs.declared.status.Status.{Status}
@@ -73,6 +76,11 @@ if_answered status.TooLong P h = h
 if_answered (status.BadScript p) P h = h
 if_answered (status.BadCluster c) P h = h
 if_answered (status.BadEvent n) P h = h
+
+-- the run of a script whose databases are accepted is lawful, where every such run is
+pub script_is_lawful : {X E : Type 0} (law : (specs : List DbSpec) (events : List Event) → IsAccepted specs → Lawful specs events) (script : Script) (r : Result X E) → IsAccepted script.databases → IfOk r (λ _. IsLawfulRun (Ok script))
+script_is_lawful law script (Ok x) accepted = subst (λ (o : Option ClusterCause). IsLawfulScript o script) (sym accepted.accepted) (law script.databases script.events accepted)
+script_is_lawful law script (Err e) accepted = tt
 
 -- ---- the input
 

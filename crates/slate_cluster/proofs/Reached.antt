@@ -3,7 +3,7 @@ use Rattle.std.proofs.Common.{◌≡◌, ℕ, List, take, Some, None, Result, Ok
 use Rattle.slate_events.specs.declared.event.Event.{Event}
 use Rattle.slate_protocol.specs.Lawful.{IsRun}
 use Rattle.slate_protocol.specs.Runs.{Course, run}
-use Rattle.slate_cluster.specs.Ran.{HasDone, HasRun, Stopped}
+use Rattle.slate_cluster.specs.Ran.{HasRun, Stopped}
 use Rattle.slate_cluster.specs.declared.cluster.Report.{Report}
 use Rattle.slate_cluster.specs.declared.cluster.ClusterError.{ClusterError}
 use Rattle.slate_cluster.specs.declared.cluster.ClusterError.TheVariants.{BadEvent, OutOfMemory}
@@ -13,10 +13,6 @@ module _ (on : (c v : Course) (events : List Event) → IsRun c → run events 0
   stopped : (old new : Course) (es : List Event) (e : ClusterError) → IsRun old → Stopped old es e new → IsRun new
   stopped old new es (BadEvent place) past h = to old new es place past h
   stopped old new es (OutOfMemory place) past h = on old new (take place es) past h
-
-  pub has_done : (old new : Course) (es : List Event) (r : Result (Unit {0}) ClusterError) → IsRun old → HasDone old es r new → IsRun new
-  has_done old new es (Ok _) past h = on old new es past h
-  has_done old new es (Err e) past h = stopped old new es e past h
 
   pub has_run : (old new : Course) (es : List Event) (r : Result Report ClusterError) → IsRun old → HasRun old es r new → IsRun new
   has_run old new es (Ok report) past h = on old new es past h.0

@@ -4,12 +4,12 @@ ghost use Rattle.slate_events.specs.declared.event.Event.{Event as Happening};
 ghost use Rattle.slate_protocol.specs.Lawful.{Lawful};
 ghost use Rattle.slate_protocol.specs.Runs.{opening, run as after};
 ghost use Rattle.slate_cluster.specs.Opened.{Opens};
-ghost use Rattle.slate_cluster.specs.Ran.{HasDone, HasRun};
+ghost use Rattle.slate_cluster.specs.Ran.{HasRun};
 
 use crate::progress::Progress;
 use slate_events::{DbSpec, Entry, Event};
 use slate_laws::{begins, goes_on, lawful, stops};
-use slate_opening::{NewError, Tallies, names};
+use slate_opening::{NewError, names};
 use slate_store::MemoryStore;
 use std::alloc::Global;
 use std::marker::Model;
@@ -81,15 +81,6 @@ impl Cluster {
         self.progress.run(alloc, events)
     }
 
-    /// As `run`, without the report: no entry is copied.
-    pub(crate) fn do_events(&mut self, alloc: Global, events: &[Event]) -> Result<(), ClusterError>
-        ensures { HasDone self.old events.now result self.new }
-    {
-        goes_on();
-        stops();
-        self.progress.do_events(alloc, events)
-    }
-
     /// The entries of all events since the cluster was made.
     pub fn trail(&self) -> &[Entry]
         ensures { result.now ≡ self.now.trail }
@@ -102,19 +93,5 @@ impl Cluster {
         ensures { result.now.store ≡ self.now.world.store }
     {
         self.progress.state.store()
-    }
-
-    /// The databases by path, with their greatest committed numbers.
-    pub(crate) fn tallies(&self) -> &Tallies
-        ensures { result.now.entries ≡ self.now.world.tallies }
-    {
-        self.progress.state.tallies()
-    }
-
-    /// How many deletes removed an object.
-    pub(crate) fn deleted(&self) -> u64
-        ensures { result ≡ self.now.world.deleted }
-    {
-        self.progress.state.deleted()
     }
 }

@@ -4,6 +4,7 @@
 mod answers;
 mod cluster;
 mod progress;
+mod telling;
 mod top_call;
 
 pub use cluster::{Cluster, ClusterError, Report};

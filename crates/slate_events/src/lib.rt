@@ -1,6 +1,7 @@
 //! Scripts and trails as values: databases as a run begins, its events and calls, what becomes of each event, replies, and causes.
 #![tactic(auto)]
 
+mod boxed;
 mod call;
 mod cluster_cause;
 mod db_spec;
@@ -11,6 +12,7 @@ mod party_kind;
 mod reply;
 mod script;
 
+pub use boxed::Boxed;
 pub use call::Call;
 pub use cluster_cause::ClusterCause;
 pub use db_spec::DbSpec;

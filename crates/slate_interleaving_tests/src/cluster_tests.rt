@@ -79,7 +79,8 @@ fn starts(rt: &impl Abort, alloc: Global, pass: GcMessage, filter: FilterWord) -
         dry_run: false,
         filter,
     };
-    let bad = bad_place(alloc, &mut cluster, &[Event::Start { party: 1, call }]);
+    let start = Event::start(alloc, 1, call).expect(rt, "memory");
+    let bad = bad_place(alloc, &mut cluster, &[start]);
     bad.is_none() && cluster.trail().len() == 2
 }
 

@@ -130,7 +130,8 @@ fn the_second_put_of_a_number_is_refused(rt: HostRuntime) {
 // A writer starts a flush.
 fn flushes(rt: &impl Abort, alloc: Global, cluster: &mut Cluster, party: u32) {
     let call = Call::Flush { seq: 0, tick: 0 };
-    does(rt, alloc, cluster, &[Event::Start { party, call }]);
+    let start = Event::start(alloc, party, call).expect(rt, "memory");
+    does(rt, alloc, cluster, &[start]);
 }
 
 // Writer 0 opens and then flushes, and writer 1 opens: the steps of writer 1 are those of the ones of this mask.

@@ -186,14 +186,16 @@ fn push(rt: &impl Abort, events: &mut Vec<Event>, event: Event) {
 fn open(rt: &impl Abort, events: &mut Vec<Event>, draws: &mut Draws, db: DbPath, place: usize) {
     let party = draws.comes(place);
     let kind = kind_at(place);
-    push(rt, events, Event::Open { party, kind, db });
+    let open = Event::open(*events.allocator(), party, kind, db).expect(rt, "memory");
+    push(rt, events, open);
 }
 
 // The party at a place starts a call.
 fn start(rt: &impl Abort, events: &mut Vec<Event>, draws: &mut Draws, place: usize) {
     let call = draws.call(place);
     let party = draws.party_at(place);
-    push(rt, events, Event::Start { party, call });
+    let start = Event::start(*events.allocator(), party, call).expect(rt, "memory");
+    push(rt, events, start);
 }
 
 // So many steps of the party at a place.

@@ -189,8 +189,8 @@ impl ClusterState {
         ensures err { OnErr result (self.new ≡ self.old) }
     {
         match event {
-            Event::Open { party, kind, db } => self.open(*party, *kind, *db),
-            Event::Start { party, call } => self.start(alloc, *party, call),
+            Event::Open { party, kind, db } => self.open(*party, *kind, *db.get()),
+            Event::Start { party, call } => self.start(alloc, *party, call.get()),
             Event::Stop { party } => Ok(self.stop(*party)),
             Event::Step {
                 party,

@@ -2,12 +2,12 @@
 #![tactic(auto)]
 
 mod command;
-mod run_report;
+mod report_end;
 mod status;
 mod texts;
 
 pub use command::{Command, command_in};
-pub use run_report::report;
+pub use report_end::push_rest;
 pub use slate_lines::{bad_cluster, bad_script};
 pub use status::Status;
 pub use texts::{deliver, help, run_help, version};

@@ -4,6 +4,7 @@ use crate::test_scripts::{refusal_of, refusal_within, script_of, text_of};
 use slate_ids::{CheckpointId, Text};
 use slate_script::{Call, Event, ScriptError, ScriptPlace};
 use std::alloc::{AllocError, Global};
+use std::mem::size_of;
 use std::process::Abort;
 
 /// A script with each kind of event and each optional field.
@@ -117,10 +118,13 @@ fn push_call(out: &mut String, call: &Call) -> Result<(), AllocError> {
 
 fn push_event(out: &mut String, event: &Event) -> Result<(), AllocError> {
     match event {
-        Event::Open { party, kind, db } => write!(out, "open {party} {kind:?} {db}"),
+        Event::Open { party, kind, db } => {
+            let db = db.get();
+            write!(out, "open {party} {kind:?} {db}")
+        }
         Event::Start { party, call } => {
             write!(out, "start {party} ")?;
-            push_call(out, call)
+            push_call(out, call.get())
         }
         Event::Step {
             party,
@@ -307,4 +311,10 @@ fn the_most_events(rt: HostRuntime) {
         refusal_of(alloc, over.as_str())
             == Some(ScriptError::BadScript(ScriptPlace::Event(1_000_000)))
     );
+}
+
+/// A script may have a million events, so that each takes few bytes, whatever its call.
+#[test]
+fn an_event_takes_few_bytes(rt: HostRuntime) {
+    assert!(rt; size_of::<Event>() <= 48);
 }

@@ -3,9 +3,9 @@ use Rattle.std.proofs.Common.{◌≡◌, ℕ, ℤ, Bool, true, false, true≢fal
 use Rattle.slate_ids.specs.Answers.{is_memory, OrMemory}
 use Rattle.slate_ids.specs.declared.error.SlateDBError.{SlateDBError}
 use Rattle.slate_ids.specs.declared.out_of_memory.OutOfMemory.{OutOfMemory}
-use Rattle.slate_store.specs.Calls.{Told}
-use Rattle.slate_store.specs.Machines.{Goes, End, Stepped, Held}
+use Rattle.slate_store.specs.Machines.{End}
 use Rattle.slate_store.specs.declared.step.Step.TheVariants.{Done}
+use Rattle.slate_store.specs.declared.store_answer.StoreAnswer.{StoreAnswer}
 use Rattle.slate_model.specs.declared.manifest.Manifest.{Manifest}
 use Rattle.slate_events.specs.declared.call.Call.{Call}
 use Rattle.slate_events.specs.declared.call.Call.TheVariants.{OpenWriter}
@@ -13,7 +13,7 @@ use Rattle.slate_events.specs.declared.reply.Reply.{Reply}
 use Rattle.slate_events.specs.declared.reply.Reply.TheVariants.{Refused}
 use Rattle.slate_protocol.specs.Calls.{Next, done, facts_after}
 use Rattle.slate_protocol.specs.Rows.{Standing, after, commit_next, commit_for, follow}
-use Rattle.slate_protocol.specs.Works.{WorkGoes, asks, goes}
+use Rattle.slate_protocol.specs.Works.{WorkGoes, goes}
 use Rattle.slate_protocol.specs.declared.party.Facts.{Facts}
 use Rattle.slate_protocol.specs.declared.party.Task.{Task}
 use Rattle.slate_protocol.specs.declared.work.Ended.{Ended}
@@ -22,9 +22,9 @@ use Rattle.slate_protocol.specs.declared.work.Purpose.{Purpose}
 use Rattle.slate_protocol.specs.declared.work.Purpose.TheVariants.{Once}
 use Rattle.slate_protocol.specs.declared.work.Work.{Work}
 use Rattle.slate_steps.proofs.NeverMemory.{never_memory}
-use Rattle.slate_steps.specs.Followed.{next_by, standing, Ends, Followed, Kept}
+use Rattle.slate_steps.specs.Followed.{next_by, standing, Ends, Follows, Kept}
 use Rattle.slate_steps.specs.Onward.{next_of}
-use Rattle.slate_steps.specs.WorkSteps.{AtEnd}
+use Rattle.slate_steps.specs.WorkSteps.{AtEnd, OutReading}
 use Rattle.slate_steps.specs.declared.calls.Onward.{Onward}
 
 -- ---- what follows doesn't ask what the end of the phrase tells
@@ -55,37 +55,10 @@ pub ends_so : (facts : Facts) (task : Task) (now : ℤ) (end : Ended) (known : F
 ends_so facts task now end known to next reply follows learnt goes_on call =
     (ap (at (facts_after facts task.call end)) (same_after facts task.call now end ∙ (sym follows ∙ goes_on)) ∙ ap (λ (k : Facts). at k (next_by to.work reply)) (sym learnt), call)
 
--- the phrase has ended, and the call goes on as its row says
-pub followed_end : (facts : Facts) (task : Task) (to : Work) (end : Ended) (known : Facts) (left : Task) (moment : ℤ) {old new : Told}
-    → OrMemory {X = Ended} (Ok end) (Held old new (asks task.work) moment task.work to) (Stepped old new (asks task.work) moment (goes task.work moment) (End to (Ok end)))
-    → (r : Result (Option Reply) OutOfMemory) → Ends facts (record task { work = to }) moment end known left r
-    → IfOk r (λ reply. Followed facts task old new moment left.call (standing known left reply))
-followed_end facts task to end known left moment (inl step) (Ok reply) h =
-    record { answer = step.answer; makes = step.makes; stands = ap (follow facts task.call moment) step.gives ∙ h.0; call = h.1 }
-followed_end facts task to end known left moment (inl step) (Err o) h = tt
-followed_end facts task to end known left moment (inr held) r h = absurd (true≢false (sym held.0))
-
--- or memory ran out, and the phrase is back at its last phase
-pub kept_end : (facts : Facts) (task : Task) (to : Work) (end : Ended) (known : Facts) (left : Task) (moment : ℤ) (old new : Told)
-    → AtEnd task.work to old new (Done (Ok end))
-    → (r : Result (Option Reply) OutOfMemory) → Ends facts (record task { work = to }) moment end known left r
-    → OnErr r (Kept facts task old new known left)
-kept_end facts task to end known left moment old new back (Ok reply) h = tt
-kept_end facts task to end known left moment old new back (Err o) h =
-    record { same_facts = h.1; same_task = h.2 ∙ ap (λ (w : Work). record task { work = w }) (back h.0).work; contents = (back h.0).contents }
-
--- ---- a refusal
-
 -- running out of memory left the call as it was
-pub kept_by : (facts : Facts) (task : Task) (to : Work) {old new : Told} (moment : ℤ) (e : SlateDBError) → is_memory e ≡ true
-    → OrMemory {X = Ended} (Err e) (Held old new (asks task.work) moment task.work to) (Stepped old new (asks task.work) moment (goes task.work moment) (End to (Err e)))
-    → Kept facts task old new facts (record task { work = to })
-kept_by facts task to moment e h (inl step) = absurd (true≢false (sym h ∙ never_memory task.work to moment step.answer e step.gives))
-kept_by facts task to moment e h (inr held) = record { same_facts = refl; same_task = ap (λ (w : Work). record task { work = w }) held.1.kept; contents = held.1.made.contents }
-
--- any other refusal is the reply
-pub refused_by : (facts : Facts) (task : Task) (to : Work) {old new : Told} (moment : ℤ) (e : SlateDBError) → is_memory e ≡ false
-    → OrMemory {X = Ended} (Err e) (Held old new (asks task.work) moment task.work to) (Stepped old new (asks task.work) moment (goes task.work moment) (End to (Err e)))
-    → Followed facts task old new moment task.call (standing facts (record task { work = to }) (Some (Refused e)))
-refused_by facts task to moment e h (inl step) = record { answer = step.answer; makes = step.makes; stands = ap (follow facts task.call moment) step.gives; call = refl }
-refused_by facts task to moment e h (inr held) = absurd (true≢false (sym held.0 ∙ h))
+pub kept_by : (facts : Facts) (task : Task) (to : Work) (moment : ℤ) (answer : StoreAnswer) (e : SlateDBError) → is_memory e ≡ true
+    → OrMemory {X = Ended} (Err e) (to ≡ task.work) (goes task.work moment answer ≡ End to (Err e))
+    → OutReading task.work (Done (Err e))
+    → Kept facts task facts (record task { work = to })
+kept_by facts task to moment answer e h (inl gives) out = absurd (true≢false (sym h ∙ never_memory task.work to moment answer e gives))
+kept_by facts task to moment answer e h (inr held) out = record { same_facts = refl; same_task = ap (λ (w : Work). record task { work = w }) held.1; reads = out h }

@@ -1,25 +1,23 @@
--- A commit that gave a version was at its boundary: it wrote nothing, and can be put back.
+-- A commit that gave a version was at its boundary: its last call was one that reads, and it can be put back.
 use Rattle.std.proofs.Common.{◌≡◌, ℕ, ℤ, nat_le, Bool, true, false, true≢false, if◌then◌else◌, List, Option, Some, None, Ok, Err, refl, sym, ◌∙◌, subst, inl, inr}
-use Rattle.slate_ids.specs.Answers.{is_memory}
 use Rattle.slate_ids.specs.declared.error.SlateDBError.{SlateDBError}
 use Rattle.slate_model.specs.declared.manifest.Manifest.{Manifest}
-use Rattle.slate_store.specs.Calls.{Told}
-use Rattle.slate_store.specs.Machines.{Goes, Stay, End}
+use Rattle.slate_store.specs.Calls.{is_reading}
+use Rattle.slate_store.specs.Machines.{Stay, End}
 use Rattle.slate_store.specs.declared.step.Step.{Step}
 use Rattle.slate_store.specs.declared.step.Step.TheVariants.{Again, Done}
 use Rattle.slate_store.specs.declared.store_answer.StoreAnswer.{StoreAnswer}
 use Rattle.slate_store.specs.declared.store_answer.StoreAnswer.TheVariants.{Created, Got}
-use Rattle.slate_log.proofs.Steps.{is_reading, reads_keep}
 use Rattle.slate_log.specs.Boundary.{boundary_got}
-use Rattle.slate_log.specs.CommitPhase.{CommitGoes, commit_goes, created_goes, bounded_goes}
+use Rattle.slate_log.specs.CommitPhase.{commit_goes, created_goes, bounded_goes}
 use Rattle.slate_log.specs.declared.commit_phase.CommitPhase.{CommitPhase}
 use Rattle.slate_log.specs.declared.commit_phase.CommitPhase.TheVariants.{Putting, Bounding, Over}
-use Rattle.slate_protocol.specs.Works.{WorkGoes, asks, goes, commit_on, db_of}
+use Rattle.slate_protocol.specs.Works.{WorkGoes, asks, commit_on, db_of}
 use Rattle.slate_protocol.specs.declared.work.Work.{Work}
 use Rattle.slate_protocol.specs.declared.work.Work.TheVariants.{CommitManifest}
 use Rattle.slate_protocol.specs.declared.work.Purpose.{Purpose}
 use Rattle.slate_protocol.specs.declared.work.Ended.{Ended}
-use Rattle.slate_steps.specs.WorkSteps.{WorkSteps, AtEnd, purpose_of, rewound}
+use Rattle.slate_steps.specs.WorkSteps.{WorkGoesOn, AtEnd, OutReading, purpose_of, rewound}
 
 -- work that ends well can be put back to where it was, and its last call was one that reads
 abbrev EndsReading : Work → WorkGoes → Type 0
@@ -47,25 +45,31 @@ by_answer purpose made db (Putting n bytes m) (Created tag) = by_tag purpose mad
 by_answer purpose made db (Bounding n m) (Got o) = by_boundary purpose made db n m (boundary_got o)
 by_answer purpose made db _ _ = tt
 
-ends_at : (purpose : Purpose) (made : ℤ) (db : List ℕ) (from to : CommitPhase Manifest) (moment : ℤ) (old new : Told) (step : Step Ended)
-    → WorkSteps (CommitManifest purpose made db from) (CommitManifest purpose made db to) moment old new step
-    → AtEnd (CommitManifest purpose made db from) (CommitManifest purpose made db to) old new step
-ends_at purpose made db from to moment old new Again s = tt
-ends_at purpose made db from to moment old new (Done (Err e)) s = tt
-ends_at purpose made db from to moment old new (Done (Ok ended)) (inl s) = λ v.
-    let ends = subst (λ (g : WorkGoes). EndsReading (CommitManifest purpose made db from) g) s.gives (by_answer purpose made db from s.answer) in
-    record { work = ends.0; contents = reads_keep ends.1 s.makes }
-ends_at purpose made db from to moment old new (Done (Ok ended)) (inr m) = absurd (true≢false (sym m.0))
+ends_at : (purpose : Purpose) (made : ℤ) (db : List ℕ) (from to : CommitPhase Manifest) (moment : ℤ) (a : StoreAnswer) (step : Step Ended)
+    → WorkGoesOn (CommitManifest purpose made db from) (CommitManifest purpose made db to) moment a step
+    → AtEnd (CommitManifest purpose made db from) (CommitManifest purpose made db to) step
+ends_at purpose made db from to moment a Again s = tt
+ends_at purpose made db from to moment a (Done (Err e)) s = tt
+ends_at purpose made db from to moment a (Done (Ok ended)) (inl gives) = λ v.
+    let ends = subst (λ (g : WorkGoes). EndsReading (CommitManifest purpose made db from) g) gives (by_answer purpose made db from a) in
+    record { work = ends.0; reads = ends.1 }
+ends_at purpose made db from to moment a (Done (Ok ended)) (inr m) = absurd (true≢false (sym m.0))
 
--- a step of a commit is one of the work that it is
-pub commit_steps : (w : Work) (own : Purpose) (at : List ℕ) (purpose : Purpose) (made : ℤ) (db : List ℕ) (from to : CommitPhase Manifest) (moment : ℤ) (old new : Told) (step : Step Ended)
+-- a commit that goes on is the work that it is
+pub commit_goes_so : (w : Work) (own : Purpose) (at : List ℕ) (purpose : Purpose) (made : ℤ) (db : List ℕ) (from to : CommitPhase Manifest) (moment : ℤ) (a : StoreAnswer) (step : Step Ended)
     → w ≡ CommitManifest purpose made db from → own ≡ purpose_of w → at ≡ db_of w
-    → WorkSteps (CommitManifest own made at from) (CommitManifest own made at to) moment old new step
-    → WorkSteps w (CommitManifest purpose made db to) moment old new step
-commit_steps w own at purpose made db from to moment old new step same of there steps = rw same (rw (of, there, same) at steps)
+    → WorkGoesOn (CommitManifest own made at from) (CommitManifest own made at to) moment a step
+    → WorkGoesOn w (CommitManifest purpose made db to) moment a step
+commit_goes_so w own at purpose made db from to moment a step same of there goes = rw same (rw (of, there, same) at goes)
 
--- where it ended well it wrote nothing, and can be put back
-pub commit_ends : (w : Work) (purpose : Purpose) (made : ℤ) (db : List ℕ) (from to : CommitPhase Manifest) (moment : ℤ) (old new : Told) (step : Step Ended)
-    → w ≡ CommitManifest purpose made db from → WorkSteps w (CommitManifest purpose made db to) moment old new step
-    → AtEnd w (CommitManifest purpose made db to) old new step
-commit_ends w purpose made db from to moment old new step same steps = rw same (ends_at purpose made db from to moment old new step (rw same at steps))
+-- where it ended well it read, and can be put back
+pub commit_ends : (w : Work) (purpose : Purpose) (made : ℤ) (db : List ℕ) (from to : CommitPhase Manifest) (moment : ℤ) (a : StoreAnswer) (step : Step Ended)
+    → w ≡ CommitManifest purpose made db from → WorkGoesOn w (CommitManifest purpose made db to) moment a step
+    → AtEnd w (CommitManifest purpose made db to) step
+commit_ends w purpose made db from to moment a step same goes = rw same (ends_at purpose made db from to moment a step (rw same at goes))
+
+-- and it runs out of memory where the work that it is does
+pub commit_out : (w : Work) (own : Purpose) (at : List ℕ) (purpose : Purpose) (made : ℤ) (db : List ℕ) (from : CommitPhase Manifest) (step : Step Ended)
+    → w ≡ CommitManifest purpose made db from → at ≡ db_of w
+    → OutReading (CommitManifest own made at from) step → OutReading w step
+commit_out w own at purpose made db from step same there out = rw same (rw (there, same) at out)

@@ -1,9 +1,9 @@
--- What one step of a call does.
+-- How a call goes on from an answer.
 use Rattle.std.specs.Prelude.{◌≡◌, ℤ, true, false, Option, Some, None, Result, Ok, Err}
 use Rattle.slate_ids.specs.Answers.{is_memory}
 use Rattle.slate_ids.specs.declared.error.SlateDBError.{SlateDBError}
 use Rattle.slate_ids.specs.declared.out_of_memory.OutOfMemory.{OutOfMemory}
-use Rattle.slate_store.specs.Calls.{Told, Makes, moment_of}
+use Rattle.slate_store.specs.Calls.{is_reading}
 use Rattle.slate_store.specs.declared.store_answer.StoreAnswer.{StoreAnswer}
 use Rattle.slate_events.specs.declared.call.Call.{Call}
 use Rattle.slate_events.specs.declared.reply.Reply.{Reply}
@@ -37,15 +37,13 @@ abbrev pub Ends : Facts → Task → ℤ → Ended → Facts → Task → Result
 Ends facts task now end facts' task' (Ok reply) = (ended facts task.call now end ≡ standing facts' task' reply) × (task'.call ≡ task.call)
 Ends facts task now end facts' task' (Err e) = (has_version end ≡ true) × (facts' ≡ facts) × (task' ≡ record task { work = rewound end task.work })
 
--- the one call that the work asks was made, and the call stands there
-pub record Followed (facts : Facts) (task : Task) (old new : Told) (moment : ℤ) (same : Call) (to : Standing) : Type 0 where
-  pub answer : StoreAnswer
-  pub makes : Makes old new (asks task.work) (moment_of (asks task.work) moment) answer
+-- the call goes on from the answer, and stands there
+pub record Follows (facts : Facts) (task : Task) (moment : ℤ) (answer : StoreAnswer) (same : Call) (to : Standing) : Type 0 where
   pub stands : follow facts task.call moment (goes task.work moment answer) ≡ to
   pub call : same ≡ task.call
 
--- memory ran out: the facts, the call and the contents are as they were
-pub record Kept (facts : Facts) (task : Task) (old new : Told) (facts' : Facts) (task' : Task) : Type 0 where
+-- memory ran out, after a call that only read: the facts and the call are as they were
+pub record Kept (facts : Facts) (task : Task) (facts' : Facts) (task' : Task) : Type 0 where
   pub same_facts : facts' ≡ facts
   pub same_task : task' ≡ task
-  pub contents : new.contents ≡ old.contents
+  pub reads : is_reading (asks task.work) ≡ true

@@ -1,10 +1,12 @@
--- What one step of a phrase does.
+-- How a phrase goes on from an answer.
 use Rattle.std.specs.Prelude.{◌≡◌, ℕ, ℤ, Bool, true, false, Ok}
 use Rattle.slate_model.specs.declared.manifest.Manifest.{Manifest}
-use Rattle.slate_store.specs.Calls.{Told}
-use Rattle.slate_store.specs.Machines.{Steps}
+use Rattle.slate_store.specs.Calls.{is_reading}
+use Rattle.slate_store.specs.Machines.{GoesOn}
+use Rattle.slate_store.specs.declared.store_answer.StoreAnswer.{StoreAnswer}
 use Rattle.slate_store.specs.declared.step.Step.{Step}
 use Rattle.slate_store.specs.declared.step.Step.TheVariants.{Done}
+use Rattle.slate_log.specs.Due.{WhereOut}
 use Rattle.slate_log.specs.declared.read_phase.ReadPhase.TheVariants as reading
 use Rattle.slate_log.specs.declared.commit_phase.CommitPhase.TheVariants as committing
 use Rattle.slate_protocol.specs.Works.{asks, goes}
@@ -15,9 +17,13 @@ use Rattle.slate_protocol.specs.declared.work.Purpose.TheVariants.{Once}
 use Rattle.slate_protocol.specs.declared.work.Ended.{Ended}
 use Rattle.slate_protocol.specs.declared.work.Ended.TheVariants.{NoManifest, ManifestRead, ManifestCommitted, Passed}
 
--- the one call that the work asks was made, and the work goes on from its answer
-abbrev pub WorkSteps : Work → Work → ℤ → Told → Told → Step Ended → Type 0
-WorkSteps from to moment old new step = Steps old new (asks from) moment (goes from moment) from to step
+-- the work goes on from the answer, which came at a moment, unless memory runs out
+abbrev pub WorkGoesOn : Work → Work → ℤ → StoreAnswer → Step Ended → Type 0
+WorkGoesOn from to moment answer step = GoesOn (goes from moment answer) from to step
+
+-- memory runs out only after a call that reads
+abbrev pub OutReading : Work → Step Ended → Type 0
+OutReading from step = WhereOut step (is_reading (asks from) ≡ true)
 
 -- which read or commit of its call this is; a pass is the one work of its call
 abbrev pub purpose_of : Work → Purpose
@@ -51,12 +57,12 @@ has_version (ManifestRead purpose db n m) = true
 has_version (ManifestCommitted purpose db n m) = true
 has_version (Passed counts) = false
 
--- the last call of the work wrote nothing, and the work can be put back
-pub record Rewinds (ended : Ended) (from to : Work) (old new : Told) : Type 0 where
+-- the last call of the work only read, and the work can be put back
+pub record Rewinds (ended : Ended) (from to : Work) : Type 0 where
   pub work : rewound ended to ≡ from
-  pub contents : new.contents ≡ old.contents
+  pub reads : is_reading (asks from) ≡ true
 
 -- work that ended with a version can be put back
-abbrev pub AtEnd : Work → Work → Told → Told → Step Ended → Type 0
-AtEnd from to old new (Done (Ok ended)) = has_version ended ≡ true → Rewinds ended from to old new
-AtEnd from to old new _ = Unit {0}
+abbrev pub AtEnd : Work → Work → Step Ended → Type 0
+AtEnd from to (Done (Ok ended)) = has_version ended ≡ true → Rewinds ended from to
+AtEnd from to _ = Unit {0}

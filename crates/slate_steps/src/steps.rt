@@ -1,20 +1,17 @@
 //! One step of a call.
 ghost use Rattle.std.specs.Prelude.{◌≡◌, true, IfOk, OnErr};
 ghost use Rattle.slate_protocol.specs.Rows.{after as after_end};
-ghost use Rattle.slate_protocol.specs.Works.{is_due};
-ghost use Rattle.slate_recorder.specs.Recorded.{told_by};
 ghost use Rattle.slate_steps.specs.Onward.{next_of};
 ghost use Rattle.slate_steps.specs.WorkSteps.{has_version};
-ghost use Rattle.slate_steps.specs.Followed.{standing, next_by, Followed, Kept, Refuses, Ends};
+ghost use Rattle.slate_steps.specs.Followed.{standing, next_by, Follows, Kept, Refuses, Ends};
 
 use crate::calls::{Onward, change_of, done, learn};
-use crate::works::{rewind, step_work};
+use crate::works::{goes_on, rewind};
 use slate_events::{Call, Reply};
 use slate_ids::{Millis, OutOfMemory, SlateDBError};
 use slate_layout::ManifestCodec;
 use slate_protocol::{Ended, Facts, Task, Work};
-use slate_recorder::Recorder;
-use slate_store::Step;
+use slate_store::{Step, StoreAnswer};
 use std::alloc::Global;
 
 // A refusal is the reply, unless memory ran out.
@@ -100,22 +97,20 @@ fn end_phrase(
     }
 }
 
-/// Makes the one store call that is due in a call, and goes on from its answer. A reply ends the call. Running out of memory
-/// leaves the facts, the call and the store's contents as they were.
-pub(crate) fn step_call(
+/// Goes on with a call from the answer to the store call that it asked, at the moment of that call. A reply ends the call. Memory runs
+/// out only after a list or a get, and leaves the facts and the call as they were.
+pub(crate) fn follow(
     alloc: Global,
     facts: &mut Facts,
     task: &mut Task,
-    store: &mut Recorder,
     moment: Millis,
+    answer: &StoreAnswer,
 ) -> Result<Option<Reply>, OutOfMemory>
-    requires { is_due task.old.work ≡ true }
-    ensures ok { IfOk result (λ reply. Followed facts.old task.old (told_by store.old) (told_by store.new) moment
+    ensures ok { IfOk result (λ reply. Follows facts.old task.old moment answer.now
         task.new.call (standing facts.new task.new reply)) }
-    ensures err { OnErr result (Kept facts.old task.old (told_by store.old) (told_by store.new)
-        facts.new task.new) }
+    ensures err { OnErr result (Kept facts.old task.old facts.new task.new) }
 {
-    match step_work(alloc, &mut task.work, store, moment) {
+    match goes_on(alloc, &mut task.work, moment, answer) {
         Step::Again => Ok(None),
         Step::Done(Ok(ended)) => end_phrase(alloc, facts, task, moment, ended),
         Step::Done(Err(e)) => {

@@ -1,20 +1,17 @@
-//! The phrase under way, as a machine over any store.
-ghost use Rattle.std.specs.Prelude.{◌≡◌, ℤ, true};
-ghost use Rattle.slate_log.specs.ReadPhase.{read_due};
-ghost use Rattle.slate_log.specs.CommitPhase.{commit_due};
-ghost use Rattle.slate_gc.specs.GcPass.{gc_due};
-ghost use Rattle.slate_protocol.specs.Works.{db_of as db_at, is_due as due_at};
+//! The phrase under way: what it asks, and how it goes on from the answer.
+ghost use Rattle.std.specs.Prelude.{◌≡◌, ℤ, pos, IfOk};
+ghost use Rattle.slate_protocol.specs.Works.{asks as asks_at, db_of as db_at, is_due as due_at};
 ghost use Rattle.slate_protocol.specs.declared.work.Work.TheVariants as work;
-ghost use Rattle.slate_steps.specs.WorkSteps.{WorkSteps, AtEnd, purpose_of as purpose_at};
+ghost use Rattle.slate_steps.specs.WorkSteps.{WorkGoesOn, AtEnd, OutReading, purpose_of as purpose_at};
 ghost use Rattle.slate_steps.specs.WorkSteps as rewinding;
 
 use slate_gc::{GcPass, PassOptions};
-use slate_ids::{DbPath, Millis};
+use slate_ids::{DbPath, Millis, OutOfMemory};
 use slate_layout::ManifestCodec;
 use slate_log::{CommitPhase, LogKind, ReadPhase, Sequenced};
 use slate_model::Manifest;
 use slate_protocol::{Ended, Purpose, Work};
-use slate_store::{ObjectStore, Step};
+use slate_store::{Step, StoreAnswer, StoreCall};
 use std::alloc::Global;
 
 // The log of manifests of a database.
@@ -25,20 +22,30 @@ fn manifests(db: DbPath) -> Sequenced<Manifest, ManifestCodec>
     Sequenced::new(db, LogKind::Manifest, ManifestCodec)
 }
 
-// A step of a read of manifests.
-fn step_read<S: ObjectStore>(
+/// The one store call that is due where a phrase stands.
+pub(crate) fn asked(alloc: Global, work: &Work) -> Result<StoreCall, OutOfMemory>
+    ensures { IfOk result (λ call. call ≡ asks_at work.now) }
+{
+    match work {
+        Work::ReadManifest(_, db, phase) => Ok(phase.asks(&manifests(*db))),
+        Work::CommitManifest(_, _, db, phase) => phase.asks(alloc, &manifests(*db)),
+        Work::Pass(db, _, phase) => phase.asks(alloc, &manifests(*db)),
+    }
+}
+
+// A read of manifests goes on.
+fn read_goes_on(
     alloc: Global,
     purpose: Purpose,
     db: DbPath,
     phase: &mut ReadPhase<Manifest>,
-    store: &mut S,
-    moment: Millis,
+    answer: &StoreAnswer,
 ) -> Step<Ended>
-    requires { read_due phase.old ≡ true }
-    ensures { WorkSteps (work.ReadManifest purpose db phase.old) (work.ReadManifest purpose db phase.new) moment
-        (S.told store.old) (S.told store.new) result }
+    ensures goes { WorkGoesOn (work.ReadManifest purpose db phase.old) (work.ReadManifest purpose db phase.new)
+        (pos 0) answer.now result }
+    ensures end { AtEnd (work.ReadManifest purpose db phase.old) (work.ReadManifest purpose db phase.new) result }
 {
-    match phase.next(alloc, &manifests(db), store, moment) {
+    match phase.goes_on(alloc, &manifests(db), answer) {
         Step::Again => Step::Again,
         Step::Done(Ok(None)) => Step::Done(Ok(Ended::NoManifest(purpose))),
         Step::Done(Ok(Some((n, value)))) => Step::Done(Ok(Ended::ManifestRead(
@@ -48,20 +55,18 @@ fn step_read<S: ObjectStore>(
     }
 }
 
-// A step of a commit of a manifest, which was made at some moment.
-fn step_commit<S: ObjectStore>(
-    alloc: Global,
+// A commit of a manifest, which was made at some moment, goes on.
+fn commit_goes_on(
     purpose: Purpose,
     db: DbPath,
     phase: &mut CommitPhase<Manifest>,
-    store: &mut S,
-    moment: Millis,
+    answer: &StoreAnswer,
 ) -> Step<Ended>
-    requires { commit_due phase.old ≡ true }
-    ensures { (made : ℤ) → WorkSteps (work.CommitManifest purpose made db phase.old) (work.CommitManifest purpose made db phase.new) moment
-        (S.told store.old) (S.told store.new) result }
+    ensures goes { (made : ℤ) → WorkGoesOn (work.CommitManifest purpose made db phase.old)
+        (work.CommitManifest purpose made db phase.new) (pos 0) answer.now result }
+    ensures out { (made : ℤ) → OutReading (work.CommitManifest purpose made db phase.old) result }
 {
-    match phase.next(alloc, &manifests(db), store, moment) {
+    match phase.goes_on(answer) {
         Step::Again => Step::Again,
         Step::Done(Ok((n, value))) => Step::Done(Ok(Ended::ManifestCommitted(
             purpose, db, n, value,
@@ -70,20 +75,20 @@ fn step_commit<S: ObjectStore>(
     }
 }
 
-// A step of a pass.
-fn step_pass<S: ObjectStore>(
+// A pass goes on, at the moment of its call.
+fn pass_goes_on(
     alloc: Global,
     db: DbPath,
     options: &PassOptions,
     phase: &mut GcPass,
-    store: &mut S,
     moment: Millis,
+    answer: &StoreAnswer,
 ) -> Step<Ended>
-    requires { gc_due phase.old ≡ true }
-    ensures { WorkSteps (work.Pass db options.now phase.old) (work.Pass db options.now phase.new) moment
-        (S.told store.old) (S.told store.new) result }
+    ensures goes { WorkGoesOn (work.Pass db options.now phase.old) (work.Pass db options.now phase.new)
+        moment answer.now result }
+    ensures out { OutReading (work.Pass db options.now phase.old) result }
 {
-    match phase.next(alloc, &manifests(db), options, store, moment) {
+    match phase.goes_on(alloc, &manifests(db), options, moment, answer) {
         Step::Again => Step::Again,
         Step::Done(Ok(counts)) => Step::Done(Ok(Ended::Passed(counts))),
         Step::Done(Err(e)) => Step::Done(Err(e)),
@@ -123,25 +128,24 @@ fn db_of(work: &Work) -> DbPath
     }
 }
 
-/// Makes the one store call that the phrase asks. Running out of memory leaves the phrase as it was.
-pub(crate) fn step_work<S: ObjectStore>(
+/// Goes on from the answer to the call that the phrase asked, at the moment of the call. Memory runs out only after a list or a get,
+/// and leaves the phrase as it was.
+pub(crate) fn goes_on(
     alloc: Global,
     work: &mut Work,
-    store: &mut S,
     moment: Millis,
+    answer: &StoreAnswer,
 ) -> Step<Ended>
-    requires { due_at work.old ≡ true }
-    ensures steps { WorkSteps work.old work.new moment (S.told store.old) (S.told store.new) result }
-    ensures end { AtEnd work.old work.new (S.told store.old) (S.told store.new) result }
+    ensures goes { WorkGoesOn work.old work.new moment answer.now result }
+    ensures end { AtEnd work.old work.new result }
+    ensures out { OutReading work.old result }
 {
     let purpose = purpose_of(work);
     let db = db_of(work);
     match work {
-        Work::ReadManifest(_, _, phase) => step_read(alloc, purpose, db, phase, store, moment),
-        Work::CommitManifest(_, _, _, phase) => {
-            step_commit(alloc, purpose, db, phase, store, moment)
-        }
-        Work::Pass(_, options, phase) => step_pass(alloc, db, options, phase, store, moment),
+        Work::ReadManifest(_, _, phase) => read_goes_on(alloc, purpose, db, phase, answer),
+        Work::CommitManifest(_, _, _, phase) => commit_goes_on(purpose, db, phase, answer),
+        Work::Pass(_, options, phase) => { pass_goes_on(alloc, db, options, phase, moment, answer) }
     }
 }
 

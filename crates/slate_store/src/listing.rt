@@ -63,7 +63,8 @@ fn bounds_of(alloc: Global, dir: &ListDir) -> Result<Bounds, OutOfMemory>
     }
 }
 
-/// What a folder lists, in order. Of the map only the paths between its bounds are looked at.
+/// What a folder lists, in order. Of the map only the paths between its bounds are looked at, twice: they are counted, so that the room
+/// for them is taken once.
 #[tactic(auto, using(crate::proofs::Folders::within, crate::proofs::Folders::forward))]
 pub(crate) fn listing(
     alloc: Global,
@@ -74,8 +75,10 @@ pub(crate) fn listing(
         ≡ map metadata (filter (λ o. is_in dir.now o.0) objects.now.entries)) }
 {
     let bounds = bounds_of(alloc, dir)?;
-    let mut found = Vec::new(alloc);
-    for (path, object) in objects.range(bounds) {
+    let within = objects.range(bounds);
+    let count = within.clone()?.filter(|entry| dir.lists(entry.0)).count();
+    let mut found = Vec::with_capacity(alloc, count)?;
+    for (path, object) in within {
         if dir.lists(path) {
             found.push(metadata_of(alloc, path, object)?)?;
         }

@@ -11,6 +11,6 @@ use Rattle.slate_store.proofs.listing.listing.Goals as goal
 pub loop-path-init : goal.loop-path-init
 loop-path-init c =
     let bounds : c.in_ok-bounds.bounds ≡ bounds_in c.args.dir.now = search rules in
-    let all : c.range-path-items.result ≡ entries_between path_cmp (bounds_in c.args.dir.now).0 (bounds_in c.args.dir.now).1 c.args.objects.now.entries = c.range-path-items.ensures.between tt ∙ ap (λ (b : Bound ObjectPath × Bound ObjectPath). entries_between path_cmp b.0 b.1 c.args.objects.now.entries) bounds in
+    let all : c.range-within.result ≡ entries_between path_cmp (bounds_in c.args.dir.now).0 (bounds_in c.args.dir.now).1 c.args.objects.now.entries = c.range-within.ensures.between tt ∙ ap (λ (b : Bound ObjectPath × Bound ObjectPath). entries_between path_cmp b.0 b.1 c.args.objects.now.entries) bounds in
     let fewer = within c.args.dir.now c.args.objects.now.entries in
     search (rules, all, fewer)

@@ -1,12 +1,12 @@
-//! The text of a report.
-ghost use Rattle.std.specs.Prelude.{◌≡◌, ◌++◌, IfOk, OnOk, string_bytes};
+//! The end of a report.
+ghost use Rattle.std.specs.Prelude.{◌≡◌, ◌++◌, OnOk, string_bytes};
 ghost use Rattle.std.specs.List.{flat_map};
-ghost use Rattle.slate_protocol.specs.Reports.{tally_line, state_text, report_text};
-ghost use Rattle.slate_reports.specs.Parts.{course_of, world_of};
+ghost use Rattle.slate_lines.specs.Lines.{end_line};
+ghost use Rattle.slate_protocol.specs.Reports.{tally_line, state_text};
+ghost use Rattle.slate_reports.specs.Parts.{world_of};
 
-use slate_events::Entry;
 use slate_ids::{DbPath, OutOfMemory};
-use slate_lines::{push_commits, push_deleted, push_end, push_entries, push_left};
+use slate_lines::{push_commits, push_deleted, push_end, push_left};
 use slate_protocol::Tally;
 use slate_store::MemoryStore;
 use std::alloc::{AllocError, Global};
@@ -48,27 +48,20 @@ fn push_state(
     Ok(())
 }
 
-/// The report of a run: a line for each of its entries, then the greatest committed numbers of the databases, the count of
-/// deletes and the paths of the objects left, and how it ended, with its first bad event.
-#[tactic(auto, using(crate::proofs::Reports::report_is))]
-pub fn report(
+/// Adds what stands in a report below the lines of its events: the greatest committed numbers of the databases, the count of deletes and
+/// the paths of the objects left, and how the run ended, with its first bad event.
+pub fn push_rest(
     alloc: Global,
-    trail: &[Entry],
+    out: &mut String,
     tallies: &BTreeMap<DbPath, Tally>,
     deleted: u64,
     store: &MemoryStore,
     bad: Option<u64>,
-) -> Result<String, OutOfMemory>
-    ensures { IfOk result (λ text. string_bytes text
-        ≡ report_text (record {
-          course = course_of trail.now
-              (world_of tallies.now.entries deleted store.now.store);
-          bad = bad;
-        })) }
+) -> Result<(), OutOfMemory>
+    ensures { OnOk result (string_bytes out.new
+        ≡ string_bytes out.old ++ state_text (world_of tallies.now.entries deleted store.now.store) ++ end_line bad) }
 {
-    let mut text = String::new(alloc);
-    push_entries(&mut text, trail)?;
-    push_state(alloc, &mut text, tallies, deleted, store)?;
-    push_end(&mut text, bad)?;
-    Ok(text)
+    push_state(alloc, out, tallies, deleted, store)?;
+    push_end(out, bad)?;
+    Ok(())
 }

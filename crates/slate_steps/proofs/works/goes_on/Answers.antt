@@ -1,0 +1,17 @@
+use Rattle.slate_steps.proofs.Rewinding.{commit_goes_so, commit_ends, commit_out}
+use Rattle.slate_steps.proofs.works.goes_on.Goals as goal
+
+pub returns-in-CommitManifest-clause-goes : goal.returns-in-CommitManifest-clause-goes
+returns-in-CommitManifest-clause-goes c =
+    commit_goes_so c.args.work.now c.purpose_of-purpose.result c.db_of-db.result c.in-CommitManifest.field-0 c.in-CommitManifest.field-1 c.in-CommitManifest.field-2 c.in-CommitManifest.phase c.commit_goes_on.new.phase c.args.moment c.args.answer.now c.commit_goes_on.result
+    c.in-CommitManifest.is c.purpose_of-purpose.ensures c.db_of-db.ensures (c.commit_goes_on.ensures.goes c.in-CommitManifest.field-1)
+
+pub returns-in-CommitManifest-clause-end : goal.returns-in-CommitManifest-clause-end
+returns-in-CommitManifest-clause-end c =
+    commit_ends c.args.work.now c.in-CommitManifest.field-0 c.in-CommitManifest.field-1 c.in-CommitManifest.field-2 c.in-CommitManifest.phase c.commit_goes_on.new.phase c.args.moment c.args.answer.now c.commit_goes_on.result
+    c.in-CommitManifest.is (returns-in-CommitManifest-clause-goes c)
+
+pub returns-in-CommitManifest-clause-out : goal.returns-in-CommitManifest-clause-out
+returns-in-CommitManifest-clause-out c =
+    commit_out c.args.work.now c.purpose_of-purpose.result c.db_of-db.result c.in-CommitManifest.field-0 c.in-CommitManifest.field-1 c.in-CommitManifest.field-2 c.in-CommitManifest.phase c.commit_goes_on.result
+    c.in-CommitManifest.is c.db_of-db.ensures (c.commit_goes_on.ensures.out c.in-CommitManifest.field-1)
