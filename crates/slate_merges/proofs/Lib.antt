@@ -1,0 +1,5 @@
+mod Ascents
+mod Fronts
+mod WriterTurns
+mod CompactorTurns
+mod ByPrefix
