@@ -3,7 +3,7 @@ ghost use Rattle.std.specs.Prelude.{◌≡◌, ◌++◌, ◌∷◌, [], List, If
 ghost use Rattle.slate_log.specs.LogPaths.{number_of};
 ghost use Rattle.slate_log.specs.declared.log_kind.LogKind.TheVariants as logs;
 ghost use Rattle.slate_model.specs.declared.checkpoint.Checkpoint.{Checkpoint as AnyCheckpoint};
-ghost use Rattle.slate_gc.specs.Named.{IsSetOf};
+ghost use Rattle.slate_updates.specs.Named.{IsSetOf};
 ghost use Rattle.slate_gc.specs.Picks as picking;
 
 use crate::objects::Objects;

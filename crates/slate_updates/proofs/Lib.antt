@@ -1,1 +1,3 @@
 mod Expired
+mod NamedVersions
+mod TableSets
