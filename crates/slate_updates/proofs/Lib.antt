@@ -1,3 +1,4 @@
 mod Expired
 mod NamedVersions
 mod TableSets
+mod Nested

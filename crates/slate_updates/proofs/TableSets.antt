@@ -1,5 +1,7 @@
 -- A set takes tables one by one.
-use Rattle.std.specs.Prelude.{ℕ, ◌+◌, ◌<◌, ◌||◌, ◌==◌, cond, Bool, true, false, List, ◌∷◌, length}
+use Rattle.std.specs.Prelude.{ℕ, ◌+◌, ◌<◌, ◌||◌, ◌==◌, ◌&&◌, not, cond, Bool, true, false, List, [], ◌∷◌, length, Option, Some, if◌then◌else◌}
+use Rattle.std.specs.List.{find}
+use Rattle.std.specs.BTreeSet.{BTreeSet}
 use Rattle.std.specs.Ordering.{nat_cmp, is_eq}
 use Rattle.std.proofs.Common.{◌≡◌, refl, sym, ◌∙◌, ap, arith, drop, get_or}
 use Rattle.std.proofs.lemmas.Bool.Decides.{nat_tests}
@@ -8,7 +10,8 @@ use Rattle.slate_ids.proofs.IdOrder.{is_at_is}
 use Rattle.slate_tables.specs.declared.ss_table_id.SsTableId.{SsTableId}
 use Rattle.slate_tables.specs.declared.ss_table_id.SsTableId.TheVariants.{Wal, Compacted}
 use Rattle.slate_model.specs.Externals.{same_table}
-use Rattle.slate_updates.specs.TableSets.{is_among, table_cmp}
+use Rattle.slate_updates.specs.FlushedTables.{is_before, is_early}
+use Rattle.slate_updates.specs.TableSets.{is_among, has_table, table_cmp, IsTableSet}
 
 -- what the set has, or what is left of the tables, is what is among all
 abbrev pub Left : (SsTableId → Bool) → List SsTableId → List SsTableId → Type 0
@@ -36,3 +39,11 @@ one_more has new ids all i id lt at made left q =
     let rest = is_among (drop (i + 1) ids) q in
     let here : is_among (drop i ids) q ≡ (same_table q id || rest) = at_drop_more (λ x. is_among x q) ids i id lt ∙ ap (λ (x : SsTableId). is_among (x ∷ drop (i + 1) ids) q) (sym at) in
     ap (λ (b : Bool). b || rest) (made q ∙ ap (λ (b : Bool). cond b true (has q)) (same id q)) ∙ turned (same_table q id) (has q) rest ∙ ap (λ (b : Bool). has q || b) (sym here) ∙ left q
+
+-- what a set answers for its tables
+pub first_found : (set : BTreeSet SsTableId) (old ids : List SsTableId) (moment : ℕ) → IsTableSet set old
+    → find (λ id. is_before moment id && not (has_table set id)) ids ≡ find (is_early moment old) ids
+first_found set old [] moment is = refl
+first_found set old (id ∷ ids) moment is =
+    ap (λ (b : Bool). if is_before moment id && not b then Some id else find (λ x. is_before moment x && not (has_table set x)) ids) (is id)
+    ∙ ap (λ (o : Option SsTableId). if is_early moment old id then Some id else o) (first_found set old ids moment is)

@@ -4,19 +4,24 @@
 mod checkpoints;
 mod entries;
 mod epochs;
+mod flushed_tables;
 mod flushing;
 mod lookups;
 mod manifest_change;
 mod named;
+mod prefixes;
 mod rules;
+mod run_tables;
 mod tables;
 
 pub use checkpoints::{
     delete_checkpoint, expire_checkpoints, refresh_checkpoint, replace_checkpoint, write_checkpoint,
 };
 pub use epochs::{WriterEpochs, raise_writer};
+pub use flushed_tables::l0_ulid_cutoff;
 pub use flushing::flush;
 pub use lookups::{find_checkpoint, is_named};
 pub use manifest_change::{ManifestChange, floors_rise};
 pub use named::named_versions;
-pub use rules::{ManifestRules, refusal_of_update};
+pub use prefixes::check_prefixes;
+pub use rules::{ManifestRules, check_entries, check_names, check_numbers, check_runs};
