@@ -2,3 +2,5 @@ mod Expired
 mod NamedVersions
 mod TableSets
 mod Nested
+pub mod Lawful
+mod PrefixesApart

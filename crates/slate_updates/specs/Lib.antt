@@ -6,5 +6,6 @@ pub mod FlushedTables
 pub mod RunTables
 pub mod Prefixes
 pub mod Rules
+pub mod RuleLaws
 pub mod Writers
 pub mod Changes

@@ -1,0 +1,32 @@
+//! What the rules on new versions of a manifest say.
+ghost use Rattle.std.specs.Prelude.{◌≡◌, ◌↔◌, ℕ, List, true, None};
+ghost use Rattle.slate_log.specs.declared.right.Right.{Right as AnyRight};
+ghost use Rattle.slate_model.specs.declared.manifest.Manifest.{Manifest as AnyManifest};
+ghost use Rattle.slate_model.specs.Segments.{Prefixed, IsAscending};
+ghost use Rattle.slate_model.specs.Selection.{are_apart};
+ghost use Rattle.slate_updates.specs.FlushedTables.{tick_refusal};
+ghost use Rattle.slate_updates.specs.Prefixes.{prefix_refusal};
+ghost use Rattle.slate_updates.specs.RuleLaws.{NothingFalls, NamesKnown, AreTimely};
+ghost use Rattle.slate_updates.specs.Rules.{manifest_refusal};
+
+/// In a manifest that may follow another no epoch falls, nor the last file of the write-ahead log that needs no replay, nor the floor;
+/// and its checkpoints name no version but its own and those that the old one's name.
+pub fn lawful_updates_keep()
+    ensures numbers { (n : ℕ) (old new : AnyManifest) (right : AnyRight)
+        → manifest_refusal n old new right ≡ None → NothingFalls old new }
+    ensures names { (n : ℕ) (old new : AnyManifest) (right : AnyRight)
+        → manifest_refusal n old new right ≡ None → NamesKnown n old new }
+{}
+
+/// The cutoff lets a new manifest pass exactly where each of its flushed tables that the old one hasn't is from the old floor and the old
+/// watermark on.
+pub fn cutoff_is_timely()
+    ensures { (old new : AnyManifest) → tick_refusal old new ≡ None ↔ AreTimely old new }
+{}
+
+/// Of prefixes that ascend no two nest exactly where no two neighbours do.
+#[tactic(auto, using(crate::proofs::PrefixesApart::apart))]
+pub fn neighbours_tell()
+    ensures { (segments : List Prefixed) → IsAscending segments
+        → prefix_refusal segments ≡ None ↔ are_apart segments ≡ true }
+{}
