@@ -4,3 +4,4 @@ mod TableSets
 mod Nested
 pub mod Lawful
 mod PrefixesApart
+pub mod Unchanged

@@ -4,10 +4,13 @@ ghost use Rattle.slate_log.specs.declared.right.Right.{Right as AnyRight};
 ghost use Rattle.slate_model.specs.declared.manifest.Manifest.{Manifest as AnyManifest};
 ghost use Rattle.slate_model.specs.Segments.{Prefixed, IsAscending};
 ghost use Rattle.slate_model.specs.Selection.{are_apart};
+ghost use Rattle.slate_model.specs.Trees.{trees_of};
+ghost use Rattle.slate_updates.specs.Entries.{entries_kept};
 ghost use Rattle.slate_updates.specs.FlushedTables.{tick_refusal};
 ghost use Rattle.slate_updates.specs.Prefixes.{prefix_refusal};
 ghost use Rattle.slate_updates.specs.RuleLaws.{NothingFalls, NamesKnown, AreTimely};
 ghost use Rattle.slate_updates.specs.Rules.{manifest_refusal};
+ghost use Rattle.slate_updates.specs.RunTables.{runs_known};
 
 /// In a manifest that may follow another no epoch falls, nor the last file of the write-ahead log that needs no replay, nor the floor;
 /// and its checkpoints name no version but its own and those that the old one's name.
@@ -29,4 +32,11 @@ pub fn cutoff_is_timely()
 pub fn neighbours_tell()
     ensures { (segments : List Prefixed) → IsAscending segments
         → prefix_refusal segments ≡ None ↔ are_apart segments ≡ true }
+{}
+
+/// A new manifest with the trees and the entries of the old one breaks no rule on tables, under any right.
+pub fn unchanged_trees_pass()
+    ensures { (old new : AnyManifest) (right : AnyRight)
+        → new.external_dbs ≡ old.external_dbs → trees_of new.core ≡ trees_of old.core
+        → (entries_kept old new ≡ true) × (tick_refusal old new ≡ None) × (runs_known old new right ≡ true) }
 {}
