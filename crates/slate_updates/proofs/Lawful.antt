@@ -4,21 +4,24 @@ use Rattle.std.specs.List.{list_all, list_any, find}
 use Rattle.std.proofs.Common.{◌≡◌, ◌⊎◌, ◌↔◌, refl, sym, ◌∙◌, ap, subst, inl, inr, arith}
 use Rattle.std.proofs.lemmas.Bool.Decides.{nat_tests}
 use Rattle.slate_ids.specs.declared.error.SlateDBError.{SlateDBError}
+use Rattle.slate_ids.specs.declared.error.SlateDBError.TheVariants.{InvalidSegmentPrefix}
 use Rattle.slate_ids.specs.declared.error.UpdateRule.{UpdateRule}
 use Rattle.slate_ids.specs.declared.error.UpdateRule.TheVariants.{U1, U2, U3, U5}
+use Rattle.slate_ids.specs.Keys.{begins_with}
 use Rattle.slate_ids.specs.Ulids.{same_id}
 use Rattle.slate_tables.specs.declared.ss_table_id.SsTableId.{SsTableId}
 use Rattle.slate_tables.specs.declared.ss_table_id.SsTableId.TheVariants.{Wal, Compacted}
 use Rattle.slate_model.specs.declared.checkpoint.Checkpoint.{Checkpoint}
 use Rattle.slate_model.specs.declared.manifest.Manifest.{Manifest}
+use Rattle.slate_model.specs.Segments.{Prefixed}
 use Rattle.slate_log.specs.declared.right.Right.{Right}
 use Rattle.slate_updates.specs.Checkpoints.{is_named}
 use Rattle.slate_updates.specs.Entries.{entries_kept}
 use Rattle.slate_updates.specs.FlushedTables.{tick_refusal, early_refusal, is_early, is_before, least_tick, flushed_tables}
 use Rattle.slate_updates.specs.RunTables.{runs_known}
-use Rattle.slate_updates.specs.Prefixes.{prefix_refusal}
+use Rattle.slate_updates.specs.Prefixes.{nested_after, prefix_refusal}
 use Rattle.slate_updates.specs.Rules.{falls, names_known, unless_kept, first_refusal, manifest_refusal}
-use Rattle.slate_updates.specs.RuleLaws.{NothingFalls, NamesKnown, StartAt, AreTimely}
+use Rattle.slate_updates.specs.RuleLaws.{NothingFalls, NamesKnown, StartAt, AreTimely, IsOfRules}
 use Rattle.slate_updates.specs.TableSets.{is_among}
 
 -- ---- the rules one by one
@@ -167,3 +170,39 @@ timely_found moment old (Compacted id ∷ ids) h = by_test (nat_lt id.0 moment) 
 
 pub timely : (old new : Manifest) → tick_refusal old new ≡ None ↔ AreTimely old new
 timely old new = (found_timely (least_tick old) (flushed_tables old.core) (flushed_tables new.core), timely_found (least_tick old) (flushed_tables old.core) (flushed_tables new.core))
+
+-- ---- what the rules refuse with
+
+kept_cause : (rule : UpdateRule) (b : Bool) → IsOfRules (unless_kept rule b)
+kept_cause rule true = tt
+kept_cause rule false = refl
+
+early_cause : (moment : ℕ) (o : Option SsTableId) → IsOfRules (early_refusal moment o)
+early_cause moment None = tt
+early_cause moment (Some (Wal number)) = tt
+early_cause moment (Some (Compacted id)) = refl
+
+nested_cause : (s : Prefixed) (ss : List Prefixed) → IsOfRules (nested_after s ss)
+nested_cause s [] = tt
+nested_cause s (t ∷ ss) = by_test (begins_with s.prefix t.prefix) (nested_cause t ss)
+  where
+    by_test : (b : Bool) → IsOfRules (nested_after t ss) → IsOfRules (if b then Some (InvalidSegmentPrefix t.prefix s.prefix) else nested_after t ss)
+    by_test true rest = refl
+    by_test false rest = rest
+
+prefix_cause : (ss : List Prefixed) → IsOfRules (prefix_refusal ss)
+prefix_cause [] = tt
+prefix_cause (s ∷ ss) = nested_cause s ss
+
+one_cause : (o : Option SlateDBError) (os : List (Option SlateDBError)) → IsOfRules o → IsOfRules (first_refusal os) → IsOfRules (first_refusal (o ∷ os))
+one_cause None os h rest = rest
+one_cause (Some e) os h rest = h
+
+pub causes : (n : ℕ) (old new : Manifest) (right : Right) → IsOfRules (manifest_refusal n old new right)
+causes n old new right =
+    one_cause (unless_kept U1 (not (falls old new))) _ (kept_cause U1 (not (falls old new)))
+    (one_cause (unless_kept U2 (names_known n old new)) _ (kept_cause U2 (names_known n old new))
+    (one_cause (unless_kept U3 (entries_kept old new)) _ (kept_cause U3 (entries_kept old new))
+    (one_cause (tick_refusal old new) _ (early_cause (least_tick old) (find (is_early (least_tick old) (flushed_tables old.core)) (flushed_tables new.core)))
+    (one_cause (unless_kept U5 (runs_known old new right)) _ (kept_cause U5 (runs_known old new right))
+    (one_cause (prefix_refusal new.core.segments) [] (prefix_cause new.core.segments) tt)))))

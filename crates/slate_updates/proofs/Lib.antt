@@ -3,5 +3,5 @@ mod NamedVersions
 mod TableSets
 mod Nested
 pub mod Lawful
-mod PrefixesApart
+pub mod PrefixesApart
 pub mod Unchanged

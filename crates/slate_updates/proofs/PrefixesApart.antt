@@ -76,6 +76,11 @@ nested_none s (t ∷ ss) h = by_test (begins_with s.prefix t.prefix) refl (and_p
     by_test true is none rest = let begins : none_begins s.prefix (t ∷ ss) ≡ false = rw is refl in absurd (clash (none_begins s.prefix (t ∷ ss)) none begins)
     by_test false is none rest = rest
 
+-- where no prefix begins with another none is refused
+pub none_nested : (ss : List Prefixed) → are_apart ss ≡ true → prefix_refusal ss ≡ None
+none_nested [] h = refl
+none_nested (s ∷ ss) h = nested_none s ss h
+
 pub apart : (ss : List Prefixed) → IsAscending ss → prefix_refusal ss ≡ None ↔ are_apart ss ≡ true
 apart [] a = (λ h. refl, λ h. refl)
 apart (s ∷ ss) a = (apart_after s ss (and_parts (key_lt [] s.prefix) (ascend_from s.prefix ss) a).1, nested_none s ss)

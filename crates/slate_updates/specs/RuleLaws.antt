@@ -1,5 +1,7 @@
 -- What the rules on new versions of a manifest say, in words of what stands in the two versions.
-use Rattle.std.specs.Prelude.{◌≡◌, ◌⊎◌, ℕ, ◌+◌, ◌≤◌, true, false, List}
+use Rattle.std.specs.Prelude.{◌≡◌, ◌⊎◌, ℕ, ◌+◌, ◌≤◌, Bool, true, false, List, Option, Some, None}
+use Rattle.slate_ids.specs.declared.error.SlateDBError.{SlateDBError}
+use Rattle.slate_ids.specs.declared.error.SlateDBError.TheVariants.{UpdateRefused, InvalidClockTick, InvalidSegmentPrefix}
 use Rattle.slate_tables.specs.declared.ss_table_id.SsTableId.{SsTableId}
 use Rattle.slate_tables.specs.declared.ss_table_id.SsTableId.TheVariants.{Compacted}
 use Rattle.slate_model.specs.declared.manifest.Manifest.{Manifest}
@@ -25,3 +27,15 @@ StartAt moment old new = (id : ℕ × ℕ) → is_among new (Compacted id) ≡ t
 -- each flushed table that isn't one of the old manifest's is from its floor and its watermark on
 abbrev pub AreTimely : Manifest → Manifest → Type 0
 AreTimely old new = StartAt (least_tick old) (flushed_tables old.core) (flushed_tables new.core)
+
+-- whether a refusal is one of the rules
+abbrev pub is_of_rules : SlateDBError → Bool
+is_of_rules (UpdateRefused rule) = true
+is_of_rules (InvalidClockTick last next) = true
+is_of_rules (InvalidSegmentPrefix prefix conflict) = true
+is_of_rules _ = false
+
+-- there is no refusal, or it is one of the rules
+abbrev pub IsOfRules : Option SlateDBError → Type 0
+IsOfRules None = Unit {0}
+IsOfRules (Some e) = is_of_rules e ≡ true

@@ -8,7 +8,7 @@ ghost use Rattle.slate_model.specs.Trees.{trees_of};
 ghost use Rattle.slate_updates.specs.Entries.{entries_kept};
 ghost use Rattle.slate_updates.specs.FlushedTables.{tick_refusal};
 ghost use Rattle.slate_updates.specs.Prefixes.{prefix_refusal};
-ghost use Rattle.slate_updates.specs.RuleLaws.{NothingFalls, NamesKnown, AreTimely};
+ghost use Rattle.slate_updates.specs.RuleLaws.{NothingFalls, NamesKnown, AreTimely, IsOfRules};
 ghost use Rattle.slate_updates.specs.Rules.{manifest_refusal};
 ghost use Rattle.slate_updates.specs.RunTables.{runs_known};
 
@@ -19,6 +19,11 @@ pub fn lawful_updates_keep()
         → manifest_refusal n old new right ≡ None → NothingFalls old new }
     ensures names { (n : ℕ) (old new : AnyManifest) (right : AnyRight)
         → manifest_refusal n old new right ≡ None → NamesKnown n old new }
+{}
+
+/// The rules refuse with UpdateRefused, InvalidClockTick and InvalidSegmentPrefix, and with nothing else.
+pub fn rules_refuse_so()
+    ensures { (n : ℕ) (old new : AnyManifest) (right : AnyRight) → IsOfRules (manifest_refusal n old new right) }
 {}
 
 /// The cutoff lets a new manifest pass exactly where each of its flushed tables that the old one hasn't is from the old floor and the old

@@ -21,7 +21,9 @@ pub use checkpoints::{
 pub use epochs::{WriterEpochs, raise_writer};
 pub use flushed_tables::l0_ulid_cutoff;
 pub use flushing::flush;
-pub use laws::{cutoff_is_timely, lawful_updates_keep, neighbours_tell, unchanged_trees_pass};
+pub use laws::{
+    cutoff_is_timely, lawful_updates_keep, neighbours_tell, rules_refuse_so, unchanged_trees_pass,
+};
 pub use lookups::{find_checkpoint, is_named};
 pub use manifest_change::{ManifestChange, floors_rise};
 pub use named::named_versions;
