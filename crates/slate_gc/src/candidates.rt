@@ -11,6 +11,7 @@ use slate_ids::{Listed, Millis, OutOfMemory};
 use slate_log::LogKind;
 use slate_model::Checkpoint;
 use slate_store::ObjectMetadata;
+use slate_updates::named_versions;
 use std::alloc::Global;
 use std::collections::BTreeSet;
 
@@ -38,17 +39,6 @@ pub fn aged(
         }
     }
     Ok(listed)
-}
-
-// The versions that checkpoints name.
-fn named_versions(alloc: Global, checkpoints: &[Checkpoint]) -> Result<BTreeSet<u64>, OutOfMemory>
-    ensures { IfOk result (λ named. IsSetOf named checkpoints.now) }
-{
-    let mut named = BTreeSet::new(alloc);
-    for checkpoint in checkpoints {
-        named.insert(checkpoint.manifest_id)?;
-    }
-    Ok(named)
 }
 
 // Whether an object is a version below the greatest that isn't named.
