@@ -1,4 +1,4 @@
-mod Ascents
+pub mod Ascents
 mod Fronts
 mod WriterTurns
 mod CompactorTurns
