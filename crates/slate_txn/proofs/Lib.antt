@@ -1,3 +1,5 @@
+mod Starts
+mod Creates
 mod Updates
 mod Standing
 mod Loads
