@@ -11,3 +11,5 @@ mod Refreshes
 mod FencedRefreshes
 mod FencedUpdates
 mod FencedApplies
+mod PutValues
+mod SetEpochs

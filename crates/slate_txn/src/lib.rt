@@ -22,7 +22,7 @@ pub use fenced_refresh::FencedRefreshMachine;
 pub use fenced_update::FencedUpdateMachine;
 pub use init::InitMachine;
 pub use load::{LoadMachine, TryLoadMachine};
-pub use raise::prepare_raise;
+pub use raise::{prepare_epoch, prepare_raise};
 pub use refresh::RefreshMachine;
 pub use slate_ids::Epochs;
 pub use slate_log::{LogKind, Right, Rules, Sequenced};
