@@ -1,21 +1,29 @@
 -- Laws of an apply by a function that may answer differently each time.
 use Rattle.std.proofs.Common.{◌≡◌, ◌≢◌, ◌⊎◌, ℤ, ℕ, Bool, true, false, List, [], ◌∷◌, Option, Some, None, Result, Ok, Err, inl, inr, ap, sym, subst, ◌∙◌, refl}
+use Rattle.std.specs.Prelude.{nat_lt, if◌then◌else◌}
 use denote.Ref.{Bor}
 use Rattle.slate_ids.specs.Answers.{Gives, OrMemory, OrMemory-map, ran_out, is_memory}
 use Rattle.slate_ids.specs.declared.error.SlateDBError.{SlateDBError}
+use Rattle.slate_ids.specs.declared.error.SlateDBError.TheVariants.{Fenced}
 use Rattle.slate_store.specs.Calls.{Told}
 use Rattle.slate_store.specs.Machines.{Goes, Stay, End}
 use Rattle.slate_store.specs.declared.store_answer.StoreAnswer.{StoreAnswer}
 use Rattle.slate_log.specs.Change.{wanted}
 use Rattle.slate_log.specs.CommitPhase.{commit_goes, prepared}
+use Rattle.slate_log.specs.Fence.{fence}
 use Rattle.slate_log.specs.ReadPhase.{read_goes, Reply}
 use Rattle.slate_log.specs.declared.commit_phase.CommitPhase.{CommitPhase}
 use Rattle.slate_log.specs.declared.right.Right.{Right}
 use Rattle.slate_txn.proofs.Moves.{ran_of, began_of, ran_more, began_more}
 use Rattle.slate_txn.specs.Apply.{Ways, ApplyState, ApplyGoes, Applies, Begins, ApplyStopped, apply_goes, ways_of, renews, read_on, begun}
-use Rattle.slate_txn.specs.ApplyMoves.{RenewedBy, MayWays, ways_by, RenewsBy, ReadMoves, ApplyMoves, AppliedBy, ApplyBeganBy, BeginsBy, BegunBy, ApplyStoppedBy, AppliesBy}
-use Rattle.slate_txn.specs.Changing.{ComputesWith, MayWith}
+use Rattle.slate_txn.specs.ApplyMoves.{RenewedBy, MayWays, ways_by, RenewsBy, ReadMoves, ApplyMoves, AppliedBy, ApplyBeganBy, BeginsBy, BegunBy, ApplyStoppedBy, AppliesBy, MaybeBy}
+use Rattle.slate_txn.specs.Changing.{ComputesWith, May, MayWith}
+use Rattle.slate_txn.specs.FencedApplying.{UnlessMay, FencedMay}
+use Rattle.slate_txn.specs.FencedHolder.{FencedHolder}
 use Rattle.slate_txn.specs.Holder.{Holder, at_version}
+use Rattle.slate_txn.specs.Updating.{maybe_of}
+use Rattle.slate_txn.specs.declared.update.UpdateMachine.{UpdateMachine}
+use Rattle.slate_txn.specs.declared.update.UpdateMachine.TheVariants.{Refused}
 use Rattle.slate_txn.specs.declared.apply.ApplyPhase.{ApplyPhase}
 use Rattle.slate_txn.specs.declared.apply.ApplyPhase.TheVariants.{Reading, Committing}
 
@@ -158,3 +166,53 @@ pub nothing_applies : {T C R : Type 0} (ways : MayWays T C R) (moment : ℤ) (tr
 nothing_applies ways moment tries told found holder is (inl out) = absurd (let both : false ≡ true = out in cc)
 nothing_applies ways moment tries told found holder is (inr renewed) =
     inl (Ok None, subst (λ (o : Option (CommitPhase _)). RenewsBy ways holder holder.id holder.object (Ok o)) is renewed, (refl, refl, refl))
+
+-- a wrapped function answers what the function may answer
+pub wraps : {C T : Type 0} (answers : Bor C → ℕ → Bor T → Result (Option T) SlateDBError → Type 0) (inner : ℕ → Bor T → Result (Option T) SlateDBError → Type 0)
+    → ((codec : Bor C) (id : ℕ) (shown : Bor T) (reply : Result (Option T) SlateDBError) → answers codec id shown reply → inner id shown reply) → Within (MayWith answers) (May inner)
+wraps answers inner says id value reply may = record { shown = may.shown; shows = may.shows; says = says may.codec id may.shown reply may.says }
+
+unless_may : {T : Type 0} (inner : ℕ → Bor T → Result (Option T) SlateDBError → Type 0) (e : Option SlateDBError) (id : ℕ) (shown : Bor T) (value : T) (reply : Result (Option T) SlateDBError)
+    → shown.now ≡ value → UnlessMay e (inner id shown) reply → UnlessMay e (May inner id value) reply
+unless_may inner (Some e) id shown value reply shows says = says
+unless_may inner None id shown value reply shows says = record { shown = shown; shows = shows; says = says }
+
+-- one that asks a fence before answers the fence, or what the function may answer
+pub wraps_fenced : {C T E : Type 0} (answers : Bor C → ℕ → Bor T → Result (Option T) SlateDBError → Type 0) (epoch : E → T → ℕ) (epochs : E) (own : ℕ) (inner : ℕ → Bor T → Result (Option T) SlateDBError → Type 0)
+    → ((codec : Bor C) (id : ℕ) (shown : Bor T) (reply : Result (Option T) SlateDBError) → answers codec id shown reply → UnlessMay (fence own (epoch epochs shown.now)) (inner id shown) reply) → Within (MayWith answers) (FencedMay epoch epochs own (May inner))
+wraps_fenced answers epoch epochs own inner says id value reply may =
+    let here = unless_may inner (fence own (epoch epochs may.shown.now)) id may.shown value reply may.shows (says may.codec id may.shown reply may.says) in
+    subst (λ v. UnlessMay (fence own (epoch epochs v)) (May inner id value) reply) may.shows here
+
+-- the machine of a commit that was made
+maybe_made : {T : Type 0} {may : ℕ → T → Result (Option T) SlateDBError → Type 0} (more : ℕ → T → Result (Option T) SlateDBError → Type 0) {refusal : ℕ → T → T → Right → Option SlateDBError} {encoded : T → Result (List ℕ) SlateDBError} {right : Right} {id : ℕ} {value : T} (start : Result (Option (CommitPhase T)) SlateDBError) (machine : UpdateMachine T)
+    → Within may more → ran_out start ≡ false → machine ≡ maybe_of start → (ran_out start ≡ true) ⊎ RenewedBy may refusal encoded right id value start → MaybeBy more refusal encoded right id value machine
+maybe_made more start machine by enough same (inl out) = absurd (let both : false ≡ true = sym enough ∙ out in cc)
+maybe_made more start machine by enough same (inr renewed) = (start, renewed_more more by renewed, same)
+
+-- and that of the fence, where it refuses
+unless_fenced : {T E : Type 0} (epoch : E → T → ℕ) (epochs : E) (own : ℕ) (may : ℕ → T → Result (Option T) SlateDBError → Type 0) (id : ℕ) (value : T) (e : SlateDBError) (f : Option SlateDBError) → f ≡ Some e → UnlessMay f (may id value) (Err e)
+unless_fenced epoch epochs own may id value e f same = subst (λ (o : Option SlateDBError). UnlessMay o (may id value) (Err e)) (sym same) refl
+
+no_memory : (b : Bool) (own read : ℕ) (e : SlateDBError) → (if b then Some (Fenced own read) else None) ≡ Some e → is_memory e ≡ false
+no_memory true own read e same = let is : Fenced own read ≡ e = cc in ap is_memory (sym is)
+no_memory false own read e same = absurd cc
+
+pub maybe_fenced : {T E : Type 0} (epoch : E → T → ℕ) (epochs : E) (own : ℕ) (may : ℕ → T → Result (Option T) SlateDBError → Type 0) (refusal : ℕ → T → T → Right → Option SlateDBError) (encoded : T → Result (List ℕ) SlateDBError) (right : Right) (id : ℕ) (value : T) (e : SlateDBError) (machine : UpdateMachine T)
+    → fence own (epoch epochs value) ≡ Some e → machine ≡ Refused e → MaybeBy (FencedMay epoch epochs own may) refusal encoded right id value machine
+maybe_fenced epoch epochs own may refusal encoded right id value e machine same is =
+    (Err e, record { reply = Err e; given = unless_fenced epoch epochs own may id value e (fence own (epoch epochs value)) same; enough = no_memory (nat_lt own (epoch epochs value)) own (epoch epochs value) e same; commits = refl }, is)
+
+-- the machine of a commit by a wrapped function
+pub maybe_wrapped : {C T : Type 0} (answers : Bor C → ℕ → Bor T → Result (Option T) SlateDBError → Type 0) (inner : ℕ → Bor T → Result (Option T) SlateDBError → Type 0) (refusal : ℕ → T → T → Right → Option SlateDBError) (encoded : T → Result (List ℕ) SlateDBError) (right : Right) (id : ℕ) (value : T) (start : Result (Option (CommitPhase T)) SlateDBError) (machine : UpdateMachine T)
+    → ((codec : Bor C) (id : ℕ) (shown : Bor T) (reply : Result (Option T) SlateDBError) → answers codec id shown reply → inner id shown reply)
+    → ran_out start ≡ false → machine ≡ maybe_of start → (ran_out start ≡ true) ⊎ RenewedBy (MayWith answers) refusal encoded right id value start → MaybeBy (May inner) refusal encoded right id value machine
+maybe_wrapped answers inner refusal encoded right id value start machine says enough same either = maybe_made (May inner) start machine (wraps answers inner says) enough same either
+
+-- what is said of what is within a fenced holder is said of it
+pub fenced_applies : {T C R E : Type 0} (decoded : C → List ℕ → Result T SlateDBError) (encoded : C → T → Result (List ℕ) SlateDBError) (refusal : R → ℕ → T → T → Right → Option SlateDBError) (epoch : E → T → ℕ) (right : Right) (may : ℕ → T → Result (Option T) SlateDBError → Type 0)
+    (inside fenced : FencedHolder T C R E) (moment : ℤ) (tries : ℕ) (old new : Told) (to : Holder T C R) (result : Result (Unit {0}) SlateDBError) → inside ≡ fenced
+    → AppliesBy (ways_by decoded encoded refusal (FencedMay epoch inside.epochs inside.epoch may) right) moment tries old new inside.holder to result
+    → AppliesBy (ways_by decoded encoded refusal (FencedMay epoch fenced.epochs fenced.epoch may) right) moment tries old new fenced.holder to result
+fenced_applies decoded encoded refusal epoch right may inside fenced moment tries old new to result same applies =
+    subst (λ (f : FencedHolder _ _ _ _). AppliesBy (ways_by decoded encoded refusal (FencedMay epoch f.epochs f.epoch may) right) moment tries old new f.holder to result) same applies

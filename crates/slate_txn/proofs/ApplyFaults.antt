@@ -108,10 +108,3 @@ by_phase ways free (Committing commit) holder answer due kind =
 -- an apply ends in a fault only where the store faults
 pub apply_faults : {T C R : Type 0} (ways : Ways T C R) → FaultFree ways → OnlyFaults state_due apply_asks (apply_goes ways)
 apply_faults ways free = record { sound = λ state answer. by_phase ways free state.0 state.1 answer }
-
--- a refusal before any call is no fault
-pub refused_rose : {T C R X : Type 0} (ways : Ways T C R) (holder : Holder T C R) (id : ℕ) (value : T) (e : SlateDBError) (old new : Told) → Gives (Err e) (renews ways holder id value) → FaultFree ways → FaultOf {R = X} old new (Err e)
-refused_rose ways holder id value e old new (inl same) free = λ fault.
-    let is : e ≡ StoreFault = cc in absurd (free.renewal holder id value (same ∙ ap (λ (k : SlateDBError). Err k) is))
-refused_rose ways holder id value e old new (inr out) free = λ fault.
-    let is : e ≡ StoreFault = cc in let no_memory : is_memory e ≡ false = ap is_memory is in absurd (let both : false ≡ true = sym no_memory ∙ out in cc)

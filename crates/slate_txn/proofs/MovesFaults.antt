@@ -23,8 +23,11 @@ use Rattle.slate_log.specs.declared.read_phase.ReadPhase.TheVariants.{Listing, G
 use Rattle.slate_txn.proofs.ApplyFaults.{Due, due_wanted, fine_begun, sound_commit}
 use Rattle.slate_txn.proofs.ApplyRuns.{putting_due}
 use Rattle.slate_txn.specs.Apply.{Ways, FaultFree, ApplyState, ApplyGoes, apply_asks, state_due, ways_of, renews}
-use Rattle.slate_txn.proofs.AppliesBy.{ByMade, renews_made}
-use Rattle.slate_txn.specs.ApplyMoves.{MayWays, RenewsBy, ReadMoves, ApplyMoves, AppliedBy, NeverFaults}
+use Rattle.slate_txn.proofs.AppliesBy.{ByMade, Within, renewed_more, renews_made, with_may}
+use Rattle.slate_log.specs.declared.right.Right.{Right}
+use Rattle.slate_txn.specs.FencedApplying.{FencedMay}
+use Rattle.slate_txn.specs.FencedHolder.{FencedHolder}
+use Rattle.slate_txn.specs.ApplyMoves.{ways_by, MayWays, RenewsBy, ReadMoves, ApplyMoves, AppliedBy, NeverFaults}
 use Rattle.slate_txn.specs.Holder.{Holder, at_version}
 use Rattle.slate_txn.specs.Moves.{Move, RunBy, RanBy}
 use Rattle.slate_txn.specs.declared.apply.ApplyPhase.{ApplyPhase}
@@ -129,3 +132,13 @@ never_made ways made by free = record {
   decodes = free.decodes;
   renewal = λ holder id value start renewed same. free.renewal holder id value (renews_made ways made by holder id value start renewed ∙ same);
 }
+
+-- where more answers are never a fault, nor are these
+pub never_less : {T C R : Type 0} (ways : MayWays T C R) (more : ℕ → T → Result (Option T) SlateDBError → Type 0) → Within ways.may more → NeverFaults (with_may ways more) → NeverFaults ways
+never_less ways more by free = record { decodes = free.decodes; renewal = λ holder id value start renewed. free.renewal holder id value start (renewed_more more by renewed) }
+
+-- what is said of a fenced holder is said of what is within it
+pub fenced_never : {T C R E : Type 0} (decoded : C → List ℕ → Result T SlateDBError) (encoded : C → T → Result (List ℕ) SlateDBError) (refusal : R → ℕ → T → T → Right → Option SlateDBError) (epoch : E → T → ℕ) (right : Right) (may : ℕ → T → Result (Option T) SlateDBError → Type 0) (inside fenced : FencedHolder T C R E)
+    → inside ≡ fenced → NeverFaults (ways_by decoded encoded refusal (FencedMay epoch fenced.epochs fenced.epoch may) right) → NeverFaults (ways_by decoded encoded refusal (FencedMay epoch inside.epochs inside.epoch may) right)
+fenced_never decoded encoded refusal epoch right may inside fenced same free =
+    subst (λ (f : FencedHolder _ _ _ _). NeverFaults (ways_by decoded encoded refusal (FencedMay epoch f.epochs f.epoch may) right)) (sym same) free

@@ -16,8 +16,10 @@ use Rattle.slate_log.specs.declared.right.Right.{Right}
 use Rattle.slate_txn.specs.Apply.{ApplyState, ApplyGoes, apply_asks, apply_starts, begun, commit_on}
 use Rattle.slate_txn.specs.Holder.{Holder, at_version}
 use Rattle.slate_txn.specs.Moves.{RanBy, BeganBy}
+use Rattle.slate_txn.specs.Updating.{maybe_of}
 use Rattle.slate_txn.specs.declared.apply.ApplyPhase.{ApplyPhase}
 use Rattle.slate_txn.specs.declared.apply.ApplyPhase.TheVariants.{Reading, Committing}
+use Rattle.slate_txn.specs.declared.update.UpdateMachine.{UpdateMachine}
 
 -- a function gave an answer that it may give of this version, and this is the commit of it: none where it made nothing, and its refusal where it refused
 pub record RenewedBy {T : Type 0} (may : ℕ → T → Result (Option T) SlateDBError → Type 0) (refusal : ℕ → T → T → Right → Option SlateDBError) (encoded : T → Result (List ℕ) SlateDBError) (right : Right) (id : ℕ) (value : T) (start : Result (Option (CommitPhase T)) SlateDBError) : Type 0 where
@@ -89,3 +91,7 @@ AppliesBy ways moment tries old new from to result = OrMemory result (ApplyStopp
 pub record NeverFaults {T C R : Type 0} (ways : MayWays T C R) : Type 0 where
   pub decodes : (codec : C) → NoFault (ways.decoded codec)
   pub renewal : (holder : Holder T C R) (id : ℕ) (value : T) (start : Result (Option (CommitPhase T)) SlateDBError) → RenewsBy ways holder id value start → start ≢ Err StoreFault
+
+-- the machine of a commit of what the function may answer of this version
+abbrev pub MaybeBy : {T : Type 0} → (ℕ → T → Result (Option T) SlateDBError → Type 0) → (ℕ → T → T → Right → Option SlateDBError) → (T → Result (List ℕ) SlateDBError) → Right → ℕ → T → UpdateMachine T → Type 0
+MaybeBy may refusal encoded right id value machine = (start : Result (Option (CommitPhase _)) SlateDBError) × RenewedBy may refusal encoded right id value start × (machine ≡ maybe_of start)
