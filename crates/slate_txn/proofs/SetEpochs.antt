@@ -14,7 +14,7 @@ use Rattle.slate_log.specs.declared.right.Right.{Right}
 use Rattle.slate_txn.proofs.AppliesBy.{applies_more, computes_fenced}
 use Rattle.slate_txn.proofs.FencedApplies.{applies_fence, unfenced_made}
 use Rattle.slate_txn.proofs.PutValues.{PutsFirst, AlwaysPuts, HoldsSuch, applies_puts}
-use Rattle.slate_txn.specs.Apply.{Ways, ways_of}
+use Rattle.slate_txn.specs.Apply.{ways_of}
 use Rattle.slate_txn.specs.ApplyMoves.{ways_by, AppliesBy}
 use Rattle.slate_txn.specs.Changing.{ComputesWith, MayWith}
 use Rattle.slate_txn.specs.FencedApplying.{FenceFree, fenced_made}
