@@ -1,0 +1,4 @@
+mod Turns
+mod Entries
+mod Tops
+mod LatestReads
