@@ -2,3 +2,5 @@ mod Turns
 mod Entries
 mod Tops
 mod LatestReads
+mod Places
+mod CommitWalks

@@ -1,5 +1,5 @@
 -- A run over a store that serves it, call by call.
-use Rattle.std.proofs.Common.{◌≡◌, ℕ, ◌+◌, ◌<◌, ◌≤◌, ◌⊎◌, inl, inr, ℤ, min, Bool, true, List, [], ◌∷◌, Option, Some, Result, Err, refl, sym, ap, ◌∙◌, subst, arith}
+use Rattle.std.proofs.Common.{◌≡◌, ℕ, ◌+◌, ◌<◌, ◌≤◌, ◌⊎◌, inl, inr, ℤ, min, Bool, true, false, if◌then◌else◌, List, [], ◌∷◌, Option, Some, Result, Err, refl, sym, ap, ◌∙◌, subst, arith}
 use Rattle.slate_ids.specs.Limits.{last_number, next_count}
 use Rattle.slate_ids.specs.declared.error.SlateDBError.{SlateDBError}
 use Rattle.slate_ids.specs.declared.error.SlateDBError.TheVariants.{Contended}
@@ -122,3 +122,29 @@ module _ {P R : Type 0} (is_start : P → Bool) (asks : P → StoreCall) (goes :
   -- a plain call before its first call
   pub before : (tries : ℕ) (s : Store) (old new : Told) (start to : P) (result : Result R SlateDBError) → Ran is_start asks goes moment tries old new start to result → old.contents ≡ Some s → (Rose old.faults new.faults → ⊥) → Rest tries s (Stay start) new to result
   before tries s old new start to result ran told calm = record { old = old; contents = told; calm = calm; made = ran.made; out = ran.out; run = ran.run; ends = ran.ends }
+
+-- a machine within another: its phases are phases of that, which asks what it asks and goes on by how it goes on
+pub record Within {P R Q S : Type 0} (first : P → Bool) (asks : P → StoreCall) (goes : P → StoreAnswer → Goes P R) (starts : Q → Bool) (all_asks : Q → StoreCall) (all_goes : Q → StoreAnswer → Goes Q S) (enter : P → Q) (on : Goes P R → Goes Q S) : Type 0 where
+  pub same_call : (p : P) → all_asks (enter p) ≡ asks p
+  pub goes_by : (p : P) (a : StoreAnswer) → all_goes (enter p) a ≡ on (goes p a)
+  pub stays : (p : P) → on (Stay p) ≡ Stay (enter p)
+  pub same_start : (p : P) → starts (enter p) ≡ first p
+
+module _ {P R Q S : Type 0} (first : P → Bool) (asks : P → StoreCall) (goes : P → StoreAnswer → Goes P R) (starts : Q → Bool) (all_asks : Q → StoreCall) (all_goes : Q → StoreAnswer → Goes Q S) (enter : P → Q) (on : Goes P R → Goes Q S) (within : Within first asks goes starts all_asks all_goes enter on) (moment : ℤ) where
+  -- a step of the machine within
+  pub step_in : (left rest : ℕ) (s : Store) (p : P) (g : Goes P R) (new : Told) (to : Q) (result : Result S SlateDBError) → Rest starts all_asks all_goes moment left s (Stay (enter p)) new to result → goes p (answer_at first asks goes moment p s) ≡ g → 0 < left → rest + one_if starts (on g) ≡ left
+      → Rest starts all_asks all_goes moment rest (store_at first asks goes moment p s) (on g) new to result
+  step_in left rest s p g new to result from leads some used =
+      let call = within.same_call p in
+      let gives : all_goes (enter p) (answer_at starts all_asks all_goes moment (enter p) s) ≡ on g =
+      within.goes_by p (answer_at starts all_asks all_goes moment (enter p) s) ∙ (ap (λ (c : StoreCall). on (goes p (whole c (moment_of c moment) s).answer)) call ∙ ap on leads) in
+      subst (λ (c : StoreCall). Rest starts all_asks all_goes moment rest (whole c (moment_of c moment) s).store (on g) new to result) call
+      (step starts all_asks all_goes moment left rest s (enter p) (on g) new to result from gives some used)
+
+  -- to another phase of it, which is no start
+  pub stay_in : (left : ℕ) (s : Store) (p q : P) (new : Told) (to : Q) (result : Result S SlateDBError) → Rest starts all_asks all_goes moment left s (Stay (enter p)) new to result → goes p (answer_at first asks goes moment p s) ≡ Stay q → 0 < left → first q ≡ false
+      → Rest starts all_asks all_goes moment left (store_at first asks goes moment p s) (Stay (enter q)) new to result
+  stay_in left s p q new to result from leads some calm =
+      let count : one_if starts (on (Stay q)) ≡ 0 = ap (one_if starts) (within.stays q) ∙ ap (λ (b : Bool). if b then 1 else 0) (within.same_start q ∙ calm) in
+      subst (λ (g : Goes Q S). Rest starts all_asks all_goes moment left (store_at first asks goes moment p s) g new to result) (within.stays q)
+      (step_in left left s p (Stay q) new to result from leads some (omega (arith, count)))

@@ -1,3 +1,5 @@
 pub mod Serving
 pub mod Ready
 pub mod Reading
+pub mod Committing
+pub mod Changing

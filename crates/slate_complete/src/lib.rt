@@ -2,6 +2,8 @@
 //! code of the product. Each law is what a function without work ensures.
 #![tactic(auto)]
 
+mod commits;
 mod reads;
 
+pub use commits::commit_ends;
 pub use reads::read_ends;
