@@ -4,3 +4,5 @@ mod Tops
 mod LatestReads
 mod Places
 mod CommitWalks
+mod Renewals
+mod ApplyWalks

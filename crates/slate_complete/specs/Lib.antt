@@ -3,3 +3,4 @@ pub mod Ready
 pub mod Reading
 pub mod Committing
 pub mod Changing
+pub mod Applying

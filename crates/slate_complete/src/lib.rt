@@ -2,8 +2,10 @@
 //! code of the product. Each law is what a function without work ensures.
 #![tactic(auto)]
 
+mod applies;
 mod commits;
 mod reads;
 
+pub use applies::apply_ends;
 pub use commits::commit_ends;
 pub use reads::read_ends;
