@@ -6,3 +6,5 @@ mod Places
 mod CommitWalks
 mod Renewals
 mod ApplyWalks
+mod UpdateWalks
+mod BoundaryWalks

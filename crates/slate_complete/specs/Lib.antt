@@ -4,3 +4,6 @@ pub mod Reading
 pub mod Committing
 pub mod Changing
 pub mod Applying
+pub mod Advancing
+pub mod Deleting
+pub mod Updating

@@ -2,10 +2,16 @@
 //! code of the product. Each law is what a function without work ensures.
 #![tactic(auto)]
 
+mod advances;
 mod applies;
 mod commits;
+mod deletes;
 mod reads;
+mod updates;
 
+pub use advances::advance_ends;
 pub use applies::apply_ends;
 pub use commits::commit_ends;
+pub use deletes::delete_ends;
 pub use reads::read_ends;
+pub use updates::update_ends;
