@@ -8,3 +8,5 @@ mod Renewals
 mod ApplyWalks
 mod UpdateWalks
 mod BoundaryWalks
+mod HolderReads
+mod Inside

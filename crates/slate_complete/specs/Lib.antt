@@ -7,3 +7,4 @@ pub mod Applying
 pub mod Advancing
 pub mod Deleting
 pub mod Updating
+pub mod Outside

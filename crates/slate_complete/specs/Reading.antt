@@ -14,3 +14,7 @@ pub data ReadAnswers {T : Type 0} (decoded : List ℕ → Result T SlateDBError)
   Latest : (n : ℕ) (bytes : List ℕ) (value : T) → IsLatest db log s n bytes → decoded bytes ≡ Ok value → result ≡ Ok (Some (n, value)) → ReadAnswers decoded db log s result
   Undecoded : (n : ℕ) (bytes : List ℕ) (e : SlateDBError) → IsLatest db log s n bytes → decoded bytes ≡ Err e → result ≡ Err e → ReadAnswers decoded db log s result
   NoBoundary : boundary_at db log s ≡ None → result ≡ Err (Corrupt BoundaryFormat) → ReadAnswers decoded db log s result
+
+-- what is answered by the read
+abbrev pub AnswersBy : {T X : Type 0} → (List ℕ → Result T SlateDBError) → List ℕ → LogKind → Store → (Result (Option (ℕ × T)) SlateDBError → Result X SlateDBError) → Result X SlateDBError → Type 0
+AnswersBy decoded db log s answer result = (reply : Result (Option (ℕ × _)) SlateDBError) × ReadAnswers decoded db log s reply × (answer reply ≡ result)

@@ -8,17 +8,24 @@ ghost use Rattle.slate_store.specs.Store.{Store};
 ghost use Rattle.slate_txn.specs.Apply.{Ways, Applies};
 ghost use Rattle.slate_txn.specs.Holder.{Holder};
 ghost use Rattle.slate_complete.specs.Applying.{ApplyAnswers};
+ghost use Rattle.slate_complete.specs.Outside.{NotOutside, WaysInside};
 ghost use Rattle.slate_complete.specs.Ready.{IsReady};
 ghost use Rattle.slate_complete.specs.Serving.{Serves};
 
 /// Over a store that serves it, with two tries or more, a change of the version held or of the latest one is committed to a log that is
 /// ready, or it makes nothing; else the change, the rules, the codec or the last number refuse it, or the boundary is not a number, or
-/// memory ran out.
+/// memory ran out. Unless codec, rules or change do, it never answers a fault, a taken number, or that its tries are used up.
 pub fn apply_ends<T, C, R>()
-    ensures { (ways : Ways T C R) (moment : ℤ) (tries : ℕ) (old new : Told) (s : Store) (from to : Holder T C R)
+    ensures answers { (ways : Ways T C R) (moment : ℤ) (tries : ℕ) (old new : Told) (s : Store) (from to : Holder T C R)
         (result : Result (Unit {0}) Refusal)
         → Applies ways moment tries old new from to result
         → 1 < tries → is_db_path from.sequenced.db ≡ true → from.id < 2 ^ 64
         → Serves old new s → IsReady from.sequenced.db from.sequenced.log s
         → ApplyAnswers ways s new from to result ⊎ (ran_out result ≡ true) }
+    ensures inside { (ways : Ways T C R) (moment : ℤ) (tries : ℕ) (old new : Told) (s : Store) (from to : Holder T C R)
+        (result : Result (Unit {0}) Refusal)
+        → Applies ways moment tries old new from to result
+        → 1 < tries → is_db_path from.sequenced.db ≡ true → from.id < 2 ^ 64
+        → Serves old new s → IsReady from.sequenced.db from.sequenced.log s
+        → WaysInside ways → NotOutside result }
 {}

@@ -6,6 +6,8 @@ mod advances;
 mod applies;
 mod commits;
 mod deletes;
+mod fences;
+mod holder_reads;
 mod reads;
 mod updates;
 
@@ -13,5 +15,7 @@ pub use advances::advance_ends;
 pub use applies::apply_ends;
 pub use commits::commit_ends;
 pub use deletes::delete_ends;
+pub use fences::fence_ends;
+pub use holder_reads::{load_ends, refresh_ends};
 pub use reads::read_ends;
 pub use updates::update_ends;

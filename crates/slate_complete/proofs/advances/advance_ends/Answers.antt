@@ -1,5 +1,9 @@
 use Rattle.slate_complete.proofs.BoundaryWalks.{advance_ends}
+use Rattle.slate_complete.proofs.Inside.{advance_inside}
 use Rattle.slate_complete.proofs.advances.advance_ends.Goals as goal
 
 pub returns : goal.returns
-returns g c = advance_ends
+returns g c = record {
+  answers = advance_ends;
+  inside = λ sequenced n moment tries old new s result ran some small serves. advance_inside sequenced.db sequenced.log s new n result (advance_ends sequenced n moment tries old new s result ran some small serves);
+}

@@ -1,5 +1,10 @@
+use Rattle.slate_complete.proofs.Inside.{read_inside}
 use Rattle.slate_complete.proofs.LatestReads.{read_ends}
 use Rattle.slate_complete.proofs.reads.read_ends.Goals as goal
 
 pub returns : goal.returns
-returns g c = read_ends
+returns g c = record {
+  answers = λ decoded sequenced tries old new s result read some serves ready. (read_ends decoded sequenced tries old new s result read some serves ready).0;
+  contents = λ decoded sequenced tries old new s result read some serves ready. (read_ends decoded sequenced tries old new s result read some serves ready).1;
+  inside = λ decoded sequenced tries old new s result read some serves ready inside. read_inside (decoded sequenced.codec) sequenced.db sequenced.log s result inside (read_ends decoded sequenced tries old new s result read some serves ready).0;
+}
