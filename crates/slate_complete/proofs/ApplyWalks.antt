@@ -30,8 +30,8 @@ use Rattle.slate_complete.specs.Changing.{IsChange}
 use Rattle.slate_complete.specs.Committing.{IsOver, Stands}
 use Rattle.slate_complete.specs.Reading.{ReadAnswers}
 use Rattle.slate_complete.specs.Reading.ReadAnswers.{NoVersion, Latest, Undecoded, NoBoundary}
-use Rattle.slate_complete.specs.Ready.{top_of, IsReady, IsLatest, version_at}
-use Rattle.slate_complete.specs.Serving.{Serves, AreFine}
+use Rattle.slate_complete.specs.Ready.{top_of, IsReady, LeavesReady, IsLatest, version_at}
+use Rattle.slate_complete.specs.Serving.{Serves}
 use Rattle.slate_complete.proofs.CommitWalks.{CommitEnds, CommitWalk, putting}
 use Rattle.slate_complete.proofs.CommitWalks.CommitEnds.{Done, Late, Bad}
 use Rattle.slate_complete.proofs.LatestReads.{Walk, listing}
@@ -60,8 +60,6 @@ module _ (db : List ℕ) (log : LogKind) (s t : Store) (top : ℕ) (kept : Kept 
     read = stands.read;
     above = stands.above;
     latest = λ h. stands.latest (inr (subst (IsOver n) (sym kept.latest) lt));
-    ready = stands.ready;
-    fine = stands.fine;
   }
 
 module _ {T C R : Type 0} (ways : Ways T C R) where
@@ -82,7 +80,7 @@ module _ {T C R : Type 0} (ways : Ways T C R) where
     log = from.sequenced.log
 
     abbrev Answers : Type 0
-    Answers = ApplyAnswers ways s new from to result
+    Answers = ApplyAnswers ways s new from to result × LeavesReady db log new
 
     -- the end of the run
     record Ends (t : Store) (held : Holder T C R) (reply : Result (Unit {0}) SlateDBError) : Type 0 where
@@ -95,6 +93,9 @@ module _ {T C R : Type 0} (ways : Ways T C R) where
         let e = ended apply_starts apply_asks (apply_goes ways) moment left t (p, held) reply new (phase, to) result rest in
         record { held_then = ap (λ (st : ApplyState T C R). st.1) e.phase; replied = e.answer; contents = e.contents }
 
+    leaves : (t : Store) → IsReady db log t → new.contents ≡ Some t → LeavesReady db log new
+    leaves t ready contents = record { left = t; contents = contents; ready = ready }
+
     -- the machine goes on to where the answer within leads
     arrive : (left rest : ℕ) (t : Store) (g to_g : ApplyGoes T C R) → g ≡ to_g → ((rest : ℕ) → rest + one_if apply_starts g ≡ left → Left moment rest t g new (phase, to) result) → rest + one_if apply_starts to_g ≡ left → Left moment rest t to_g new (phase, to) result
     arrive left rest t g to_g e go used = subst (λ (g : ApplyGoes T C R). (rest : ℕ) → rest + one_if apply_starts g ≡ left → Left moment rest t g new (phase, to) result) e go rest used
@@ -103,23 +104,23 @@ module _ {T C R : Type 0} (ways : Ways T C R) where
 
     module _ (t : Store) (top : ℕ) (kept : Kept db log s t top) (at : top_of db log s ≡ Some top) (left : ℕ) (some : 0 < left) where
       module _ (value wanted : T) (bytes : List ℕ) (seen : IsSeen ways from s top value) (change : IsChange ways from top value wanted bytes) where
-        again_done : (u : Store) (reply : Result (ℕ × T) SlateDBError) → CommitEnds db log t u (top + 1) bytes wanted reply
+        again_done : (u : Store) → IsReady db log u → (reply : Result (ℕ × T) SlateDBError) → CommitEnds db log t u (top + 1) bytes wanted reply
             → ((rest : ℕ) → rest + one_if apply_starts (commit_on (at_version from top value) (End commit_over reply)) ≡ left → Left moment rest u (commit_on (at_version from top value) (End commit_over reply)) new (phase, to) result) → Answers
-        again_done u reply (Done stands is) go =
+        again_done u ready reply (Done stands is) go =
             let e = ends left u (Committing commit_over) (at_version from (top + 1) wanted) (Ok tt) (arrive left left u (commit_on (at_version from top value) (End commit_over reply)) (End (Committing commit_over, at_version from (top + 1) wanted) (Ok tt)) (ap (λ r. commit_on (at_version from top value) (End commit_over r)) is) go (omega arith)) in
-            Changes top value wanted bytes u seen change e.contents (kept_stands db log s t top kept at u (top + 1) bytes (omega arith) stands) e.held_then e.replied
-        again_done u reply (Late other boundary is_top le after is) go =
+            (Changes top value wanted bytes u seen change e.contents (kept_stands db log s t top kept at u (top + 1) bytes (omega arith) stands) e.held_then e.replied, leaves u ready e.contents)
+        again_done u ready reply (Late other boundary is_top le after is) go =
             let same : Some other ≡ Some top = sym is_top ∙ kept.latest in
             let number : other ≡ top = cc in
             absurd (omega (arith, le, number))
-        again_done u reply (Bad none is) go =
+        again_done u ready reply (Bad none is) go =
             let e = ends left u (Committing commit_over) (at_version from top value) (Err (Corrupt BoundaryFormat)) (arrive left left u (commit_on (at_version from top value) (End commit_over reply)) (End (Committing commit_over, at_version from top value) (Err (Corrupt BoundaryFormat))) (ap (λ r. commit_on (at_version from top value) (End commit_over r)) is) go (omega arith)) in
-            BadBoundary (sym kept.same_boundary ∙ none) e.replied
+            (BadBoundary (sym kept.same_boundary ∙ none) e.replied, leaves u ready e.contents)
 
         put_again : top + 1 < 2 ^ 64 → Left moment left t (Stay (Committing (Putting (top + 1) bytes wanted), at_version from top value)) new (phase, to) result → Answers
         put_again small rest =
-            let walk = putting db log apply_starts apply_asks (apply_goes ways) (λ p. (Committing p, at_version from top value)) (commit_on (at_version from top value)) (commits_within (at_version from top value)) moment t named kept.ready kept.fine (top + 1) bytes wanted (omega arith) small left some new (phase, to) result rest (object_at (version_path log db (top + 1)) t) refl in
-            again_done walk.after walk.reply walk.ends walk.go
+            let walk = putting db log apply_starts apply_asks (apply_goes ways) (λ p. (Committing p, at_version from top value)) (commit_on (at_version from top value)) (commits_within (at_version from top value)) moment t named kept.ready (top + 1) bytes wanted (omega arith) small left some new (phase, to) result rest (object_at (version_path log db (top + 1)) t) refl in
+            again_done walk.after walk.ready_then walk.reply walk.ends walk.go
 
       -- the latest version was read
       module _ (value : T) (bytes : List ℕ) (latest : IsLatest db log t top bytes) (reads : ways.decoded from.sequenced.codec bytes ≡ Ok value) where
@@ -131,14 +132,14 @@ module _ {T C R : Type 0} (ways : Ways T C R) where
         renewed_then reply same (Fails e refusal is) go =
             let g = ap (λ r. read_on from (renews ways from) (End read_over r)) same ∙ ap (begun (Reading read_over) (at_version from top value)) is in
             let e' = ends left t (Reading read_over) (at_version from top value) (Err e) (arrive left left t (read_on from (renews ways from) (End read_over reply)) (End (Reading read_over, at_version from top value) (Err e)) g go (omega arith)) in
-            Refuses top value e seen refusal e'.replied
+            (Refuses top value e seen refusal e'.replied, leaves t kept.ready e'.contents)
         renewed_then reply same (Leaves none is) go =
             let g = ap (λ r. read_on from (renews ways from) (End read_over r)) same ∙ ap (begun (Reading read_over) (at_version from top value)) is in
             let e = ends left t (Reading read_over) (at_version from top value) (Ok tt) (arrive left left t (read_on from (renews ways from) (End read_over reply)) (End (Reading read_over, at_version from top value) (Ok tt)) g go (omega arith)) in
-            MakesNone top value seen none e.held_then e.replied
+            (MakesNone top value seen none e.held_then e.replied, leaves t kept.ready e.contents)
         renewed_then reply same (Commits wanted new_bytes change more is) go =
             let g = ap (λ r. read_on from (renews ways from) (End read_over r)) same ∙ ap (begun (Reading read_over) (at_version from top value)) is in
-            let has = top_object log db t top kept.fine kept.latest in
+            let has = top_object log db t top kept.ready.fine kept.latest in
             put_again value wanted new_bytes seen change (next_fits top has.small more)
             (arrive left left t (read_on from (renews ways from) (End read_over reply)) (Stay (Committing (Putting (top + 1) new_bytes wanted), at_version from top value)) g go (omega arith))
 
@@ -150,56 +151,71 @@ module _ {T C R : Type 0} (ways : Ways T C R) where
           renewed_then value bytes (subst (λ (k : ℕ). IsLatest db log t k bytes) (sym e) latest) reads reply (is ∙ ap (λ (k : ℕ). Ok (Some (k, value))) (sym e)) (renewal ways from top value) go
       read_done reply (Undecoded n bytes e latest refuses is) go =
           let e' = ends left t (Reading read_over) from (Err e) (arrive left left t (read_on from (renews ways from) (End read_over reply)) (End (Reading read_over, from) (Err e)) (ap (λ r. read_on from (renews ways from) (End read_over r)) is) go (omega arith)) in
-          Unread n bytes e (kept_latest db log s t top kept at n bytes latest) refuses e'.replied
+          (Unread n bytes e (kept_latest db log s t top kept at n bytes latest) refuses e'.replied, leaves t kept.ready e'.contents)
       read_done reply (NoBoundary none is) go =
           let e = ends left t (Reading read_over) from (Err (Corrupt BoundaryFormat)) (arrive left left t (read_on from (renews ways from) (End read_over reply)) (End (Reading read_over, from) (Err (Corrupt BoundaryFormat))) (ap (λ r. read_on from (renews ways from) (End read_over r)) is) go (omega arith)) in
-          BadBoundary (sym kept.same_boundary ∙ none) e.replied
+          (BadBoundary (sym kept.same_boundary ∙ none) e.replied, leaves t kept.ready e.contents)
 
       read_again : Left moment left t (Stay (Reading Listing, from)) new (phase, to) result → Answers
       read_again rest =
-          let walk = listing (ways.decoded from.sequenced.codec) db log t apply_starts apply_asks (apply_goes ways) (λ p. (Reading p, from)) (read_on from (renews ways from)) (reads_within from) moment kept.ready kept.fine left some new (phase, to) result rest (top_of db log t) refl in
+          let walk = listing (ways.decoded from.sequenced.codec) db log t apply_starts apply_asks (apply_goes ways) (λ p. (Reading p, from)) (read_on from (renews ways from)) (reads_within from) moment kept.ready left some new (phase, to) result rest (top_of db log t) refl in
           read_done walk.reply walk.answers walk.go
 
     -- ---- the first commit
 
-    module _ (ready : IsReady db log s) (fine : AreFine s.objects) (left rest : ℕ) (two : rest + 1 ≡ left) (some : 0 < rest) (wanted : T) (bytes : List ℕ) (change : IsChange ways from from.id from.object wanted bytes) where
-      first_done : (t : Store) (reply : Result (ℕ × T) SlateDBError) → CommitEnds db log s t (from.id + 1) bytes wanted reply
+    module _ (ready : IsReady db log s) (left rest : ℕ) (one : rest + 1 ≡ left) (some : (top : ℕ) → top_of db log s ≡ Some top → from.id + 1 ≤ top → 0 < rest) (wanted : T) (bytes : List ℕ) (change : IsChange ways from from.id from.object wanted bytes) where
+      first_done : (t : Store) → IsReady db log t → (reply : Result (ℕ × T) SlateDBError) → CommitEnds db log s t (from.id + 1) bytes wanted reply
           → ((rest : ℕ) → rest + one_if apply_starts (commit_on from (End commit_over reply)) ≡ left → Left moment rest t (commit_on from (End commit_over reply)) new (phase, to) result) → Answers
-      first_done t reply (Done stands is) go =
+      first_done t after reply (Done stands is) go =
           let e = ends left t (Committing commit_over) (at_version from (from.id + 1) wanted) (Ok tt) (arrive left left t (commit_on from (End commit_over reply)) (End (Committing commit_over, at_version from (from.id + 1) wanted) (Ok tt)) (ap (λ r. commit_on from (End commit_over r)) is) go (omega arith)) in
-          Changes from.id from.object wanted bytes t (IsHeld refl refl) change e.contents stands e.held_then e.replied
-      first_done t reply (Late top boundary at le kept is) go =
-          read_again t top kept at rest some
-          (arrive left rest t (commit_on from (End commit_over reply)) (Stay (Reading Listing, from)) (ap (λ r. commit_on from (End commit_over r)) is) go two)
-      first_done t reply (Bad none is) go =
+          (Changes from.id from.object wanted bytes t (IsHeld refl refl) change e.contents stands e.held_then e.replied, leaves t after e.contents)
+      first_done t after reply (Late top boundary at le kept is) go =
+          read_again t top kept at rest (some top at le)
+          (arrive left rest t (commit_on from (End commit_over reply)) (Stay (Reading Listing, from)) (ap (λ r. commit_on from (End commit_over r)) is) go one)
+      first_done t after reply (Bad none is) go =
           let e = ends left t (Committing commit_over) from (Err (Corrupt BoundaryFormat)) (arrive left left t (commit_on from (End commit_over reply)) (End (Committing commit_over, from) (Err (Corrupt BoundaryFormat))) (ap (λ r. commit_on from (End commit_over r)) is) go (omega arith)) in
-          BadBoundary none e.replied
+          (BadBoundary none e.replied, leaves t after e.contents)
 
       first_put : from.id + 1 < 2 ^ 64 → Left moment left s (Stay (Committing (Putting (from.id + 1) bytes wanted), from)) new (phase, to) result → Answers
       first_put small start =
-          let walk = putting db log apply_starts apply_asks (apply_goes ways) (λ p. (Committing p, from)) (commit_on from) (commits_within from) moment s named ready fine (from.id + 1) bytes wanted (omega arith) small left (omega (arith, two)) new (phase, to) result start (object_at (version_path log db (from.id + 1)) s) refl in
-          first_done walk.after walk.reply walk.ends walk.go
+          let walk = putting db log apply_starts apply_asks (apply_goes ways) (λ p. (Committing p, from)) (commit_on from) (commits_within from) moment s named ready (from.id + 1) bytes wanted (omega arith) small left (omega (arith, one)) new (phase, to) result start (object_at (version_path log db (from.id + 1)) s) refl in
+          first_done walk.after walk.ready_then walk.reply walk.ends walk.go
 
   -- ---- the plain call
 
-  module _ (moment : ℤ) (tries : ℕ) (old new : Told) (s : Store) (from to : Holder T C R) (result : Result (Unit {0}) SlateDBError) (two : 1 < tries) (named : is_db_path from.sequenced.db ≡ true) (small : from.id < 2 ^ 64) (serves : Serves old new s) (ready : IsReady from.sequenced.db from.sequenced.log s) where
-    begun_then : Renews ways from from.id from.object (renews ways from from.id from.object) → Begins ways moment tries old new (renews ways from from.id from.object) from to result → ApplyAnswers ways s new from to result
+  module _ (moment : ℤ) (tries : ℕ) (old new : Told) (s : Store) (from to : Holder T C R) (result : Result (Unit {0}) SlateDBError) (one : 0 < tries) (enough : (top : ℕ) → top_of from.sequenced.db from.sequenced.log s ≡ Some top → from.id + 1 ≤ top → 1 < tries)
+      (named : is_db_path from.sequenced.db ≡ true) (small : from.id < 2 ^ 64) (serves : Serves old new s) (ready : IsReady from.sequenced.db from.sequenced.log s) where
+    abbrev Ended : Type 0
+    Ended = ApplyAnswers ways s new from to result × LeavesReady from.sequenced.db from.sequenced.log new
+
+    unchanged : new ≡ old → LeavesReady from.sequenced.db from.sequenced.log new
+    unchanged same = record { left = s; contents = ap (λ (t : Told). t.contents) same ∙ serves.contents; ready = ready }
+
+    begun_then : Renews ways from from.id from.object (renews ways from from.id from.object) → Begins ways moment tries old new (renews ways from from.id from.object) from to result → Ended
     begun_then (Fails e refusal is) begins =
         let b = subst (λ (r : Result (Option (CommitPhase T)) SlateDBError). Begins ways moment tries old new r from to result) is begins in
-        Refuses from.id from.object e (IsHeld refl refl) refusal b.0
+        (Refuses from.id from.object e (IsHeld refl refl) refusal b.0, unchanged b.1)
     begun_then (Leaves none is) begins =
         let b = subst (λ (r : Result (Option (CommitPhase T)) SlateDBError). Begins ways moment tries old new r from to result) is begins in
-        MakesNone from.id from.object (IsHeld refl refl) none b.2 b.0
+        (MakesNone from.id from.object (IsHeld refl refl) none b.2 b.0, unchanged b.1)
     begun_then (Commits wanted bytes change more is) begins =
         let b = subst (λ (r : Result (Option (CommitPhase T)) SlateDBError). Begins ways moment tries old new r from to result) is begins in
-        first_put from named s moment new b.0 to result ready serves.fine tries (tries - 1) (omega (arith, two)) (omega (arith, two)) wanted bytes change (next_fits from.id small more)
+        first_put from named s moment new b.0 to result ready tries (tries - 1) (omega (arith, one)) (λ top at le. let two = enough top at le in omega (arith, two)) wanted bytes change (next_fits from.id small more)
         (before apply_starts apply_asks (apply_goes ways) moment tries s old new (Committing (Putting (from.id + 1) bytes wanted), from) (b.0, to) result b.1 serves.contents serves.calm)
 
-    by_memory : Applies ways moment tries old new from to result → ApplyAnswers ways s new from to result ⊎ (ran_out result ≡ true)
+    by_memory : Applies ways moment tries old new from to result → Ended ⊎ (ran_out result ≡ true)
     by_memory (inl begins) = inl (begun_then (renewal ways from from.id from.object) begins)
     by_memory (inr out) = inr out.0
 
   pub apply_ends : (moment : ℤ) (tries : ℕ) (old new : Told) (s : Store) (from to : Holder T C R) (result : Result (Unit {0}) SlateDBError)
       → Applies ways moment tries old new from to result → 1 < tries → is_db_path from.sequenced.db ≡ true → from.id < 2 ^ 64 → Serves old new s → IsReady from.sequenced.db from.sequenced.log s
-      → ApplyAnswers ways s new from to result ⊎ (ran_out result ≡ true)
-  apply_ends moment tries old new s from to result applies two named small serves ready = by_memory moment tries old new s from to result two named small serves ready applies
+      → (ApplyAnswers ways s new from to result × LeavesReady from.sequenced.db from.sequenced.log new) ⊎ (ran_out result ≡ true)
+  apply_ends moment tries old new s from to result applies two named small serves ready = by_memory moment tries old new s from to result (omega (arith, two)) (λ top at le. two) named small serves ready applies
+
+  -- from a holder of the latest version one try does
+  pub apply_latest : (moment : ℤ) (tries : ℕ) (old new : Told) (s : Store) (from to : Holder T C R) (result : Result (Unit {0}) SlateDBError)
+      → Applies ways moment tries old new from to result → 0 < tries → is_db_path from.sequenced.db ≡ true → from.id < 2 ^ 64 → Serves old new s → IsReady from.sequenced.db from.sequenced.log s
+      → top_of from.sequenced.db from.sequenced.log s ≡ Some from.id
+      → (ApplyAnswers ways s new from to result × LeavesReady from.sequenced.db from.sequenced.log new) ⊎ (ran_out result ≡ true)
+  apply_latest moment tries old new s from to result applies one named small serves ready latest =
+      by_memory moment tries old new s from to result one (λ top at le. let number : top ≡ from.id = (let tops : Some top ≡ Some from.id = sym at ∙ latest in cc) in absurd (omega (arith, le, number))) named small serves ready applies

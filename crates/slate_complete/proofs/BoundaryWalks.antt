@@ -6,6 +6,7 @@ use Rattle.std.specs.Ordering.{match_ordering}
 use Rattle.std.specs.declared.cmp.Ordering.{Ordering}
 use Rattle.std.specs.declared.cmp.Ordering.TheVariants.{Less, Equal, Greater}
 use Rattle.std.proofs.lemmas.Bool.Decides.{nat_tests}
+use Rattle.slate_ids.specs.Ids.{is_db_path}
 use Rattle.slate_ids.specs.PathText.{path_cmp}
 use Rattle.slate_ids.specs.declared.error.SlateDBError.{SlateDBError}
 use Rattle.slate_ids.specs.declared.error.SlateDBError.TheVariants.{Corrupt, InvalidDeletion}
@@ -36,9 +37,10 @@ use Rattle.slate_complete.specs.Advancing.{AdvanceAnswers}
 use Rattle.slate_complete.specs.Advancing.AdvanceAnswers.{IsAdvanced, NoBoundary}
 use Rattle.slate_complete.specs.Deleting.{DeleteAnswers}
 use Rattle.slate_complete.specs.Deleting.DeleteAnswers.{IsDeleted, IsAbove, NoBoundary as Unbounded}
-use Rattle.slate_complete.specs.Ready.{top_of}
+use Rattle.slate_complete.specs.Ready.{top_of, IsBelow, IsReady, LeavesReady}
 use Rattle.slate_complete.specs.Serving.{Serves}
 use Rattle.slate_complete.proofs.Entries.{Entries, at_put, put_object}
+use Rattle.slate_complete.proofs.Leavings.{advanced_ready, deleted_ready}
 use Rattle.slate_complete.proofs.Turns.{Rest, step, ended, before}
 
 -- ---- the versions after a put of the boundary
@@ -99,28 +101,36 @@ module _ (db : List ℕ) (log : LogKind) (moment : ℤ) (n left : ℕ) (some : 0
   abbrev put : Store
   put = stored path (decimal n) moment s
 
+  -- its answer; and below the greatest number the log stays ready
+  abbrev Answers : Type 0
+  Answers = AdvanceAnswers db log s new n result × (is_db_path db ≡ true → IsReady db log s → IsBelow n (top_of db log s) → LeavesReady db log new)
+
   -- the boundary was put
-  put_ends : (b : ℕ) → boundary_at db log s ≡ Some b → b < n → Left put (End Over (Ok tt)) → AdvanceAnswers db log s new n result
+  put_ends : (b : ℕ) → boundary_at db log s ≡ Some b → b < n → Left put (End Over (Ok tt)) → Answers
   put_ends b at lt rest =
       let e = ended is_bounding (advance_asks db log) advance_goes moment left put Over (Ok tt) new to result rest in
-      IsAdvanced b put at e.contents (ap boundary_got (at_put path (decimal n) moment s) ∙ (decimal_back n small ∙ ap Some (omega (arith, lt)))) (put_bound log db (put_object s (decimal n) moment) s.objects None) e.answer
+      let reads : boundary_at db log put ≡ Some (max n b) = ap boundary_got (at_put path (decimal n) moment s) ∙ (decimal_back n small ∙ ap Some (omega (arith, lt))) in
+      let kept = put_bound log db (put_object s (decimal n) moment) s.objects None in
+      (IsAdvanced b put at e.contents reads kept e.answer, λ named ready below. record { left = put; contents = e.contents; ready = advanced_ready db log s n b (decimal n) moment named ready at below reads kept })
 
   -- nothing was to be put
-  kept_ends : (b : ℕ) → boundary_at db log s ≡ Some b → n ≤ b → Left s (End Over (Ok tt)) → AdvanceAnswers db log s new n result
+  kept_ends : (b : ℕ) → boundary_at db log s ≡ Some b → n ≤ b → Left s (End Over (Ok tt)) → Answers
   kept_ends b at le rest =
       let e = ended is_bounding (advance_asks db log) advance_goes moment left s Over (Ok tt) new to result rest in
-      IsAdvanced b s at e.contents (at ∙ ap Some (omega (arith, le))) refl e.answer
+      (IsAdvanced b s at e.contents (at ∙ ap Some (omega (arith, le))) refl e.answer, λ named ready below. record { left = s; contents = e.contents; ready = ready })
 
-  bad_ends : boundary_at db log s ≡ None → Left s (End Over (Err (Corrupt BoundaryFormat))) → AdvanceAnswers db log s new n result
-  bad_ends at rest = NoBoundary at (ended is_bounding (advance_asks db log) advance_goes moment left s Over (Err (Corrupt BoundaryFormat)) new to result rest).answer
+  bad_ends : boundary_at db log s ≡ None → Left s (End Over (Err (Corrupt BoundaryFormat))) → Answers
+  bad_ends at rest =
+      let e = ended is_bounding (advance_asks db log) advance_goes moment left s Over (Err (Corrupt BoundaryFormat)) new to result rest in
+      (NoBoundary at e.answer, λ named ready below. record { left = s; contents = e.contents; ready = ready })
 
-  creating : object_at path s ≡ None → (n == 0) ≡ false → Left s (Stay (Creating n)) → AdvanceAnswers db log s new n result
+  creating : object_at path s ≡ None → (n == 0) ≡ false → Left s (Stay (Creating n)) → Answers
   creating at more rest =
       put_ends 0 (ap boundary_got at) (grind (arith, nat_tests, more))
       (subst (λ (t : Store). Left t (End Over (Ok tt))) (ap (λ o. (put_new o path (decimal n) moment s).store) at)
       (step is_bounding (advance_asks db log) advance_goes moment left left s (Creating n) (End Over (Ok tt)) new to result rest (ap (λ o. advance_goes (Creating n) (put_new o path (decimal n) moment s).answer) at) some (omega arith)))
 
-  replacing : (x : StoredObject) (b : ℕ) → object_at path s ≡ Some x → boundary_of x.bytes ≡ Some b → b < n → Left s (Stay (Replacing n x.e_tag)) → AdvanceAnswers db log s new n result
+  replacing : (x : StoredObject) (b : ℕ) → object_at path s ≡ Some x → boundary_of x.bytes ≡ Some b → b < n → Left s (Stay (Replacing n x.e_tag)) → Answers
   replacing x b at reads lt rest =
       let tagged : has_tag x.e_tag (object_at path s) ≡ true = ap (has_tag x.e_tag) at ∙ same_tag x.e_tag in
       put_ends b (ap boundary_got at ∙ reads) lt
@@ -129,7 +139,7 @@ module _ (db : List ℕ) (log : LogKind) (moment : ℤ) (n left : ℕ) (some : 0
 
   -- where the get of the boundary leads
   module _ (rest : Left s (Stay (Bounding n))) where
-    by_zero : object_at path s ≡ None → (b : Bool) → (n == 0) ≡ b → AdvanceAnswers db log s new n result
+    by_zero : object_at path s ≡ None → (b : Bool) → (n == 0) ≡ b → Answers
     by_zero at true is =
         kept_ends 0 (ap boundary_got at) (let zero_is = zero_told n is in omega (arith, zero_is))
         (step is_bounding (advance_asks db log) advance_goes moment left left s (Bounding n) (End Over (Ok tt)) new to result rest (ap (bound_goes n) at ∙ ap (λ (b : Bool). if b then End Over (Ok tt) else Stay (Creating n)) is) some (omega arith))
@@ -137,7 +147,7 @@ module _ (db : List ℕ) (log : LogKind) (moment : ℤ) (n left : ℕ) (some : 0
         creating at is
         (step is_bounding (advance_asks db log) advance_goes moment left left s (Bounding n) (Stay (Creating n)) new to result rest (ap (bound_goes n) at ∙ ap (λ (b : Bool). if b then End Over (Ok tt) else Stay (Creating n)) is) some (omega arith))
 
-    by_test : (x : StoredObject) (b : ℕ) → object_at path s ≡ Some x → boundary_of x.bytes ≡ Some b → (t : Bool) → nat_le n b ≡ t → AdvanceAnswers db log s new n result
+    by_test : (x : StoredObject) (b : ℕ) → object_at path s ≡ Some x → boundary_of x.bytes ≡ Some b → (t : Bool) → nat_le n b ≡ t → Answers
     by_test x b at reads true is =
         kept_ends b (ap boundary_got at ∙ reads) (le_told n b is)
         (step is_bounding (advance_asks db log) advance_goes moment left left s (Bounding n) (End Over (Ok tt)) new to result rest (ap (bound_goes n) at ∙ (ap (read_goes_to n x.e_tag) reads ∙ ap (λ (b : Bool). if b then End Over (Ok tt) else Stay (Replacing n x.e_tag)) is)) some (omega arith))
@@ -145,18 +155,19 @@ module _ (db : List ℕ) (log : LogKind) (moment : ℤ) (n left : ℕ) (some : 0
         replacing x b at reads (lt_told n b is)
         (step is_bounding (advance_asks db log) advance_goes moment left left s (Bounding n) (Stay (Replacing n x.e_tag)) new to result rest (ap (bound_goes n) at ∙ (ap (read_goes_to n x.e_tag) reads ∙ ap (λ (b : Bool). if b then End Over (Ok tt) else Stay (Replacing n x.e_tag)) is)) some (omega arith))
 
-    by_bytes : (x : StoredObject) → object_at path s ≡ Some x → (boundary : Option ℕ) → boundary_of x.bytes ≡ boundary → AdvanceAnswers db log s new n result
+    by_bytes : (x : StoredObject) → object_at path s ≡ Some x → (boundary : Option ℕ) → boundary_of x.bytes ≡ boundary → Answers
     by_bytes x at None reads =
         bad_ends (ap boundary_got at ∙ reads)
         (step is_bounding (advance_asks db log) advance_goes moment left left s (Bounding n) (End Over (Err (Corrupt BoundaryFormat))) new to result rest (ap (bound_goes n) at ∙ ap (read_goes_to n x.e_tag) reads) some (omega arith))
     by_bytes x at (Some b) reads = by_test x b at reads (nat_le n b) refl
 
-    bounding : (o : Option StoredObject) → object_at path s ≡ o → AdvanceAnswers db log s new n result
+    bounding : (o : Option StoredObject) → object_at path s ≡ o → Answers
     bounding None at = by_zero at (n == 0) refl
     bounding (Some x) at = by_bytes x at (boundary_of x.bytes) refl
 
 pub advance_ends : {T C : Type 0} (sequenced : Sequenced T C) (n : ℕ) (moment : ℤ) (tries : ℕ) (old new : Told) (s : Store) (result : Result (Unit {0}) SlateDBError)
-    → Advanced sequenced n moment tries old new result → 0 < tries → n < 2 ^ 64 → Serves old new s → AdvanceAnswers sequenced.db sequenced.log s new n result
+    → Advanced sequenced n moment tries old new result → 0 < tries → n < 2 ^ 64 → Serves old new s
+    → AdvanceAnswers sequenced.db sequenced.log s new n result × (is_db_path sequenced.db ≡ true → IsReady sequenced.db sequenced.log s → IsBelow n (top_of sequenced.db sequenced.log s) → LeavesReady sequenced.db sequenced.log new)
 advance_ends sequenced n moment tries old new s result ran some small serves =
     bounding sequenced.db sequenced.log moment n tries some small s new ran.0 result
     (before is_bounding (advance_asks sequenced.db sequenced.log) advance_goes moment tries s old new (Bounding n) ran.0 result ran.1 serves.contents serves.calm)
@@ -168,6 +179,10 @@ module _ (db : List ℕ) (log : LogKind) (n : ℕ) (s : Store) (new : Told) (to 
   abbrev Remaining : Store → DeleteGoes → Type 0
   Remaining s from = Rest never (delete_asks db log) delete_goes (pos 0) 1 s from new to result
 
+  -- its answer; and the log stays ready
+  abbrev Replies : Type 0
+  Replies = DeleteAnswers db log s new n result × (is_db_path db ≡ true → 0 < n → n < 2 ^ 64 → IsReady db log s → LeavesReady db log new)
+
   abbrev without : Store
   without = removed (version_path log db n) s
 
@@ -175,21 +190,24 @@ module _ (db : List ℕ) (log : LogKind) (n : ℕ) (s : Store) (new : Told) (to 
     leads_to : (boundary : Option ℕ) → boundary_at db log s ≡ boundary → delete_goes (phases.Bounding n) (Got (object_at (boundary_path log db) s)) ≡ checked_goes n boundary
     leads_to boundary at = ap (checked_goes n) at
 
-    checked : (b : ℕ) → boundary_at db log s ≡ Some b → (t : Bool) → nat_le n b ≡ t → DeleteAnswers db log s new n result
+    checked : (b : ℕ) → boundary_at db log s ≡ Some b → (t : Bool) → nat_le n b ≡ t → Replies
     checked b at true is =
         let deleting = step never (delete_asks db log) delete_goes (pos 0) 1 1 s (phases.Bounding n) (Stay (phases.Deleting n)) new to result rest (leads_to (Some b) at ∙ ap (λ (t : Bool). if t then Stay (phases.Deleting n) else End phases.Over (Err (InvalidDeletion n))) is) (omega arith) (omega arith) in
         let e = ended never (delete_asks db log) delete_goes (pos 0) 1 without phases.Over (Ok tt) new to result (step never (delete_asks db log) delete_goes (pos 0) 1 1 s (phases.Deleting n) (End phases.Over (Ok tt)) new to result deleting refl (omega arith) (omega arith)) in
-        IsDeleted b at (le_told n b is) e.contents e.answer
+        (IsDeleted b at (le_told n b is) e.contents e.answer, λ named pos small ready. record { left = without; contents = e.contents; ready = deleted_ready db log named n small s ready b at pos (le_told n b is) })
     checked b at false is =
         let e = ended never (delete_asks db log) delete_goes (pos 0) 1 s phases.Over (Err (InvalidDeletion n)) new to result (step never (delete_asks db log) delete_goes (pos 0) 1 1 s (phases.Bounding n) (End phases.Over (Err (InvalidDeletion n))) new to result rest (leads_to (Some b) at ∙ ap (λ (t : Bool). if t then Stay (phases.Deleting n) else End phases.Over (Err (InvalidDeletion n))) is) (omega arith) (omega arith)) in
-        IsAbove b at (lt_told n b is) e.contents e.answer
+        (IsAbove b at (lt_told n b is) e.contents e.answer, λ named pos small ready. record { left = s; contents = e.contents; ready = ready })
 
-    got : (boundary : Option ℕ) → boundary_at db log s ≡ boundary → DeleteAnswers db log s new n result
-    got None at = Unbounded at (ended never (delete_asks db log) delete_goes (pos 0) 1 s phases.Over (Err (Corrupt BoundaryFormat)) new to result (step never (delete_asks db log) delete_goes (pos 0) 1 1 s (phases.Bounding n) (End phases.Over (Err (Corrupt BoundaryFormat))) new to result rest (leads_to None at) (omega arith) (omega arith))).answer
+    got : (boundary : Option ℕ) → boundary_at db log s ≡ boundary → Replies
+    got None at =
+        let e = ended never (delete_asks db log) delete_goes (pos 0) 1 s phases.Over (Err (Corrupt BoundaryFormat)) new to result (step never (delete_asks db log) delete_goes (pos 0) 1 1 s (phases.Bounding n) (End phases.Over (Err (Corrupt BoundaryFormat))) new to result rest (leads_to None at) (omega arith) (omega arith)) in
+        (Unbounded at e.answer, λ named pos small ready. record { left = s; contents = e.contents; ready = ready })
     got (Some b) at = checked b at (nat_le n b) refl
 
 pub delete_ends : {T C : Type 0} (sequenced : Sequenced T C) (n : ℕ) (old new : Told) (s : Store) (result : Result (Unit {0}) SlateDBError)
-    → DeleteRan sequenced n old new result → Serves old new s → DeleteAnswers sequenced.db sequenced.log s new n result
+    → DeleteRan sequenced n old new result → Serves old new s
+    → DeleteAnswers sequenced.db sequenced.log s new n result × (is_db_path sequenced.db ≡ true → 0 < n → n < 2 ^ 64 → IsReady sequenced.db sequenced.log s → LeavesReady sequenced.db sequenced.log new)
 delete_ends sequenced n old new s result ran serves =
     got sequenced.db sequenced.log n s new ran.0 result
     (before never (delete_asks sequenced.db sequenced.log) delete_goes (pos 0) 1 s old new (phases.Bounding n) ran.0 result ran.1 serves.contents serves.calm)

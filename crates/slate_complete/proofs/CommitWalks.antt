@@ -22,9 +22,9 @@ use Rattle.slate_log.specs.declared.commit_phase.CommitPhase.TheVariants.{Puttin
 use Rattle.slate_log.specs.declared.log_kind.LogKind.{LogKind}
 use Rattle.slate_complete.specs.Committing.{Stands, CommitAnswers}
 use Rattle.slate_complete.specs.Committing.CommitAnswers.{IsCommitted, IsBehind, NoBoundary}
-use Rattle.slate_complete.specs.Ready.{top_of, IsReady}
-use Rattle.slate_complete.specs.Serving.{Serves, AreFine}
-use Rattle.slate_complete.proofs.Places.{Kept, passed, ready_at, same_kept, put, reached_by, put_boundary, put_stands, put_kept}
+use Rattle.slate_complete.specs.Ready.{top_of, IsReady, LeavesReady}
+use Rattle.slate_complete.specs.Serving.{Serves}
+use Rattle.slate_complete.proofs.Places.{Kept, passed, ready_at, same_kept, put, reached_by, put_boundary, put_stands, put_ready, bad_ready, put_kept}
 use Rattle.slate_complete.proofs.Turns.{Rest, Within, step_in, stay_in, ended, before}
 
 le_told : (n b : ℕ) → nat_le n b ≡ true → n ≤ b
@@ -40,7 +40,7 @@ pub data CommitEnds {T : Type 0} (db : List ℕ) (log : LogKind) (s t : Store) (
   Bad : boundary_at db log s ≡ None → reply ≡ Err (Corrupt BoundaryFormat) → CommitEnds db log s t n bytes value reply
 
 module _ {T : Type 0} (db : List ℕ) (log : LogKind) {Q S : Type 0} (starts : Q → Bool) (asks : Q → StoreCall) (goes : Q → StoreAnswer → Goes Q S) (enter : CommitPhase T → Q) (on : CommitGoes T → Goes Q S)
-    (within : Within never (commit_asks db log) commit_goes starts asks goes enter on) (moment : ℤ) (s : Store) (named : is_db_path db ≡ true) (ready : IsReady db log s) (fine : AreFine s.objects)
+    (within : Within never (commit_asks db log) commit_goes starts asks goes enter on) (moment : ℤ) (s : Store) (named : is_db_path db ≡ true) (ready : IsReady db log s)
     (n : ℕ) (bytes : List ℕ) (value : T) (pos : 0 < n) (small : n < 2 ^ 64) (left : ℕ) (some : 0 < left) (new : Told) (to : Q) (result : Result S SlateDBError) where
   abbrev Left : ℕ → Store → Goes Q S → Type 0
   Left left s from = Rest starts asks goes moment left s from new to result
@@ -50,30 +50,33 @@ module _ {T : Type 0} (db : List ℕ) (log : LogKind) {Q S : Type 0} (starts : Q
     pub after : Store
     pub reply : Result (ℕ × T) SlateDBError
     pub ends : CommitEnds db log s after n bytes value reply
+    pub ready_then : IsReady db log after
     pub go : (rest : ℕ) → rest + one_if starts (on (End Over reply)) ≡ left → Left rest after (on (End Over reply))
 
   abbrev after_put : Store
-  after_put = put db log s named ready fine n bytes moment small
+  after_put = put db log s named ready n bytes moment small
 
   module _ (free : object_at (version_path log db n) s ≡ None) (from : Left left after_put (Stay (enter (Bounding n value)))) where
     bounds : (boundary : Option ℕ) → boundary_at db log s ≡ boundary → commit_goes (Bounding n value) (Got (object_at (boundary_path log db) after_put)) ≡ bounded_goes n value boundary
-    bounds boundary at = ap (bounded_goes n value) (put_boundary db log s named ready fine n bytes moment small free ∙ at)
+    bounds boundary at = ap (bounded_goes n value) (put_boundary db log s named ready n bytes moment small free ∙ at)
 
     by_test : (b : ℕ) → boundary_at db log s ≡ Some b → (test : Bool) → nat_le n b ≡ test → CommitWalk
     by_test b at true is =
         let le = le_told n b is in
-        let past = passed (top_of db log s) n b pos le (ready_at db log s named ready fine b at) in
+        let past = passed (top_of db log s) n b pos le (ready_at db log s named ready b at) in
         record {
           after = after_put;
           reply = Err (TransactionalObjectVersionExists n (Some b));
-          ends = Late past.number (Some b) past.is (let lt = past.below in omega (arith, le, lt)) (put_kept db log s named ready fine n bytes moment small free b past.number at past.is le past.below) refl;
+          ends = Late past.number (Some b) past.is (let lt = past.below in omega (arith, le, lt)) (put_kept db log s named ready n bytes moment small free b past.number at past.is le past.below) refl;
+          ready_then = (put_kept db log s named ready n bytes moment small free b past.number at past.is le past.below).ready;
           go = λ rest used. step_in never (commit_asks db log) commit_goes starts asks goes enter on within moment left rest after_put (Bounding n value) (End Over (Err (TransactionalObjectVersionExists n (Some b)))) new to result from
               (bounds (Some b) at ∙ ap (λ (t : Bool). if t then End Over (Err (TransactionalObjectVersionExists n (Some b))) else End Over (Ok (n, value))) is) some used;
         }
     by_test b at false is = record {
       after = after_put;
       reply = Ok (n, value);
-      ends = Done (put_stands db log s named ready fine n bytes moment small free b at (lt_told n b is)) refl;
+      ends = Done (put_stands db log s named ready n bytes moment small free b at (lt_told n b is)) refl;
+      ready_then = put_ready db log s named ready n bytes moment small free b at (lt_told n b is);
       go = λ rest used. step_in never (commit_asks db log) commit_goes starts asks goes enter on within moment left rest after_put (Bounding n value) (End Over (Ok (n, value))) new to result from
           (bounds (Some b) at ∙ ap (λ (t : Bool). if t then End Over (Err (TransactionalObjectVersionExists n (Some b))) else End Over (Ok (n, value))) is) some used;
     }
@@ -83,6 +86,7 @@ module _ {T : Type 0} (db : List ℕ) (log : LogKind) {Q S : Type 0} (starts : Q
       after = after_put;
       reply = Err (Corrupt BoundaryFormat);
       ends = Bad at refl;
+      ready_then = bad_ready db log s named ready n bytes moment small free at;
       go = λ rest used. step_in never (commit_asks db log) commit_goes starts asks goes enter on within moment left rest after_put (Bounding n value) (End Over (Err (Corrupt BoundaryFormat))) new to result from (bounds None at) some used;
     }
     bounding (Some b) at = by_test b at (nat_le n b) refl
@@ -96,11 +100,12 @@ module _ {T : Type 0} (db : List ℕ) (log : LogKind) {Q S : Type 0} (starts : Q
 
   pub putting : Left left s (Stay (enter (Putting n bytes value))) → (o : Option StoredObject) → object_at (version_path log db n) s ≡ o → CommitWalk
   putting from (Some x) at =
-      let at_top = reached_by db log s named ready fine n bytes moment small x at in
+      let at_top = reached_by db log s named ready n bytes moment small x at in
       record {
         after = s;
         reply = Err (TransactionalObjectVersionExists n None);
-        ends = Late at_top.number None at_top.is at_top.reached (same_kept db log s named ready fine at_top.number at_top.is) refl;
+        ends = Late at_top.number None at_top.is at_top.reached (same_kept db log s named ready at_top.number at_top.is) refl;
+        ready_then = ready;
         go = λ rest used. subst (λ (t : Store). Left rest t (on (End Over (Err (TransactionalObjectVersionExists n None))))) (leaves (Some x) at)
             (step_in never (commit_asks db log) commit_goes starts asks goes enter on within moment left rest s (Putting n bytes value) (End Over (Err (TransactionalObjectVersionExists n None))) new to result from (puts (Some x) at) some used);
       }
@@ -126,10 +131,10 @@ module _ {T : Type 0} (db : List ℕ) (log : LogKind) (n : ℕ) (bytes : List �
 
   pub commit_ends : (moment : ℤ) (old new : Told) (s : Store) (result : Result (ℕ × T) SlateDBError)
       → Committed db log moment old new (Putting n bytes value) result → is_db_path db ≡ true → 0 < n → n < 2 ^ 64 → Serves old new s → IsReady db log s
-      → CommitAnswers db log s new n bytes value result
+      → CommitAnswers db log s new n bytes value result × LeavesReady db log new
   commit_ends moment old new s result ran named pos small serves ready =
-      let walk = putting db log never (commit_asks db log) commit_goes (λ p. p) (λ g. g) alone moment s named ready serves.fine n bytes value pos small 1 (omega arith) new ran.0 result
+      let walk = putting db log never (commit_asks db log) commit_goes (λ p. p) (λ g. g) alone moment s named ready n bytes value pos small 1 (omega arith) new ran.0 result
       (before never (commit_asks db log) commit_goes moment 1 s old new (Putting n bytes value) ran.0 result ran.1 serves.contents serves.calm)
       (object_at (version_path log db n) s) refl in
       let end = ended never (commit_asks db log) commit_goes moment 1 walk.after Over walk.reply new ran.0 result (walk.go 1 (omega arith)) in
-      answers s walk.after new walk.reply result walk.ends end.answer end.contents
+      (answers s walk.after new walk.reply result walk.ends end.answer end.contents, record { left = walk.after; contents = end.contents; ready = walk.ready_then })

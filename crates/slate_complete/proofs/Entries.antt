@@ -14,11 +14,11 @@ use Rattle.slate_ids.specs.PathText.{path_text, path_cmp}
 use Rattle.slate_ids.specs.declared.object_path.ObjectPath.{ObjectPath}
 use Rattle.slate_ids.proofs.PathsApart.{same_path}
 use Rattle.slate_store.specs.Store.{Store, object_at, stored}
+use Rattle.slate_complete.specs.Ready.{AreFine}
 use Rattle.slate_store.specs.declared.object.StoredObject.{StoredObject}
 use Rattle.slate_log.specs.LogPaths.{version_path, boundary_path}
 use Rattle.slate_log.specs.declared.log_kind.LogKind.{LogKind}
 use Rattle.slate_log.specs.declared.log_kind.LogKind.TheVariants.{Manifest, Compactions}
-use Rattle.slate_complete.specs.Serving.{AreFine}
 
 abbrev pub Entries : Type 0
 Entries = List (ObjectPath × StoredObject)
@@ -106,7 +106,7 @@ module _ (db : List ℕ) (named : is_db_path db ≡ true) where
   version_fine Manifest n small = (named, small)
   version_fine Compactions n small = (named, small)
 
-  boundary_fine : (log : LogKind) → IsFine (boundary_path log db)
+  pub boundary_fine : (log : LogKind) → IsFine (boundary_path log db)
   boundary_fine Manifest = named
   boundary_fine Compactions = named
 

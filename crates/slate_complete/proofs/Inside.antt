@@ -16,10 +16,12 @@ use Rattle.slate_complete.specs.Applying.{ApplyAnswers}
 use Rattle.slate_complete.specs.Applying.ApplyAnswers.{Changes, MakesNone, Refuses, Unread, NoBoundary as NotApplied}
 use Rattle.slate_complete.specs.Changing.{IsRefusal}
 use Rattle.slate_complete.specs.Changing.IsRefusal.{ByChange, ByNumber, ByRules, ByCodec}
+use Rattle.slate_complete.specs.Committing.{IsOver, CommitAnswers}
+use Rattle.slate_complete.specs.Committing.CommitAnswers.{IsCommitted, IsBehind as NotOver, NoBoundary as NotCommitted}
 use Rattle.slate_complete.specs.Outside.{is_outside, NotOutside, NeverOutside, RulesInside, WaysInside}
 use Rattle.slate_complete.specs.Reading.{ReadAnswers}
 use Rattle.slate_complete.specs.Reading.ReadAnswers.{NoVersion, Latest, Undecoded, NoBoundary}
-use Rattle.slate_complete.specs.Ready.{top_of}
+use Rattle.slate_complete.specs.Ready.{top_of, LeavesReady}
 use Rattle.slate_complete.specs.Updating.{UpdateAnswers}
 use Rattle.slate_complete.specs.Updating.UpdateAnswers.{IsUpdated, IsOther, IsBehind, ByNumber as LastNumber, ByRules as UpdateRules, ByCodec as UpdateCodec, NoBoundary as NotUpdated}
 
@@ -44,6 +46,12 @@ pub advance_inside : (db : List ℕ) (log : LogKind) (s : Store) (new : Told) (n
 advance_inside db log s new n result (IsAdvanced b t at told reached kept is) e same = absurd cc
 advance_inside db log s new n result (NotAdvanced none is) e same = same_error result _ e is same refl
 
+module _ {T : Type 0} (db : List ℕ) (log : LogKind) (s : Store) (new : Told) (n : ℕ) (bytes : List ℕ) (value : T) (result : Result (ℕ × T) SlateDBError) (over : IsOver n (top_of db log s)) where
+  pub commit_inside : CommitAnswers db log s new n bytes value result → NotOutside result
+  commit_inside (IsCommitted t told stands is) e same = absurd cc
+  commit_inside (NotOver top boundary at le is) e same = let lt : top < n = subst (IsOver n) at over in absurd (omega (arith, lt, le))
+  commit_inside (NotCommitted none is) e same = same_error result _ e is same refl
+
 module _ {T C R : Type 0} (ways : Ways T C R) (inside : WaysInside ways) (s : Store) (new : Told) (from to : Holder T C R) (result : Result (Unit {0}) SlateDBError) where
   refusal_inside : (id : ℕ) (value : T) (e : SlateDBError) → IsRefusal ways from id value e → is_outside e ≡ false
   refusal_inside id value e (ByChange at) = inside.changes id value e at
@@ -51,22 +59,28 @@ module _ {T C R : Type 0} (ways : Ways T C R) (inside : WaysInside ways) (s : St
   refusal_inside id value e (ByRules wanted made at) = inside.allows from.rules id value wanted ways.right e at
   refusal_inside id value e (ByCodec wanted made at) = inside.encodes from.sequenced.codec wanted e at
 
-  pub apply_inside : ApplyAnswers ways s new from to result ⊎ (ran_out result ≡ true) → NotOutside result
-  apply_inside (inl (Changes id value wanted bytes t seen change told stands held is)) e same = absurd cc
-  apply_inside (inl (MakesNone id value seen none held is)) e same = absurd cc
-  apply_inside (inl (Refuses id value a seen refusal is)) e same = same_error result a e is same (refusal_inside id value a refusal)
-  apply_inside (inl (Unread id bytes a latest refuses is)) e same = same_error result a e is same (inside.decodes from.sequenced.codec bytes a refuses)
-  apply_inside (inl (NotApplied none is)) e same = same_error result _ e is same refl
+  answer_inside : ApplyAnswers ways s new from to result → NotOutside result
+  answer_inside (Changes id value wanted bytes t seen change told stands held is) e same = absurd cc
+  answer_inside (MakesNone id value seen none held is) e same = absurd cc
+  answer_inside (Refuses id value a seen refusal is) e same = same_error result a e is same (refusal_inside id value a refusal)
+  answer_inside (Unread id bytes a latest refuses is) e same = same_error result a e is same (inside.decodes from.sequenced.codec bytes a refuses)
+  answer_inside (NotApplied none is) e same = same_error result _ e is same refl
+
+  pub apply_inside : (ApplyAnswers ways s new from to result × LeavesReady from.sequenced.db from.sequenced.log new) ⊎ (ran_out result ≡ true) → NotOutside result
+  apply_inside (inl ended) e same = answer_inside ended.0 e same
   apply_inside (inr out) e same = out_inside result out e same
 
 module _ {T C R : Type 0} (refusal : R → ℕ → T → T → Right → Option SlateDBError) (encoded : C → T → Result (List ℕ) SlateDBError) (s : Store) (new : Told) (holder : Holder T C R) (dirty : DirtyObject T) (right : Right) (result : Result (Unit {0}) SlateDBError)
     (latest : top_of holder.sequenced.db holder.sequenced.log s ≡ Some holder.id) (own : dirty.id ≡ holder.id) (encodes : (codec : C) → NeverOutside (encoded codec)) (allows : RulesInside refusal) where
-  pub update_inside : UpdateAnswers refusal encoded s new holder dirty right result ⊎ (ran_out result ≡ true) → NotOutside result
-  update_inside (inl (IsUpdated bytes t number allowed at told stands is)) e same = absurd cc
-  update_inside (inl (IsOther other is)) e same = absurd (other own)
-  update_inside (inl (IsBehind top boundary at lt is)) e same = let number : top ≡ holder.id = (let tops : Some top ≡ Some holder.id = sym at ∙ latest in cc) in absurd (omega (arith, lt, number))
-  update_inside (inl (LastNumber last is)) e same = same_error result _ e is same refl
-  update_inside (inl (UpdateRules a at is)) e same = same_error result a e is same (allows holder.rules holder.id holder.object dirty.value right a at)
-  update_inside (inl (UpdateCodec a at is)) e same = same_error result a e is same (encodes holder.sequenced.codec dirty.value a at)
-  update_inside (inl (NotUpdated none is)) e same = same_error result _ e is same refl
+  value_inside : UpdateAnswers refusal encoded s new holder dirty right result → NotOutside result
+  value_inside (IsUpdated bytes t number allowed at told stands is) e same = absurd cc
+  value_inside (IsOther other is) e same = absurd (other own)
+  value_inside (IsBehind top boundary at lt is) e same = let number : top ≡ holder.id = (let tops : Some top ≡ Some holder.id = sym at ∙ latest in cc) in absurd (omega (arith, lt, number))
+  value_inside (LastNumber last is) e same = same_error result _ e is same refl
+  value_inside (UpdateRules a at is) e same = same_error result a e is same (allows holder.rules holder.id holder.object dirty.value right a at)
+  value_inside (UpdateCodec a at is) e same = same_error result a e is same (encodes holder.sequenced.codec dirty.value a at)
+  value_inside (NotUpdated none is) e same = same_error result _ e is same refl
+
+  pub update_inside : (UpdateAnswers refusal encoded s new holder dirty right result × LeavesReady holder.sequenced.db holder.sequenced.log new) ⊎ (ran_out result ≡ true) → NotOutside result
+  update_inside (inl ended) e same = value_inside ended.0 e same
   update_inside (inr out) e same = out_inside result out e same

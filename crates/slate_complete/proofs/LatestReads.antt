@@ -23,7 +23,7 @@ use Rattle.slate_log.specs.declared.sequenced.Sequenced.{Sequenced}
 use Rattle.slate_complete.specs.Reading.{ReadAnswers}
 use Rattle.slate_complete.specs.Reading.ReadAnswers.{NoVersion, Latest, Undecoded, NoBoundary}
 use Rattle.slate_complete.specs.Ready.{top_of, IsBelow, IsReady, bytes_of, IsLatest}
-use Rattle.slate_complete.specs.Serving.{Serves, AreFine}
+use Rattle.slate_complete.specs.Serving.{Serves}
 use Rattle.slate_complete.proofs.Turns.{Rest, Within, step_in, stay_in, ended, before}
 use Rattle.slate_complete.proofs.Tops.{top_object}
 
@@ -46,7 +46,7 @@ module _ {T : Type 0} (decoded : List ℕ → Result T SlateDBError) (db : List 
   above n value boundary h = ap (λ (b : Bool). if b then Stay Listing else End Over (Ok (Some (n, value)))) (below_not n boundary h)
 
   module _ {Q S : Type 0} (starts : Q → Bool) (asks : Q → StoreCall) (goes : Q → StoreAnswer → Goes Q S) (enter : ReadPhase T → Q) (on : Reply T → Goes Q S)
-      (within : Within is_listing (read_asks db log) (read_goes log decoded) starts asks goes enter on) (moment : ℤ) (ready : IsReady db log s) (fine : AreFine s.objects) (left : ℕ) (some : 0 < left) (new : Told) (to : Q) (result : Result S SlateDBError) where
+      (within : Within is_listing (read_asks db log) (read_goes log decoded) starts asks goes enter on) (moment : ℤ) (ready : IsReady db log s) (left : ℕ) (some : 0 < left) (new : Told) (to : Q) (result : Result S SlateDBError) where
     abbrev Left : ℕ → Goes Q S → Type 0
     Left left from = Rest starts asks goes moment left s from new to result
 
@@ -63,7 +63,7 @@ module _ {T : Type 0} (decoded : List ℕ → Result T SlateDBError) (db : List 
       go = λ rest used. step_in is_listing (read_asks db log) (read_goes log decoded) starts asks goes enter on within moment left rest s (Bounding n value) (End Over (Err (Corrupt BoundaryFormat))) new to result from (bounds n value None at) some used;
     }
     bounding n bytes value latest reads from (Some boundary) at =
-        let below : IsBelow boundary (Some n) = subst (IsBelow boundary) latest.top (subst (λ (o : Option ℕ). IfSome o (λ b. IsBelow b (top_of db log s))) at ready) in
+        let below : IsBelow boundary (Some n) = subst (IsBelow boundary) latest.top (subst (λ (o : Option ℕ). IfSome o (λ b. IsBelow b (top_of db log s))) at ready.below) in
         record {
           reply = Ok (Some (n, value));
           answers = Latest n bytes value latest reads refl;
@@ -88,7 +88,7 @@ module _ {T : Type 0} (decoded : List ℕ → Result T SlateDBError) (db : List 
       go = λ rest used. step_in is_listing (read_asks db log) (read_goes log decoded) starts asks goes enter on within moment left rest s Listing (End Over (Ok None)) new to result from (lists None at) some used;
     }
     listing from (Some n) at =
-        let has = top_object log db s n fine at in
+        let has = top_object log db s n ready.fine at in
         getting n has.object at has.at
         (stay_in is_listing (read_asks db log) (read_goes log decoded) starts asks goes enter on within moment left s Listing (Getting n) new to result from (lists (Some n) at) some refl)
         (decoded has.object.bytes) refl
@@ -109,7 +109,7 @@ module _ {T C : Type 0} (decoded : C → List ℕ → Result T SlateDBError) (se
       → Read decoded sequenced tries old new result → 0 < tries → Serves old new s → IsReady sequenced.db sequenced.log s
       → ReadAnswers (decoded sequenced.codec) sequenced.db sequenced.log s result × (new.contents ≡ Some s)
   read_ends tries old new s result read some serves ready =
-      let walk = listing (decoded sequenced.codec) sequenced.db sequenced.log s is_listing own_asks own_goes (λ p. p) (λ g. g) alone (pos 0) ready serves.fine tries some new read.0 result
+      let walk = listing (decoded sequenced.codec) sequenced.db sequenced.log s is_listing own_asks own_goes (λ p. p) (λ g. g) alone (pos 0) ready tries some new read.0 result
       (before is_listing own_asks own_goes (pos 0) tries s old new Listing read.0 result read.1 serves.contents serves.calm)
       (top_of sequenced.db sequenced.log s) refl in
       let end = ended is_listing own_asks own_goes (pos 0) tries s Over walk.reply new read.0 result (walk.go tries (omega arith)) in

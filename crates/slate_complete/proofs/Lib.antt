@@ -7,6 +7,8 @@ mod CommitWalks
 mod Renewals
 mod ApplyWalks
 mod UpdateWalks
+mod Leavings
 mod BoundaryWalks
 mod HolderReads
 mod Inside
+mod OneCalls

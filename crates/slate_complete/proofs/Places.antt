@@ -9,8 +9,7 @@ use Rattle.slate_log.specs.Boundary.{boundary_got, greater}
 use Rattle.slate_log.specs.LogPaths.{version_path, boundary_path}
 use Rattle.slate_log.specs.declared.log_kind.LogKind.{LogKind}
 use Rattle.slate_complete.specs.Committing.{IsOver, Stands}
-use Rattle.slate_complete.specs.Ready.{top_of, IsBelow, IsReady, IsGapless, bytes_of, version_at}
-use Rattle.slate_complete.specs.Serving.{AreFine}
+use Rattle.slate_complete.specs.Ready.{AreFine, top_of, IsBelow, IsReady, IsGapless, bytes_of, version_at}
 use Rattle.slate_complete.proofs.Entries.{at_put, at_else, fine_after, version_fine, versions_apart, boundary_apart}
 use Rattle.slate_complete.proofs.Tops.{HasObject, top_object, top_stored, IsAtMost, stands_at_most}
 
@@ -20,7 +19,6 @@ pub record Kept (db : List ℕ) (log : LogKind) (s t : Store) (top : ℕ) : Type
   pub same_boundary : boundary_at db log t ≡ boundary_at db log s
   pub same_version : version_at db log top t ≡ version_at db log top s
   pub ready : IsReady db log t
-  pub fine : AreFine t.objects
 
 below_more : (b n : ℕ) (top : Option ℕ) → b < n → IsBelow b (greater top (Some n))
 below_more b n None h = h
@@ -53,12 +51,12 @@ reached : (n : ℕ) (top : Option ℕ) (log : LogKind) (db : List ℕ) → IsAtM
 reached n None log db h = absurd h
 reached n (Some m) log db h = record { number = m; is = refl; reached = h }
 
-module _ (db : List ℕ) (log : LogKind) (s : Store) (named : is_db_path db ≡ true) (ready : IsReady db log s) (fine : AreFine s.objects) where
+module _ (db : List ℕ) (log : LogKind) (s : Store) (named : is_db_path db ≡ true) (ready : IsReady db log s) where
   pub ready_at : (b : ℕ) → boundary_at db log s ≡ Some b → IsBelow b (top_of db log s)
-  ready_at b at = subst (λ (o : Option ℕ). IfSome o (λ b. IsBelow b (top_of db log s))) at ready
+  ready_at b at = subst (λ (o : Option ℕ). IfSome o (λ b. IsBelow b (top_of db log s))) at ready.below
 
   pub same_kept : (top : ℕ) → top_of db log s ≡ Some top → Kept db log s s top
-  same_kept top at = record { latest = at; same_boundary = refl; same_version = refl; ready = ready; fine = fine }
+  same_kept top at = record { latest = at; same_boundary = refl; same_version = refl; ready = ready }
 
   module _ (n : ℕ) (bytes : List ℕ) (moment : ℤ) (small : n < 2 ^ 64) where
     abbrev own : ObjectPath
@@ -68,7 +66,7 @@ module _ (db : List ℕ) (log : LogKind) (s : Store) (named : is_db_path db ≡ 
     put = stored own bytes moment s
 
     pub reached_by : (x : StoredObject) → object_at own s ≡ Some x → Reached (top_of db log s) n
-    reached_by x at = reached n (top_of db log s) log db (stands_at_most log db named n small s x fine at)
+    reached_by x at = reached n (top_of db log s) log db (stands_at_most log db named n small s x ready.fine at)
 
     module _ (free : object_at own s ≡ None) where
       pub put_boundary : boundary_at db log put ≡ boundary_at db log s
@@ -78,10 +76,10 @@ module _ (db : List ℕ) (log : LogKind) (s : Store) (named : is_db_path db ≡ 
       put_top = top_stored log db n bytes moment s free
 
       put_fine : AreFine put.objects
-      put_fine = fine_after own bytes moment s (version_fine db named log n small) fine
+      put_fine = fine_after own bytes moment s (version_fine db named log n small) ready.fine
 
       ready_with : (b : ℕ) (top : Option ℕ) → boundary_at db log put ≡ Some b → top_of db log put ≡ top → IsBelow b top → IsReady db log put
-      ready_with b top at is h = subst (λ (o : Option ℕ). IfSome o (λ b. IsBelow b (top_of db log put))) (sym at) (subst (IsBelow b) (sym is) h)
+      ready_with b top at is h = record { fine = put_fine; below = subst (λ (o : Option ℕ). IfSome o (λ b. IsBelow b (top_of db log put))) (sym at) (subst (IsBelow b) (sym is) h) }
 
       gapless_over : (b : ℕ) (top : Option ℕ) → boundary_at db log s ≡ Some b → top_of db log s ≡ top → b < n → IsGapless db log s → IsOver n top
       gapless_over b None at is lt h = tt
@@ -98,19 +96,23 @@ module _ (db : List ℕ) (log : LogKind) (s : Store) (named : is_db_path db ≡ 
         read = put_boundary ∙ at;
         above = lt;
         latest = λ h. put_top ∙ over_top n (top_of db log s) (⊎_elim (λ (g : IsGapless db log s). gapless_over b (top_of db log s) at refl lt g) (λ (o : IsOver n (top_of db log s)). o) h);
-        ready = ready_with b (greater (top_of db log s) (Some n)) (put_boundary ∙ at) put_top (below_more b n (top_of db log s) lt);
-        fine = put_fine;
       }
+
+      pub put_ready : (b : ℕ) → boundary_at db log s ≡ Some b → b < n → IsReady db log put
+      put_ready b at lt = ready_with b (greater (top_of db log s) (Some n)) (put_boundary ∙ at) put_top (below_more b n (top_of db log s) lt)
+
+      -- a log whose boundary is not a number
+      pub bad_ready : boundary_at db log s ≡ None → IsReady db log put
+      bad_ready at = record { fine = put_fine; below = subst (λ (o : Option ℕ). IfSome o (λ b. IsBelow b (top_of db log put))) (sym (put_boundary ∙ at)) tt }
 
       -- a put at or below the boundary changes nothing of the latest version
       pub put_kept : (b m : ℕ) → boundary_at db log s ≡ Some b → top_of db log s ≡ Some m → n ≤ b → b < m → Kept db log s put m
       put_kept b m at is le lt =
           let top : top_of db log put ≡ Some m = put_top ∙ (ap (λ (o : Option ℕ). greater o (Some n)) is ∙ ap Some (omega (arith, le, lt))) in
-          let has = top_object log db s m fine is in
+          let has = top_object log db s m ready.fine is in
           record {
             latest = top;
             same_boundary = put_boundary;
             same_version = ap bytes_of (at_else own (version_path log db m) bytes moment s (versions_apart db named log m n has.small small (λ (e : m ≡ n). absurd (omega (arith, e, le, lt)))));
             ready = ready_with b (Some m) (put_boundary ∙ at) top lt;
-            fine = put_fine;
           }

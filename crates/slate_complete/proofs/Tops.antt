@@ -18,20 +18,19 @@ use Rattle.slate_log.specs.Boundary.{greater, greatest_from}
 use Rattle.slate_log.specs.LogPaths.{folder, number_of, version_path}
 use Rattle.slate_log.specs.declared.log_kind.LogKind.{LogKind}
 use Rattle.slate_log.specs.declared.log_kind.LogKind.TheVariants.{Manifest, Compactions}
-use Rattle.slate_complete.specs.Ready.{top_of}
-use Rattle.slate_complete.specs.Serving.{AreFine}
+use Rattle.slate_complete.specs.Ready.{AreFine, top_of}
 use Rattle.slate_complete.proofs.Entries.{Entries, look, same_bytes, bytes_same, finds, same_found, version_fine, put_object}
 
-abbrev numbers : LogKind → List ℕ → Entries → List ObjectMetadata
+abbrev pub numbers : LogKind → List ℕ → Entries → List ObjectMetadata
 numbers k db es = map metadata (filter (λ o. is_in (folder k db) o.0) es)
 
 -- ---- the versions that a folder lists
 
-number_back : (k : LogKind) (db : List ℕ) (n : ℕ) → number_of k (version_path k db n) ≡ Some n
+pub number_back : (k : LogKind) (db : List ℕ) (n : ℕ) → number_of k (version_path k db n) ≡ Some n
 number_back Manifest db n = refl
 number_back Compactions db n = refl
 
-is_listed : (k : LogKind) (db : List ℕ) (n : ℕ) → is_in (folder k db) (version_path k db n) ≡ true
+pub is_listed : (k : LogKind) (db : List ℕ) (n : ℕ) → is_in (folder k db) (version_path k db n) ≡ true
 is_listed Manifest db n = bytes_same db
 is_listed Compactions db n = bytes_same db
 
@@ -191,7 +190,7 @@ module _ (log : LogKind) (db : List ℕ) where
   greater_swap (Some a) None m = refl
   greater_swap (Some a) (Some b) m = ap Some (max_swap a m b)
 
-  from_swap : (m : ℕ) (best : Option ℕ) (ms : List ObjectMetadata) → greatest_from log (greater best (Some m)) ms ≡ greater (greatest_from log best ms) (Some m)
+  pub from_swap : (m : ℕ) (best : Option ℕ) (ms : List ObjectMetadata) → greatest_from log (greater best (Some m)) ms ≡ greater (greatest_from log best ms) (Some m)
   from_swap m best [] = refl
   from_swap m best (e ∷ ms) = ap (λ (o : Option ℕ). greatest_from log o ms) (greater_swap best (number_of log e.location) m) ∙ from_swap m (greater best (number_of log e.location)) ms
 

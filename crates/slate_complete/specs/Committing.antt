@@ -7,23 +7,20 @@ use Rattle.slate_store.specs.Calls.{Told}
 use Rattle.slate_store.specs.Store.{Store}
 use Rattle.slate_log.specs.Advance.{boundary_at}
 use Rattle.slate_log.specs.declared.log_kind.LogKind.{LogKind}
-use Rattle.slate_complete.specs.Ready.{top_of, IsReady, IsGapless, version_at}
-use Rattle.slate_complete.specs.Serving.{AreFine}
+use Rattle.slate_complete.specs.Ready.{top_of, IsGapless, version_at}
 
 -- a number above every version
 abbrev pub IsOver : ℕ → Option ℕ → Type 0
 IsOver n None = Unit {0}
 IsOver n (Some top) = top < n
 
--- from contents to contents: a version of these bytes stands above the boundary, and is the latest where it was put above all versions or the log had no gap; the log is ready for the next call
+-- from contents to contents: a version of these bytes stands above the boundary, and is the latest where it was put above all versions or the log had no gap
 pub record Stands (db : List ℕ) (log : LogKind) (s t : Store) (n : ℕ) (bytes : List ℕ) : Type 0 where
   pub stands : version_at db log n t ≡ Some bytes
   pub boundary : ℕ
   pub read : boundary_at db log t ≡ Some boundary
   pub above : boundary < n
   pub latest : IsGapless db log s ⊎ IsOver n (top_of db log s) → top_of db log t ≡ Some n
-  pub ready : IsReady db log t
-  pub fine : AreFine t.objects
 
 -- the version stands, or the log has one at or above its number, or the boundary is not a number
 pub data CommitAnswers {T : Type 0} (db : List ℕ) (log : LogKind) (s : Store) (new : Told) (n : ℕ) (bytes : List ℕ) (value : T) (result : Result (ℕ × T) SlateDBError) : Type 0 where

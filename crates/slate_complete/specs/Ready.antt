@@ -1,5 +1,8 @@
 -- A log of which the latest version can be read and followed.
-use Rattle.std.specs.Prelude.{◌≡◌, ◌<◌, ◌≤◌, ℕ, true, List, Option, Some, None, IfSome}
+use Rattle.std.specs.Prelude.{◌≡◌, ◌<◌, ◌≤◌, ℕ, true, List, [], ◌∷◌, Option, Some, None, IfSome}
+use Rattle.slate_ids.specs.FinePath.{IsFine}
+use Rattle.slate_ids.specs.declared.object_path.ObjectPath.{ObjectPath}
+use Rattle.slate_store.specs.Calls.{Told}
 use Rattle.slate_store.specs.Store.{Store, object_at, stands_at, listed}
 use Rattle.slate_store.specs.declared.object.StoredObject.{StoredObject}
 use Rattle.slate_log.specs.Advance.{boundary_at}
@@ -16,9 +19,21 @@ abbrev pub IsBelow : ℕ → Option ℕ → Type 0
 IsBelow boundary None = boundary ≡ 0
 IsBelow boundary (Some n) = boundary < n
 
--- a boundary that can be read is below the greatest number
-abbrev pub IsReady : List ℕ → LogKind → Store → Type 0
-IsReady db log s = IfSome (boundary_at db log s) (λ boundary. IsBelow boundary (top_of db log s))
+-- each object stands at a path that there is
+abbrev pub AreFine : List (ObjectPath × StoredObject) → Type 0
+AreFine [] = Unit {0}
+AreFine (o ∷ os) = IsFine o.0 × AreFine os
+
+-- objects stand at paths that there are, and a boundary that can be read is below the greatest number
+pub record IsReady (db : List ℕ) (log : LogKind) (s : Store) : Type 0 where
+  pub fine : AreFine s.objects
+  pub below : IfSome (boundary_at db log s) (λ boundary. IsBelow boundary (top_of db log s))
+
+-- a call leaves contents in which the log is ready
+pub record LeavesReady (db : List ℕ) (log : LogKind) (new : Told) : Type 0 where
+  pub left : Store
+  pub contents : new.contents ≡ Some left
+  pub ready : IsReady db log left
 
 -- every number above the boundary up to the greatest has a version
 abbrev pub IsGapless : List ℕ → LogKind → Store → Type 0

@@ -8,6 +8,7 @@ mod commits;
 mod deletes;
 mod fences;
 mod holder_reads;
+mod once_calls;
 mod reads;
 mod updates;
 
@@ -17,5 +18,6 @@ pub use commits::commit_ends;
 pub use deletes::delete_ends;
 pub use fences::fence_ends;
 pub use holder_reads::{load_ends, refresh_ends};
+pub use once_calls::once_ends;
 pub use reads::read_ends;
 pub use updates::update_ends;

@@ -18,12 +18,7 @@ pub fn read_ends<T, C>()
         (s : Store) (result : Result (Option (ℕ × T)) Refusal)
         → Read decoded sequenced tries old new result
         → 0 < tries → Serves old new s → IsReady sequenced.db sequenced.log s
-        → ReadAnswers (decoded sequenced.codec) sequenced.db sequenced.log s result }
-    ensures contents { (decoded : C → List ℕ → Result T Refusal) (sequenced : Sequenced T C) (tries : ℕ) (old new : Told)
-        (s : Store) (result : Result (Option (ℕ × T)) Refusal)
-        → Read decoded sequenced tries old new result
-        → 0 < tries → Serves old new s → IsReady sequenced.db sequenced.log s
-        → new.contents ≡ Some s }
+        → ReadAnswers (decoded sequenced.codec) sequenced.db sequenced.log s result × (new.contents ≡ Some s) }
     ensures inside { (decoded : C → List ℕ → Result T Refusal) (sequenced : Sequenced T C) (tries : ℕ) (old new : Told)
         (s : Store) (result : Result (Option (ℕ × T)) Refusal)
         → Read decoded sequenced tries old new result
