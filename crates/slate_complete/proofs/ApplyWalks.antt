@@ -1,15 +1,14 @@
 -- The commit of a change over a store that serves it.
-use Rattle.std.proofs.Common.{◌≡◌, ℕ, ℤ, ◌+◌, ◌-◌, ◌<◌, ◌≤◌, ◌^◌, ◌⊎◌, inl, inr, Bool, true, false, List, Option, Some, None, Result, Ok, Err, refl, sym, ap, ◌∙◌, subst, arith}
+use Rattle.std.proofs.Common.{◌≡◌, ℕ, ℤ, ◌+◌, ◌-◌, ◌<◌, ◌≤◌, ◌^◌, ◌⊎◌, inl, inr, true, List, Option, Some, Result, Ok, Err, refl, sym, ap, ◌∙◌, subst, arith}
 use Rattle.slate_ids.specs.Answers.{ran_out}
 use Rattle.slate_ids.specs.Ids.{is_db_path}
 use Rattle.slate_ids.specs.declared.error.SlateDBError.{SlateDBError}
 use Rattle.slate_ids.specs.declared.error.SlateDBError.TheVariants.{Corrupt}
 use Rattle.slate_ids.specs.declared.error.FormatName.TheVariants.{Boundary as BoundaryFormat}
 use Rattle.slate_store.specs.Calls.{Told}
-use Rattle.slate_store.specs.Machines.{Goes, Stay, End}
+use Rattle.slate_store.specs.Machines.{Stay, End}
 use Rattle.slate_store.specs.Runs.{one_if}
 use Rattle.slate_store.specs.Store.{Store, object_at}
-use Rattle.slate_log.specs.Advance.{boundary_at}
 use Rattle.slate_log.specs.Commit.{never}
 use Rattle.slate_log.specs.CommitPhase.{commit_asks, commit_goes}
 use Rattle.slate_log.specs.LogPaths.{version_path}
@@ -17,9 +16,8 @@ use Rattle.slate_log.specs.ReadPhase.{read_asks, read_goes, is_listing}
 use Rattle.slate_log.specs.declared.commit_phase.CommitPhase.{CommitPhase}
 use Rattle.slate_log.specs.declared.commit_phase.CommitPhase.TheVariants.{Putting, Over as commit_over}
 use Rattle.slate_log.specs.declared.log_kind.LogKind.{LogKind}
-use Rattle.slate_log.specs.declared.read_phase.ReadPhase.{ReadPhase}
 use Rattle.slate_log.specs.declared.read_phase.ReadPhase.TheVariants.{Listing, Over as read_over}
-use Rattle.slate_txn.specs.Apply.{Ways, ApplyState, ApplyGoes, apply_asks, apply_goes, apply_starts, renews, begun, read_on, commit_on, Applied, Begins, Applies}
+use Rattle.slate_txn.specs.Apply.{Ways, ApplyState, ApplyGoes, apply_asks, apply_goes, apply_starts, renews, begun, read_on, commit_on, Begins, Applies}
 use Rattle.slate_txn.specs.Holder.{Holder, at_version}
 use Rattle.slate_txn.specs.declared.apply.ApplyPhase.{ApplyPhase}
 use Rattle.slate_txn.specs.declared.apply.ApplyPhase.TheVariants.{Reading, Committing}
@@ -32,9 +30,9 @@ use Rattle.slate_complete.specs.Reading.{ReadAnswers}
 use Rattle.slate_complete.specs.Reading.ReadAnswers.{NoVersion, Latest, Undecoded, NoBoundary}
 use Rattle.slate_complete.specs.Ready.{top_of, IsReady, LeavesReady, IsLatest, version_at}
 use Rattle.slate_complete.specs.Serving.{Serves}
-use Rattle.slate_complete.proofs.CommitWalks.{CommitEnds, CommitWalk, putting}
+use Rattle.slate_complete.proofs.CommitWalks.{CommitEnds, putting}
 use Rattle.slate_complete.proofs.CommitWalks.CommitEnds.{Done, Late, Bad}
-use Rattle.slate_complete.proofs.LatestReads.{Walk, listing}
+use Rattle.slate_complete.proofs.LatestReads.{listing}
 use Rattle.slate_complete.proofs.Places.{Kept}
 use Rattle.slate_complete.proofs.Renewals.{Renews, renewal, next_fits}
 use Rattle.slate_complete.proofs.Renewals.Renews.{Fails, Leaves, Commits}

@@ -1,5 +1,5 @@
 -- Loads, refreshes and fences over a store that serves them.
-use Rattle.std.proofs.Common.{◌≡◌, ℕ, ℤ, ◌<◌, ◌^◌, ◌⊎◌, inl, inr, true, List, Option, Some, Result, Ok, Err, refl, sym, ap, ◌∙◌, subst}
+use Rattle.std.proofs.Common.{◌≡◌, ℕ, ℤ, ◌<◌, ◌^◌, ◌⊎◌, inl, inr, true, List, Option, Result, Ok, Err, sym, subst}
 use Rattle.slate_ids.specs.Answers.{OrMemory, ran_out}
 use Rattle.slate_ids.specs.Ids.{is_db_path}
 use Rattle.slate_ids.specs.declared.error.SlateDBError.{SlateDBError}
@@ -7,11 +7,11 @@ use Rattle.slate_store.specs.Calls.{Told}
 use Rattle.slate_store.specs.Store.{Store}
 use Rattle.slate_log.specs.ReadLatest.{Read, ReadBegan}
 use Rattle.slate_log.specs.declared.sequenced.Sequenced.{Sequenced}
-use Rattle.slate_txn.specs.Apply.{Ways, Applies}
+use Rattle.slate_txn.specs.Apply.{Ways}
 use Rattle.slate_txn.specs.Fence.{FencedBy, fenced_of}
 use Rattle.slate_txn.specs.FencedHolder.{FencedHolder}
 use Rattle.slate_txn.specs.Holder.{Holder}
-use Rattle.slate_txn.specs.Refreshing.{Refreshes, Refreshed, held_after, refreshed}
+use Rattle.slate_txn.specs.Refreshing.{Refreshes, held_after, refreshed}
 use Rattle.slate_complete.specs.Applying.{ApplyAnswers}
 use Rattle.slate_complete.specs.Reading.{ReadAnswers, AnswersBy}
 use Rattle.slate_complete.specs.Ready.{IsReady, LeavesReady}

@@ -1,8 +1,8 @@
 -- No answer here comes from outside, where none of the codec, the rules and the change does.
-use Rattle.std.proofs.Common.{◌≡◌, ◌≢◌, ℕ, ◌+◌, ◌<◌, ◌⊎◌, inl, inr, Bool, true, false, List, Option, Some, None, Result, Ok, Err, refl, sym, ap, ◌∙◌, subst, arith}
+use Rattle.std.proofs.Common.{◌≡◌, ℕ, ◌<◌, ◌⊎◌, inl, inr, true, false, List, Option, Some, Result, Ok, Err, refl, sym, ◌∙◌, subst, arith}
 use Rattle.slate_ids.specs.Answers.{is_memory, ran_out}
 use Rattle.slate_ids.specs.declared.error.SlateDBError.{SlateDBError}
-use Rattle.slate_ids.specs.declared.error.SlateDBError.TheVariants.{Corrupt, Exhausted, OutOfMemory}
+use Rattle.slate_ids.specs.declared.error.SlateDBError.TheVariants.{OutOfMemory}
 use Rattle.slate_store.specs.Calls.{Told}
 use Rattle.slate_store.specs.Store.{Store}
 use Rattle.slate_log.specs.declared.log_kind.LogKind.{LogKind}

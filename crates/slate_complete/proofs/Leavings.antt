@@ -1,5 +1,5 @@
 -- What the deletion of a version at or below the boundary, and the put of a boundary, leave of a log that is ready.
-use Rattle.std.proofs.Common.{◌≡◌, ◌≢◌, ℕ, ℤ, ◌+◌, ◌<◌, ◌≤◌, ◌^◌, max, Bool, true, false, List, [], ◌∷◌, map, filter, Option, Some, None, IfSome, refl, sym, ap, ◌∙◌, subst, cond, arith}
+use Rattle.std.proofs.Common.{◌≡◌, ◌≢◌, ℕ, ℤ, ◌<◌, ◌≤◌, ◌^◌, max, Bool, true, false, List, [], ◌∷◌, map, filter, Option, Some, None, IfSome, refl, sym, ap, ◌∙◌, subst, cond, arith}
 use Rattle.std.specs.Map.{remove_entry}
 use Rattle.std.specs.BTreeMap.{is_at}
 use Rattle.slate_ids.specs.Ids.{is_db_path}
@@ -7,8 +7,7 @@ use Rattle.slate_ids.specs.PathText.{path_text, path_cmp}
 use Rattle.slate_ids.specs.declared.object_path.ObjectPath.{ObjectPath}
 use Rattle.slate_ids.proofs.PathsApart.{same_path}
 use Rattle.slate_store.specs.Folders.{is_in}
-use Rattle.slate_store.specs.Store.{Store, object_at, stored, removed, metadata}
-use Rattle.slate_store.specs.declared.object.StoredObject.{StoredObject}
+use Rattle.slate_store.specs.Store.{Store, stored, removed, metadata}
 use Rattle.slate_log.specs.Advance.{boundary_at}
 use Rattle.slate_log.specs.Boundary.{boundary_got, greater, greatest_from}
 use Rattle.slate_log.specs.LogPaths.{folder, number_of, version_path, boundary_path}

@@ -1,5 +1,5 @@
 -- What a put of a free number leaves of its log.
-use Rattle.std.proofs.Common.{◌≡◌, ◌≢◌, ℕ, ℤ, ◌+◌, ◌<◌, ◌≤◌, ◌^◌, max, true, List, Option, Some, None, IfSome, ◌⊎◌, inl, inr, ⊎_elim, refl, sym, ap, ◌∙◌, subst, arith}
+use Rattle.std.proofs.Common.{◌≡◌, ℕ, ℤ, ◌<◌, ◌≤◌, ◌^◌, true, List, Option, Some, None, IfSome, ◌⊎◌, ⊎_elim, refl, sym, ap, ◌∙◌, subst, arith}
 use Rattle.slate_ids.specs.Ids.{is_db_path}
 use Rattle.slate_ids.specs.declared.object_path.ObjectPath.{ObjectPath}
 use Rattle.slate_store.specs.Store.{Store, object_at, stands_at, stored}
@@ -11,7 +11,7 @@ use Rattle.slate_log.specs.declared.log_kind.LogKind.{LogKind}
 use Rattle.slate_complete.specs.Committing.{IsOver, Stands}
 use Rattle.slate_complete.specs.Ready.{AreFine, top_of, IsBelow, IsReady, IsGapless, bytes_of, version_at}
 use Rattle.slate_complete.proofs.Entries.{at_put, at_else, fine_after, version_fine, versions_apart, boundary_apart}
-use Rattle.slate_complete.proofs.Tops.{HasObject, top_object, top_stored, IsAtMost, stands_at_most}
+use Rattle.slate_complete.proofs.Tops.{top_object, top_stored, IsAtMost, stands_at_most}
 
 -- contents with the same latest version and the same boundary, ready for the next call
 pub record Kept (db : List ℕ) (log : LogKind) (s t : Store) (top : ℕ) : Type 0 where

@@ -1,6 +1,5 @@
 -- A run over a store that serves it, call by call.
-use Rattle.std.proofs.Common.{◌≡◌, ℕ, ◌+◌, ◌<◌, ◌≤◌, ◌⊎◌, inl, inr, ℤ, min, Bool, true, false, if◌then◌else◌, List, [], ◌∷◌, Option, Some, Result, Err, refl, sym, ap, ◌∙◌, subst, arith}
-use Rattle.slate_ids.specs.Limits.{last_number, next_count}
+use Rattle.std.proofs.Common.{◌≡◌, ℕ, ◌+◌, ◌<◌, ◌≤◌, ◌⊎◌, inl, inr, ℤ, Bool, true, false, if◌then◌else◌, List, [], ◌∷◌, Option, Some, Result, Err, sym, ap, ◌∙◌, subst, arith}
 use Rattle.slate_ids.specs.declared.error.SlateDBError.{SlateDBError}
 use Rattle.slate_ids.specs.declared.error.SlateDBError.TheVariants.{Contended}
 use Rattle.slate_store.specs.Calls.{Told, Makes, Rose, IfFault, Answers, contents_after, moment_of}

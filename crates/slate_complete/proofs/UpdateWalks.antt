@@ -1,5 +1,5 @@
 -- An update over a store that serves it.
-use Rattle.std.proofs.Common.{◌≡◌, ◌≢◌, ℕ, ℤ, ◌+◌, ◌==◌, ◌<◌, ◌^◌, ◌⊎◌, inl, inr, Bool, true, false, if◌then◌else◌, List, Option, Some, None, Result, Ok, Err, refl, sym, ap, ◌∙◌, subst, arith}
+use Rattle.std.proofs.Common.{◌≡◌, ◌≢◌, ℕ, ℤ, ◌+◌, ◌==◌, ◌<◌, ◌^◌, ◌⊎◌, inl, inr, Bool, true, false, if◌then◌else◌, List, Option, None, Result, Ok, Err, refl, sym, ap, ◌∙◌, subst, arith}
 use Rattle.std.proofs.lemmas.Bool.Decides.{nat_tests}
 use Rattle.slate_ids.specs.Answers.{ran_out}
 use Rattle.slate_ids.specs.Ids.{is_db_path}
@@ -11,7 +11,7 @@ use Rattle.slate_log.specs.CommitPhase.{prepared}
 use Rattle.slate_log.specs.declared.commit_phase.CommitPhase.{CommitPhase}
 use Rattle.slate_log.specs.declared.right.Right.{Right}
 use Rattle.slate_txn.specs.Holder.{Holder}
-use Rattle.slate_txn.specs.Updating.{started, done_of, Updated, Updates}
+use Rattle.slate_txn.specs.Updating.{done_of, Updated, Updates}
 use Rattle.slate_txn.specs.declared.stored.DirtyObject.{DirtyObject}
 use Rattle.slate_complete.specs.Committing.{CommitAnswers}
 use Rattle.slate_complete.specs.Committing.CommitAnswers.{IsCommitted, IsBehind as CommitBehind, NoBoundary as CommitUnbounded}

@@ -1,5 +1,5 @@
 -- What the commit of a change of the version held answers, with two tries or more.
-use Rattle.std.specs.Prelude.{◌≡◌, ℕ, ◌+◌, List, Option, Some, None, Result, Ok, Err}
+use Rattle.std.specs.Prelude.{◌≡◌, ℕ, ◌+◌, List, Some, None, Result, Ok, Err}
 use Rattle.slate_ids.specs.declared.error.SlateDBError.{SlateDBError}
 use Rattle.slate_ids.specs.declared.error.SlateDBError.TheVariants.{Corrupt}
 use Rattle.slate_ids.specs.declared.error.FormatName.TheVariants.{Boundary as BoundaryFormat}

@@ -1,5 +1,5 @@
 -- Refusals that come from outside a call.
-use Rattle.std.specs.Prelude.{◌≡◌, ℕ, Bool, true, false, List, Option, Some, Result, Err}
+use Rattle.std.specs.Prelude.{◌≡◌, ℕ, Bool, true, false, Option, Some, Result, Err}
 use Rattle.slate_ids.specs.declared.error.SlateDBError.{SlateDBError}
 use Rattle.slate_ids.specs.declared.error.SlateDBError.TheVariants.{Contended, StoreFault, TransactionalObjectVersionExists}
 use Rattle.slate_log.specs.declared.right.Right.{Right}
