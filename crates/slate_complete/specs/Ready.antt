@@ -29,6 +29,10 @@ pub record IsReady (db : List ℕ) (log : LogKind) (s : Store) : Type 0 where
   pub fine : AreFine s.objects
   pub below : IfSome (boundary_at db log s) (λ boundary. IsBelow boundary (top_of db log s))
 
+-- a store without objects, whose last tag is this
+abbrev pub nothing : ℕ → Store
+nothing tag = record { objects = []; last_tag = tag }
+
 -- a call leaves contents in which the log is ready
 pub record LeavesReady (db : List ℕ) (log : LogKind) (new : Told) : Type 0 where
   pub left : Store

@@ -4,6 +4,7 @@
 
 mod advances;
 mod applies;
+mod beginnings;
 mod commits;
 mod deletes;
 mod fences;
@@ -14,6 +15,7 @@ mod updates;
 
 pub use advances::advance_ends;
 pub use applies::apply_ends;
+pub use beginnings::first_ready;
 pub use commits::commit_ends;
 pub use deletes::delete_ends;
 pub use fences::fence_ends;
