@@ -1,10 +1,14 @@
 pub mod Raise
 pub mod Holder
+pub mod Starts
+pub mod Creating
 pub mod Updating
 pub mod Standing
 pub mod Loading
 pub mod Apply
 pub mod Changing
+pub mod Moves
+pub mod ApplyMoves
 pub mod FencedHolder
 pub mod Fencing
 pub mod Fence
