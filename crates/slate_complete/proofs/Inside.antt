@@ -25,7 +25,7 @@ use Rattle.slate_complete.specs.Ready.{top_of, LeavesReady}
 use Rattle.slate_complete.specs.Updating.{UpdateAnswers}
 use Rattle.slate_complete.specs.Updating.UpdateAnswers.{IsUpdated, IsOther, IsBehind, ByNumber as LastNumber, ByRules as UpdateRules, ByCodec as UpdateCodec, NoBoundary as NotUpdated}
 
-same_error : {X : Type 0} (result : Result X SlateDBError) (a b : SlateDBError) → result ≡ Err a → result ≡ Err b → is_outside a ≡ false → is_outside b ≡ false
+pub same_error : {X : Type 0} (result : Result X SlateDBError) (a b : SlateDBError) → result ≡ Err a → result ≡ Err b → is_outside a ≡ false → is_outside b ≡ false
 same_error result a b e f h = let same : a ≡ b = cc in subst (λ (e : SlateDBError). is_outside e ≡ false) same h
 
 memory_inside : (e : SlateDBError) → is_memory e ≡ true → is_outside e ≡ false

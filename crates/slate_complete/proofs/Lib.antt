@@ -12,3 +12,4 @@ mod BoundaryWalks
 mod HolderReads
 mod Inside
 mod OneCalls
+mod FirstVersions

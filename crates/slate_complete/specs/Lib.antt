@@ -8,3 +8,4 @@ pub mod Advancing
 pub mod Deleting
 pub mod Updating
 pub mod Outside
+pub mod Creating
