@@ -1,5 +1,5 @@
 -- A commit over a store that serves it, also within another machine.
-use Rattle.std.proofs.Common.{◌≡◌, ℕ, ℤ, ◌+◌, ◌<◌, ◌≤◌, ◌^◌, Bool, true, false, nat_le, if◌then◌else◌, List, Option, Some, None, Result, Ok, Err, refl, ap, ◌∙◌, subst, arith}
+use Rattle.std.proofs.Common.{◌≡◌, ℕ, ℤ, ◌+◌, ◌<◌, ◌≤◌, ◌^◌, Bool, true, false, nat_le, if◌then◌else◌, List, Option, Some, None, Result, Ok, Err, refl, sym, ap, ◌∙◌, subst, arith}
 use Rattle.std.proofs.lemmas.Bool.Decides.{nat_tests}
 use Rattle.slate_ids.specs.Ids.{is_db_path}
 use Rattle.slate_ids.specs.declared.error.SlateDBError.{SlateDBError}
@@ -25,7 +25,7 @@ use Rattle.slate_complete.specs.Committing.CommitAnswers.{IsCommitted, IsBehind,
 use Rattle.slate_complete.specs.Ready.{top_of, IsReady, LeavesReady}
 use Rattle.slate_complete.specs.Serving.{Serves}
 use Rattle.slate_complete.proofs.Places.{Kept, passed, ready_at, same_kept, put, reached_by, put_boundary, put_stands, put_ready, bad_ready, put_kept}
-use Rattle.slate_complete.proofs.Turns.{Rest, Within, step_in, stay_in, ended, before}
+use Rattle.slate_complete.proofs.Turns.{RestBy, Within, one_way, step_in, stay_in, ended, before}
 
 le_told : (n b : ℕ) → nat_le n b ≡ true → n ≤ b
 le_told n b h = grind (arith, nat_tests, h)
@@ -39,11 +39,11 @@ pub data CommitEnds {T : Type 0} (db : List ℕ) (log : LogKind) (s t : Store) (
   Late : (top : ℕ) (boundary : Option ℕ) → top_of db log s ≡ Some top → n ≤ top → Kept db log s t top → reply ≡ Err (TransactionalObjectVersionExists n boundary) → CommitEnds db log s t n bytes value reply
   Bad : boundary_at db log s ≡ None → reply ≡ Err (Corrupt BoundaryFormat) → CommitEnds db log s t n bytes value reply
 
-module _ {T : Type 0} (db : List ℕ) (log : LogKind) {Q S : Type 0} (starts : Q → Bool) (asks : Q → StoreCall) (goes : Q → StoreAnswer → Goes Q S) (enter : CommitPhase T → Q) (on : CommitGoes T → Goes Q S)
-    (within : Within never (commit_asks db log) commit_goes starts asks goes enter on) (moment : ℤ) (s : Store) (named : is_db_path db ≡ true) (ready : IsReady db log s)
+module _ {T : Type 0} (db : List ℕ) (log : LogKind) {Q S : Type 0} (starts : Q → Bool) (asks : Q → StoreCall) (may : Q → StoreAnswer → Goes Q S → Type 0) (enter : CommitPhase T → Q) (on : CommitGoes T → Goes Q S → Type 0)
+    (within : Within never (commit_asks db log) commit_goes starts asks may enter on) (moment : ℤ) (s : Store) (named : is_db_path db ≡ true) (ready : IsReady db log s)
     (n : ℕ) (bytes : List ℕ) (value : T) (pos : 0 < n) (small : n < 2 ^ 64) (left : ℕ) (some : 0 < left) (new : Told) (to : Q) (result : Result S SlateDBError) where
   abbrev Left : ℕ → Store → Goes Q S → Type 0
-  Left left s from = Rest starts asks goes moment left s from new to result
+  Left left s from = RestBy starts asks may moment left s from new to result
 
   -- the commit ends with its answer, and the machine around it goes on by that
   pub record CommitWalk : Type 0 where
@@ -51,7 +51,9 @@ module _ {T : Type 0} (db : List ℕ) (log : LogKind) {Q S : Type 0} (starts : Q
     pub reply : Result (ℕ × T) SlateDBError
     pub ends : CommitEnds db log s after n bytes value reply
     pub ready_then : IsReady db log after
-    pub go : (rest : ℕ) → rest + one_if starts (on (End Over reply)) ≡ left → Left rest after (on (End Over reply))
+    pub there : Goes Q S
+    pub moved : on (End Over reply) there
+    pub go : (rest : ℕ) → rest + one_if starts there ≡ left → Left rest after there
 
   abbrev after_put : Store
   after_put = put db log s named ready n bytes moment small
@@ -64,31 +66,43 @@ module _ {T : Type 0} (db : List ℕ) (log : LogKind) {Q S : Type 0} (starts : Q
     by_test b at true is =
         let le = le_told n b is in
         let past = passed (top_of db log s) n b pos le (ready_at db log s named ready b at) in
+        let kept = put_kept db log s named ready n bytes moment small free b past.number at past.is le past.below in
+        let o = step_in never (commit_asks db log) commit_goes starts asks may enter on within moment left after_put (Bounding n value) new to result from some (End Over (Err (TransactionalObjectVersionExists n (Some b))))
+        (bounds (Some b) at ∙ ap (λ (t : Bool). if t then End Over (Err (TransactionalObjectVersionExists n (Some b))) else End Over (Ok (n, value))) is) in
         record {
           after = after_put;
           reply = Err (TransactionalObjectVersionExists n (Some b));
-          ends = Late past.number (Some b) past.is (let lt = past.below in omega (arith, le, lt)) (put_kept db log s named ready n bytes moment small free b past.number at past.is le past.below) refl;
-          ready_then = (put_kept db log s named ready n bytes moment small free b past.number at past.is le past.below).ready;
-          go = λ rest used. step_in never (commit_asks db log) commit_goes starts asks goes enter on within moment left rest after_put (Bounding n value) (End Over (Err (TransactionalObjectVersionExists n (Some b)))) new to result from
-              (bounds (Some b) at ∙ ap (λ (t : Bool). if t then End Over (Err (TransactionalObjectVersionExists n (Some b))) else End Over (Ok (n, value))) is) some used;
+          ends = Late past.number (Some b) past.is (let lt = past.below in omega (arith, le, lt)) kept refl;
+          ready_then = kept.ready;
+          there = o.there;
+          moved = o.moved;
+          go = o.go;
         }
-    by_test b at false is = record {
-      after = after_put;
-      reply = Ok (n, value);
-      ends = Done (put_stands db log s named ready n bytes moment small free b at (lt_told n b is)) refl;
-      ready_then = put_ready db log s named ready n bytes moment small free b at (lt_told n b is);
-      go = λ rest used. step_in never (commit_asks db log) commit_goes starts asks goes enter on within moment left rest after_put (Bounding n value) (End Over (Ok (n, value))) new to result from
-          (bounds (Some b) at ∙ ap (λ (t : Bool). if t then End Over (Err (TransactionalObjectVersionExists n (Some b))) else End Over (Ok (n, value))) is) some used;
-    }
+    by_test b at false is =
+        let o = step_in never (commit_asks db log) commit_goes starts asks may enter on within moment left after_put (Bounding n value) new to result from some (End Over (Ok (n, value)))
+        (bounds (Some b) at ∙ ap (λ (t : Bool). if t then End Over (Err (TransactionalObjectVersionExists n (Some b))) else End Over (Ok (n, value))) is) in
+        record {
+          after = after_put;
+          reply = Ok (n, value);
+          ends = Done (put_stands db log s named ready n bytes moment small free b at (lt_told n b is)) refl;
+          ready_then = put_ready db log s named ready n bytes moment small free b at (lt_told n b is);
+          there = o.there;
+          moved = o.moved;
+          go = o.go;
+        }
 
     bounding : (boundary : Option ℕ) → boundary_at db log s ≡ boundary → CommitWalk
-    bounding None at = record {
-      after = after_put;
-      reply = Err (Corrupt BoundaryFormat);
-      ends = Bad at refl;
-      ready_then = bad_ready db log s named ready n bytes moment small free at;
-      go = λ rest used. step_in never (commit_asks db log) commit_goes starts asks goes enter on within moment left rest after_put (Bounding n value) (End Over (Err (Corrupt BoundaryFormat))) new to result from (bounds None at) some used;
-    }
+    bounding None at =
+        let o = step_in never (commit_asks db log) commit_goes starts asks may enter on within moment left after_put (Bounding n value) new to result from some (End Over (Err (Corrupt BoundaryFormat))) (bounds None at) in
+        record {
+          after = after_put;
+          reply = Err (Corrupt BoundaryFormat);
+          ends = Bad at refl;
+          ready_then = bad_ready db log s named ready n bytes moment small free at;
+          there = o.there;
+          moved = o.moved;
+          go = o.go;
+        }
     bounding (Some b) at = by_test b at (nat_le n b) refl
 
   -- the put at what stands there
@@ -101,18 +115,20 @@ module _ {T : Type 0} (db : List ℕ) (log : LogKind) {Q S : Type 0} (starts : Q
   pub putting : Left left s (Stay (enter (Putting n bytes value))) → (o : Option StoredObject) → object_at (version_path log db n) s ≡ o → CommitWalk
   putting from (Some x) at =
       let at_top = reached_by db log s named ready n bytes moment small x at in
+      let o = step_in never (commit_asks db log) commit_goes starts asks may enter on within moment left s (Putting n bytes value) new to result from some (End Over (Err (TransactionalObjectVersionExists n None))) (puts (Some x) at) in
       record {
         after = s;
         reply = Err (TransactionalObjectVersionExists n None);
         ends = Late at_top.number None at_top.is at_top.reached (same_kept db log s named ready at_top.number at_top.is) refl;
         ready_then = ready;
-        go = λ rest used. subst (λ (t : Store). Left rest t (on (End Over (Err (TransactionalObjectVersionExists n None))))) (leaves (Some x) at)
-            (step_in never (commit_asks db log) commit_goes starts asks goes enter on within moment left rest s (Putting n bytes value) (End Over (Err (TransactionalObjectVersionExists n None))) new to result from (puts (Some x) at) some used);
+        there = o.there;
+        moved = o.moved;
+        go = λ rest used. subst (λ (t : Store). Left rest t o.there) (leaves (Some x) at) (o.go rest used);
       }
   putting from None at =
       bounding at
       (subst (λ (t : Store). Left left t (Stay (enter (Bounding n value)))) (leaves None at)
-      (stay_in never (commit_asks db log) commit_goes starts asks goes enter on within moment left s (Putting n bytes value) (Bounding n value) new to result from (puts None at) some refl))
+      (stay_in never (commit_asks db log) commit_goes starts asks may enter on within moment left s (Putting n bytes value) new to result from some (Bounding n value) (puts None at) refl))
       (boundary_at db log s) refl
 
 -- ---- the plain commit
@@ -121,8 +137,8 @@ module _ {T : Type 0} (db : List ℕ) (log : LogKind) (n : ℕ) (bytes : List �
   own_asks : CommitPhase T → StoreCall
   own_asks = commit_asks db log
 
-  alone : Within never (commit_asks {T = T} db log) commit_goes never (commit_asks {T = T} db log) commit_goes (λ p. p) (λ g. g)
-  alone = record { same_call = λ p. refl; goes_by = λ p a. refl; stays = λ p. refl; same_start = λ p. refl }
+  alone : Within never (commit_asks {T = T} db log) commit_goes never (commit_asks {T = T} db log) (one_way commit_goes) (λ p. p) (λ g out. g ≡ out)
+  alone = record { same_call = λ p. refl; goes_by = λ p a out e. e; stays = λ p out e. e; same_start = λ p. refl }
 
   answers : (s t : Store) (new : Told) (reply result : Result (ℕ × T) SlateDBError) → CommitEnds db log s t n bytes value reply → result ≡ reply → new.contents ≡ Some t → CommitAnswers db log s new n bytes value result
   answers s t new reply result (Done stands is) same told = IsCommitted t told stands (same ∙ is)
@@ -133,8 +149,10 @@ module _ {T : Type 0} (db : List ℕ) (log : LogKind) (n : ℕ) (bytes : List �
       → Committed db log moment old new (Putting n bytes value) result → is_db_path db ≡ true → 0 < n → n < 2 ^ 64 → Serves old new s → IsReady db log s
       → CommitAnswers db log s new n bytes value result × LeavesReady db log new
   commit_ends moment old new s result ran named pos small serves ready =
-      let walk = putting db log never (commit_asks db log) commit_goes (λ p. p) (λ g. g) alone moment s named ready n bytes value pos small 1 (omega arith) new ran.0 result
+      let walk = putting db log never (commit_asks db log) (one_way commit_goes) (λ p. p) (λ g out. g ≡ out) alone moment s named ready n bytes value pos small 1 (omega arith) new ran.0 result
       (before never (commit_asks db log) commit_goes moment 1 s old new (Putting n bytes value) ran.0 result ran.1 serves.contents serves.calm)
       (object_at (version_path log db n) s) refl in
-      let end = ended never (commit_asks db log) commit_goes moment 1 walk.after Over walk.reply new ran.0 result (walk.go 1 (omega arith)) in
+      let rest : (rest : ℕ) → rest + one_if {P = CommitPhase T} {R = ℕ × T} never (End Over walk.reply) ≡ 1 → RestBy never (commit_asks db log) (one_way commit_goes) moment rest walk.after (End Over walk.reply) new ran.0 result =
+      subst (λ (g : CommitGoes T). (rest : ℕ) → rest + one_if never g ≡ 1 → RestBy never (commit_asks db log) (one_way commit_goes) moment rest walk.after g new ran.0 result) (sym walk.moved) walk.go in
+      let end = ended never (commit_asks db log) commit_goes moment 1 walk.after Over walk.reply new ran.0 result (rest 1 (omega arith)) in
       (answers s walk.after new walk.reply result walk.ends end.answer end.contents, record { left = walk.after; contents = end.contents; ready = walk.ready_then })

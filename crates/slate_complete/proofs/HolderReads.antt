@@ -13,6 +13,7 @@ use Rattle.slate_txn.specs.FencedHolder.{FencedHolder}
 use Rattle.slate_txn.specs.Holder.{Holder}
 use Rattle.slate_txn.specs.Refreshing.{Refreshes, held_after, refreshed}
 use Rattle.slate_complete.specs.Applying.{ApplyAnswers}
+use Rattle.slate_complete.specs.Changing.{may_of}
 use Rattle.slate_complete.specs.Reading.{ReadAnswers, AnswersBy}
 use Rattle.slate_complete.specs.Ready.{IsReady, LeavesReady}
 use Rattle.slate_complete.specs.Serving.{Serves}
@@ -51,13 +52,13 @@ module _ {T C R E : Type 0} (epoch : E → T → ℕ) (ways : Ways T C R) (new :
   memory (Ok u) same out = absurd cc
   memory (Err e) same out = subst (λ (r : Result (FencedHolder T C R E) SlateDBError). ran_out r ≡ true) same out
 
-  by_apply : (reply : Result (Unit {0}) SlateDBError) → fenced_of epoch epochs to reply ≡ result → (ApplyAnswers ways s new holder to reply × LeavesReady holder.sequenced.db holder.sequenced.log new) ⊎ (ran_out reply ≡ true)
-      → ((to : Holder T C R) × (reply : Result (Unit {0}) SlateDBError) × ApplyAnswers ways s new holder to reply × (fenced_of epoch epochs to reply ≡ result) × LeavesReady holder.sequenced.db holder.sequenced.log new) ⊎ (ran_out result ≡ true)
+  by_apply : (reply : Result (Unit {0}) SlateDBError) → fenced_of epoch epochs to reply ≡ result → (ApplyAnswers (may_of ways) s new holder to reply × LeavesReady holder.sequenced.db holder.sequenced.log new) ⊎ (ran_out reply ≡ true)
+      → ((to : Holder T C R) × (reply : Result (Unit {0}) SlateDBError) × ApplyAnswers (may_of ways) s new holder to reply × (fenced_of epoch epochs to reply ≡ result) × LeavesReady holder.sequenced.db holder.sequenced.log new) ⊎ (ran_out result ≡ true)
   by_apply reply same (inl answers) = inl (to, reply, answers.0, same, answers.1)
   by_apply reply same (inr out) = inr (memory reply same out)
 
 pub fence_ends : {T C R E : Type 0} (epoch : E → T → ℕ) (ways : Ways T C R) (moment : ℤ) (tries : ℕ) (old new : Told) (s : Store) (holder : Holder T C R) (epochs : E) (result : Result (FencedHolder T C R E) SlateDBError)
     → FencedBy epoch ways moment tries old new holder epochs result → 1 < tries → is_db_path holder.sequenced.db ≡ true → holder.id < 2 ^ 64 → Serves old new s → IsReady holder.sequenced.db holder.sequenced.log s
-    → ((to : Holder T C R) × (reply : Result (Unit {0}) SlateDBError) × ApplyAnswers ways s new holder to reply × (fenced_of epoch epochs to reply ≡ result) × LeavesReady holder.sequenced.db holder.sequenced.log new) ⊎ (ran_out result ≡ true)
+    → ((to : Holder T C R) × (reply : Result (Unit {0}) SlateDBError) × ApplyAnswers (may_of ways) s new holder to reply × (fenced_of epoch epochs to reply ≡ result) × LeavesReady holder.sequenced.db holder.sequenced.log new) ⊎ (ran_out result ≡ true)
 fence_ends epoch ways moment tries old new s holder epochs result by two named small serves ready =
     by_apply epoch ways new s holder by.to epochs result by.reply by.same (apply_ends ways moment tries old new s holder by.to by.reply by.applies two named small serves ready)

@@ -7,7 +7,7 @@ use Rattle.slate_store.specs.Calls.{Told}
 use Rattle.slate_store.specs.Store.{Store}
 use Rattle.slate_log.specs.declared.log_kind.LogKind.{LogKind}
 use Rattle.slate_log.specs.declared.right.Right.{Right}
-use Rattle.slate_txn.specs.Apply.{Ways}
+use Rattle.slate_txn.specs.ApplyMoves.{MayWays}
 use Rattle.slate_txn.specs.Holder.{Holder}
 use Rattle.slate_txn.specs.declared.stored.DirtyObject.{DirtyObject}
 use Rattle.slate_complete.specs.Advancing.{AdvanceAnswers}
@@ -52,9 +52,9 @@ module _ {T : Type 0} (db : List ℕ) (log : LogKind) (s : Store) (new : Told) (
   commit_inside (NotOver top boundary at le is) e same = let lt : top < n = subst (IsOver n) at over in absurd (omega (arith, lt, le))
   commit_inside (NotCommitted none is) e same = same_error result _ e is same refl
 
-module _ {T C R : Type 0} (ways : Ways T C R) (inside : WaysInside ways) (s : Store) (new : Told) (from to : Holder T C R) (result : Result (Unit {0}) SlateDBError) where
+module _ {T C R : Type 0} (ways : MayWays T C R) (inside : WaysInside ways) (s : Store) (new : Told) (from to : Holder T C R) (result : Result (Unit {0}) SlateDBError) where
   refusal_inside : (id : ℕ) (value : T) (e : SlateDBError) → IsRefusal ways from id value e → is_outside e ≡ false
-  refusal_inside id value e (ByChange at) = inside.changes id value e at
+  refusal_inside id value e (ByChange at) = inside.changes id value (Err e) at e refl
   refusal_inside id value e (ByNumber last is) = subst (λ (e : SlateDBError). is_outside e ≡ false) (sym is) refl
   refusal_inside id value e (ByRules wanted made at) = inside.allows from.rules id value wanted ways.right e at
   refusal_inside id value e (ByCodec wanted made at) = inside.encodes from.sequenced.codec wanted e at

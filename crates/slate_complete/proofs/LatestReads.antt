@@ -24,7 +24,7 @@ use Rattle.slate_complete.specs.Reading.{ReadAnswers}
 use Rattle.slate_complete.specs.Reading.ReadAnswers.{NoVersion, Latest, Undecoded, NoBoundary}
 use Rattle.slate_complete.specs.Ready.{top_of, IsBelow, IsReady, bytes_of, IsLatest}
 use Rattle.slate_complete.specs.Serving.{Serves}
-use Rattle.slate_complete.proofs.Turns.{Rest, Within, step_in, stay_in, ended, before}
+use Rattle.slate_complete.proofs.Turns.{RestBy, Within, one_way, step_in, stay_in, ended, before}
 use Rattle.slate_complete.proofs.Tops.{top_object}
 
 below_not : (n b : ℕ) → b < n → nat_le n b ≡ false
@@ -45,52 +45,45 @@ module _ {T : Type 0} (decoded : List ℕ → Result T SlateDBError) (db : List 
   above : (n : ℕ) (value : T) (boundary : ℕ) → boundary < n → above_goes n value boundary ≡ End Over (Ok (Some (n, value)))
   above n value boundary h = ap (λ (b : Bool). if b then Stay Listing else End Over (Ok (Some (n, value)))) (below_not n boundary h)
 
-  module _ {Q S : Type 0} (starts : Q → Bool) (asks : Q → StoreCall) (goes : Q → StoreAnswer → Goes Q S) (enter : ReadPhase T → Q) (on : Reply T → Goes Q S)
-      (within : Within is_listing (read_asks db log) (read_goes log decoded) starts asks goes enter on) (moment : ℤ) (ready : IsReady db log s) (left : ℕ) (some : 0 < left) (new : Told) (to : Q) (result : Result S SlateDBError) where
+  module _ {Q S : Type 0} (starts : Q → Bool) (asks : Q → StoreCall) (may : Q → StoreAnswer → Goes Q S → Type 0) (enter : ReadPhase T → Q) (on : Reply T → Goes Q S → Type 0)
+      (within : Within is_listing (read_asks db log) (read_goes log decoded) starts asks may enter on) (moment : ℤ) (ready : IsReady db log s) (left : ℕ) (some : 0 < left) (new : Told) (to : Q) (result : Result S SlateDBError) where
     abbrev Left : ℕ → Goes Q S → Type 0
-    Left left from = Rest starts asks goes moment left s from new to result
+    Left left from = RestBy starts asks may moment left s from new to result
 
     -- the read ends with its answer, and the machine around it goes on by that
     pub record Walk : Type 0 where
       pub reply : Result (Option (ℕ × T)) SlateDBError
       pub answers : ReadAnswers decoded db log s reply
-      pub go : (rest : ℕ) → rest + one_if starts (on (End Over reply)) ≡ left → Left rest (on (End Over reply))
+      pub there : Goes Q S
+      pub moved : on (End Over reply) there
+      pub go : (rest : ℕ) → rest + one_if starts there ≡ left → Left rest there
 
     bounding : (n : ℕ) (bytes : List ℕ) (value : T) → IsLatest db log s n bytes → decoded bytes ≡ Ok value → Left left (Stay (enter (Bounding n value))) → (boundary : Option ℕ) → boundary_at db log s ≡ boundary → Walk
-    bounding n bytes value latest reads from None at = record {
-      reply = Err (Corrupt BoundaryFormat);
-      answers = NoBoundary at refl;
-      go = λ rest used. step_in is_listing (read_asks db log) (read_goes log decoded) starts asks goes enter on within moment left rest s (Bounding n value) (End Over (Err (Corrupt BoundaryFormat))) new to result from (bounds n value None at) some used;
-    }
+    bounding n bytes value latest reads from None at =
+        let o = step_in is_listing (read_asks db log) (read_goes log decoded) starts asks may enter on within moment left s (Bounding n value) new to result from some (End Over (Err (Corrupt BoundaryFormat))) (bounds n value None at) in
+        record { reply = Err (Corrupt BoundaryFormat); answers = NoBoundary at refl; there = o.there; moved = o.moved; go = o.go }
     bounding n bytes value latest reads from (Some boundary) at =
         let below : IsBelow boundary (Some n) = subst (IsBelow boundary) latest.top (subst (λ (o : Option ℕ). IfSome o (λ b. IsBelow b (top_of db log s))) at ready.below) in
-        record {
-          reply = Ok (Some (n, value));
-          answers = Latest n bytes value latest reads refl;
-          go = λ rest used. step_in is_listing (read_asks db log) (read_goes log decoded) starts asks goes enter on within moment left rest s (Bounding n value) (End Over (Ok (Some (n, value)))) new to result from (bounds n value (Some boundary) at ∙ above n value boundary below) some used;
-        }
+        let o = step_in is_listing (read_asks db log) (read_goes log decoded) starts asks may enter on within moment left s (Bounding n value) new to result from some (End Over (Ok (Some (n, value)))) (bounds n value (Some boundary) at ∙ above n value boundary below) in
+        record { reply = Ok (Some (n, value)); answers = Latest n bytes value latest reads refl; there = o.there; moved = o.moved; go = o.go }
 
     getting : (n : ℕ) (object : StoredObject) → top_of db log s ≡ Some n → object_at (version_path log db n) s ≡ Some object → Left left (Stay (enter (Getting n))) → (reply : Result T SlateDBError) → decoded object.bytes ≡ reply → Walk
-    getting n object top at from (Err e) refuses = record {
-      reply = Err e;
-      answers = Undecoded n object.bytes e (record { top = top; stands = ap bytes_of at }) refuses refl;
-      go = λ rest used. step_in is_listing (read_asks db log) (read_goes log decoded) starts asks goes enter on within moment left rest s (Getting n) (End Over (Err e)) new to result from (gets n object (Err e) at refuses) some used;
-    }
+    getting n object top at from (Err e) refuses =
+        let o = step_in is_listing (read_asks db log) (read_goes log decoded) starts asks may enter on within moment left s (Getting n) new to result from some (End Over (Err e)) (gets n object (Err e) at refuses) in
+        record { reply = Err e; answers = Undecoded n object.bytes e (record { top = top; stands = ap bytes_of at }) refuses refl; there = o.there; moved = o.moved; go = o.go }
     getting n object top at from (Ok value) reads =
         bounding n object.bytes value (record { top = top; stands = ap bytes_of at }) reads
-        (stay_in is_listing (read_asks db log) (read_goes log decoded) starts asks goes enter on within moment left s (Getting n) (Bounding n value) new to result from (gets n object (Ok value) at reads) some refl)
+        (stay_in is_listing (read_asks db log) (read_goes log decoded) starts asks may enter on within moment left s (Getting n) new to result from some (Bounding n value) (gets n object (Ok value) at reads) refl)
         (boundary_at db log s) refl
 
     pub listing : Left left (Stay (enter Listing)) → (top : Option ℕ) → top_of db log s ≡ top → Walk
-    listing from None at = record {
-      reply = Ok None;
-      answers = NoVersion at refl;
-      go = λ rest used. step_in is_listing (read_asks db log) (read_goes log decoded) starts asks goes enter on within moment left rest s Listing (End Over (Ok None)) new to result from (lists None at) some used;
-    }
+    listing from None at =
+        let o = step_in is_listing (read_asks db log) (read_goes log decoded) starts asks may enter on within moment left s Listing new to result from some (End Over (Ok None)) (lists None at) in
+        record { reply = Ok None; answers = NoVersion at refl; there = o.there; moved = o.moved; go = o.go }
     listing from (Some n) at =
         let has = top_object log db s n ready.fine at in
         getting n has.object at has.at
-        (stay_in is_listing (read_asks db log) (read_goes log decoded) starts asks goes enter on within moment left s Listing (Getting n) new to result from (lists (Some n) at) some refl)
+        (stay_in is_listing (read_asks db log) (read_goes log decoded) starts asks may enter on within moment left s Listing new to result from some (Getting n) (lists (Some n) at) refl)
         (decoded has.object.bytes) refl
 
 -- ---- the plain read
@@ -102,15 +95,17 @@ module _ {T C : Type 0} (decoded : C → List ℕ → Result T SlateDBError) (se
   abbrev own_goes : ReadPhase T → StoreAnswer → Reply T
   own_goes = read_goes sequenced.log (decoded sequenced.codec)
 
-  alone : Within is_listing own_asks own_goes is_listing own_asks own_goes (λ p. p) (λ g. g)
-  alone = record { same_call = λ p. refl; goes_by = λ p a. refl; stays = λ p. refl; same_start = λ p. refl }
+  alone : Within is_listing own_asks own_goes is_listing own_asks (one_way own_goes) (λ p. p) (λ g out. g ≡ out)
+  alone = record { same_call = λ p. refl; goes_by = λ p a out e. e; stays = λ p out e. e; same_start = λ p. refl }
 
   pub read_ends : (tries : ℕ) (old new : Told) (s : Store) (result : Result (Option (ℕ × T)) SlateDBError)
       → Read decoded sequenced tries old new result → 0 < tries → Serves old new s → IsReady sequenced.db sequenced.log s
       → ReadAnswers (decoded sequenced.codec) sequenced.db sequenced.log s result × (new.contents ≡ Some s)
   read_ends tries old new s result read some serves ready =
-      let walk = listing (decoded sequenced.codec) sequenced.db sequenced.log s is_listing own_asks own_goes (λ p. p) (λ g. g) alone (pos 0) ready tries some new read.0 result
+      let walk = listing (decoded sequenced.codec) sequenced.db sequenced.log s is_listing own_asks (one_way own_goes) (λ p. p) (λ g out. g ≡ out) alone (pos 0) ready tries some new read.0 result
       (before is_listing own_asks own_goes (pos 0) tries s old new Listing read.0 result read.1 serves.contents serves.calm)
       (top_of sequenced.db sequenced.log s) refl in
-      let end = ended is_listing own_asks own_goes (pos 0) tries s Over walk.reply new read.0 result (walk.go tries (omega arith)) in
+      let rest : (rest : ℕ) → rest + one_if {R = Option (ℕ × T)} (is_listing {T = T}) (End Over walk.reply) ≡ tries → RestBy is_listing own_asks (one_way own_goes) (pos 0) rest s (End Over walk.reply) new read.0 result =
+      subst (λ (g : Reply T). (rest : ℕ) → rest + one_if (is_listing {T = T}) g ≡ tries → RestBy is_listing own_asks (one_way own_goes) (pos 0) rest s g new read.0 result) (sym walk.moved) walk.go in
+      let end = ended is_listing own_asks own_goes (pos 0) tries s Over walk.reply new read.0 result (rest tries (omega arith)) in
       (subst (λ (r : Result (Option (ℕ × T)) SlateDBError). ReadAnswers (decoded sequenced.codec) sequenced.db sequenced.log s r) (sym end.answer) walk.answers, end.contents)

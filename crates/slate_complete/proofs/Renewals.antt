@@ -1,5 +1,5 @@
 -- What becomes of a change before any call.
-use Rattle.std.proofs.Common.{◌≡◌, ℕ, ◌+◌, ◌==◌, ◌<◌, ◌^◌, Bool, true, false, if◌then◌else◌, List, Option, Some, None, Result, Ok, Err, refl, ap, arith}
+use Rattle.std.proofs.Common.{◌≡◌, ℕ, ◌+◌, ◌==◌, ◌<◌, ◌^◌, Bool, true, false, if◌then◌else◌, List, Option, Some, None, Result, Ok, Err, refl, ap, subst, arith}
 use Rattle.std.proofs.lemmas.Bool.Decides.{nat_tests}
 use Rattle.slate_ids.specs.Limits.{last_number}
 use Rattle.slate_ids.specs.declared.error.SlateDBError.{SlateDBError}
@@ -10,8 +10,9 @@ use Rattle.slate_log.specs.declared.commit_phase.CommitPhase.{CommitPhase}
 use Rattle.slate_log.specs.declared.commit_phase.CommitPhase.TheVariants.{Putting}
 use Rattle.slate_log.specs.declared.right.Right.{Right}
 use Rattle.slate_txn.specs.Apply.{Ways, renews}
+use Rattle.slate_txn.specs.ApplyMoves.{MayWays, RenewsBy}
 use Rattle.slate_txn.specs.Holder.{Holder}
-use Rattle.slate_complete.specs.Changing.{IsChange, IsRefusal}
+use Rattle.slate_complete.specs.Changing.{may_of, IsChange, IsRefusal}
 use Rattle.slate_complete.specs.Changing.IsRefusal.{ByChange, ByNumber, ByRules, ByCodec}
 
 is_last : (n : ℕ) → (n == last_number) ≡ true → n ≡ last_number
@@ -43,26 +44,30 @@ module _ {T : Type 0} (refusal : ℕ → T → T → Right → Option SlateDBErr
   pub prepares : Prepares refusal encoded id old value right (prepared refusal encoded id old value right)
   prepares = numbered (id == last_number) refl
 
--- how the commit of a change is prepared
-pub data Renews {T C R : Type 0} (ways : Ways T C R) (holder : Holder T C R) (id : ℕ) (value : T) (reply : Result (Option (CommitPhase T)) SlateDBError) : Type 0 where
-  Fails : (e : SlateDBError) → IsRefusal ways holder id value e → reply ≡ Err e → Renews ways holder id value reply
-  Leaves : ways.changed id value ≡ Ok None → reply ≡ Ok None → Renews ways holder id value reply
-  Commits : (new : T) (bytes : List ℕ) → IsChange ways holder id value new bytes → (id == last_number) ≡ false → reply ≡ Ok (Some (Putting (id + 1) bytes new)) → Renews ways holder id value reply
+-- how the commit of what a change may answer is prepared
+pub data Renews {T C R : Type 0} (ways : MayWays T C R) (holder : Holder T C R) (id : ℕ) (value : T) (start : Result (Option (CommitPhase T)) SlateDBError) : Type 0 where
+  Fails : (e : SlateDBError) → IsRefusal ways holder id value e → start ≡ Err e → Renews ways holder id value start
+  Leaves : ways.may id value (Ok None) → start ≡ Ok None → Renews ways holder id value start
+  Commits : (new : T) (bytes : List ℕ) → IsChange ways holder id value new bytes → (id == last_number) ≡ false → start ≡ Ok (Some (Putting (id + 1) bytes new)) → Renews ways holder id value start
 
-module _ {T C R : Type 0} (ways : Ways T C R) (holder : Holder T C R) (id : ℕ) (value : T) where
+module _ {T C R : Type 0} (ways : MayWays T C R) (holder : Holder T C R) (id : ℕ) (value : T) where
   abbrev prepare : T → Result (CommitPhase T) SlateDBError
   prepare new = prepared (ways.refusal holder.rules) (ways.encoded holder.sequenced.codec) id value new ways.right
 
-  of_new : (new : T) → ways.changed id value ≡ Ok (Some new) → (reply : Result (CommitPhase T) SlateDBError) → Prepares (ways.refusal holder.rules) (ways.encoded holder.sequenced.codec) id value new ways.right reply → Renews ways holder id value (some_commit reply)
+  of_new : (new : T) → ways.may id value (Ok (Some new)) → (reply : Result (CommitPhase T) SlateDBError) → Prepares (ways.refusal holder.rules) (ways.encoded holder.sequenced.codec) id value new ways.right reply → Renews ways holder id value (some_commit reply)
   of_new new made reply (AtLast last is) = Fails (Exhausted id) (ByNumber last refl) (ap some_commit is)
   of_new new made reply (NotAllowed e at is) = Fails e (ByRules new made at) (ap some_commit is)
   of_new new made reply (NotEncoded e at is) = Fails e (ByCodec new made at) (ap some_commit is)
   of_new new made reply (Puts bytes more allowed at is) = Commits new bytes (record { changed = made; allowed = allowed; encoded = at }) more (ap some_commit is)
 
-  of_change : (o : Result (Option T) SlateDBError) → ways.changed id value ≡ o → Renews ways holder id value (wanted prepare o)
-  of_change (Err e) at = Fails e (ByChange at) refl
-  of_change (Ok None) at = Leaves at refl
-  of_change (Ok (Some new)) at = of_new new at (prepare new) (prepares (ways.refusal holder.rules) (ways.encoded holder.sequenced.codec) id value new ways.right)
+  of_reply : (reply : Result (Option T) SlateDBError) → ways.may id value reply → Renews ways holder id value (wanted prepare reply)
+  of_reply (Err e) at = Fails e (ByChange at) refl
+  of_reply (Ok None) at = Leaves at refl
+  of_reply (Ok (Some new)) at = of_new new at (prepare new) (prepares (ways.refusal holder.rules) (ways.encoded holder.sequenced.codec) id value new ways.right)
 
-  pub renewal : Renews ways holder id value (renews ways holder id value)
-  renewal = of_change (ways.changed id value) refl
+  pub renewal_by : (start : Result (Option (CommitPhase T)) SlateDBError) → RenewsBy ways holder id value start → Renews ways holder id value start
+  renewal_by start by = subst (λ (r : Result (Option (CommitPhase T)) SlateDBError). Renews ways holder id value r) by.commits (of_reply by.reply by.given)
+
+-- the same where the change is computed
+pub renewal : {T C R : Type 0} (ways : Ways T C R) (holder : Holder T C R) (id : ℕ) (value : T) (start : Result (Option (CommitPhase T)) SlateDBError) → renews ways holder id value ≡ start → Renews (may_of ways) holder id value start
+renewal ways holder id value start same = subst (λ (r : Result (Option (CommitPhase _)) SlateDBError). Renews (may_of ways) holder id value r) same (of_reply (may_of ways) holder id value (ways.changed id value) refl)

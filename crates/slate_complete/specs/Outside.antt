@@ -3,7 +3,7 @@ use Rattle.std.specs.Prelude.{◌≡◌, ℕ, Bool, true, false, Option, Some, R
 use Rattle.slate_ids.specs.declared.error.SlateDBError.{SlateDBError}
 use Rattle.slate_ids.specs.declared.error.SlateDBError.TheVariants.{Contended, StoreFault, TransactionalObjectVersionExists}
 use Rattle.slate_log.specs.declared.right.Right.{Right}
-use Rattle.slate_txn.specs.Apply.{Ways}
+use Rattle.slate_txn.specs.ApplyMoves.{MayWays}
 
 -- a refusal that others or the store cause: the tries are used up, a number is taken, the store faulted
 abbrev pub is_outside : SlateDBError → Bool
@@ -25,8 +25,8 @@ abbrev pub RulesInside : {T R : Type 0} → (R → ℕ → T → T → Right →
 RulesInside refusal = (rules : _) (id : ℕ) (old new : _) (right : Right) (e : SlateDBError) → refusal rules id old new right ≡ Some e → is_outside e ≡ false
 
 -- nor do the codec, the rules and the change
-pub record WaysInside {T C R : Type 0} (ways : Ways T C R) : Type 0 where
+pub record WaysInside {T C R : Type 0} (ways : MayWays T C R) : Type 0 where
   pub decodes : (codec : C) → NeverOutside (ways.decoded codec)
   pub encodes : (codec : C) → NeverOutside (ways.encoded codec)
   pub allows : RulesInside ways.refusal
-  pub changes : (id : ℕ) → NeverOutside (ways.changed id)
+  pub changes : (id : ℕ) (value : T) (reply : Result (Option T) SlateDBError) → ways.may id value reply → NotOutside reply

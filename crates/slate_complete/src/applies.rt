@@ -8,6 +8,7 @@ ghost use Rattle.slate_store.specs.Store.{Store};
 ghost use Rattle.slate_txn.specs.Apply.{Applies, Ways};
 ghost use Rattle.slate_txn.specs.Holder.{Holder};
 ghost use Rattle.slate_complete.specs.Applying.{ApplyAnswers};
+ghost use Rattle.slate_complete.specs.Changing.{may_of};
 ghost use Rattle.slate_complete.specs.Outside.{NotOutside, WaysInside};
 ghost use Rattle.slate_complete.specs.Ready.{top_of, IsReady, LeavesReady};
 ghost use Rattle.slate_complete.specs.Serving.{Serves};
@@ -22,7 +23,7 @@ pub fn apply_ends<T, C, R>()
         → Applies ways moment tries old new from to result
         → 1 < tries → is_db_path from.sequenced.db ≡ true → from.id < 2 ^ 64
         → Serves old new s → IsReady from.sequenced.db from.sequenced.log s
-        → (ApplyAnswers ways s new from to result × LeavesReady from.sequenced.db from.sequenced.log new)
+        → (ApplyAnswers (may_of ways) s new from to result × LeavesReady from.sequenced.db from.sequenced.log new)
         ⊎ (ran_out result ≡ true) }
     ensures latest { (ways : Ways T C R) (moment : ℤ) (tries : ℕ) (old new : Told) (s : Store) (from to : Holder T C R)
         (result : Result (Unit {0}) Refusal)
@@ -30,12 +31,12 @@ pub fn apply_ends<T, C, R>()
         → 0 < tries → is_db_path from.sequenced.db ≡ true → from.id < 2 ^ 64
         → Serves old new s → IsReady from.sequenced.db from.sequenced.log s
         → top_of from.sequenced.db from.sequenced.log s ≡ Some from.id
-        → (ApplyAnswers ways s new from to result × LeavesReady from.sequenced.db from.sequenced.log new)
+        → (ApplyAnswers (may_of ways) s new from to result × LeavesReady from.sequenced.db from.sequenced.log new)
         ⊎ (ran_out result ≡ true) }
     ensures inside { (ways : Ways T C R) (moment : ℤ) (tries : ℕ) (old new : Told) (s : Store) (from to : Holder T C R)
         (result : Result (Unit {0}) Refusal)
         → Applies ways moment tries old new from to result
         → 1 < tries → is_db_path from.sequenced.db ≡ true → from.id < 2 ^ 64
         → Serves old new s → IsReady from.sequenced.db from.sequenced.log s
-        → WaysInside ways → NotOutside result }
+        → WaysInside (may_of ways) → NotOutside result }
 {}

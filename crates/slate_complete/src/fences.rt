@@ -10,6 +10,7 @@ ghost use Rattle.slate_txn.specs.Fence.{fenced_of, FencedBy};
 ghost use Rattle.slate_txn.specs.FencedHolder.{FencedHolder};
 ghost use Rattle.slate_txn.specs.Holder.{Holder};
 ghost use Rattle.slate_complete.specs.Applying.{ApplyAnswers};
+ghost use Rattle.slate_complete.specs.Changing.{may_of};
 ghost use Rattle.slate_complete.specs.Ready.{IsReady, LeavesReady};
 ghost use Rattle.slate_complete.specs.Serving.{Serves};
 
@@ -22,6 +23,6 @@ pub fn fence_ends<T, C, R, E>()
         → 1 < tries → is_db_path holder.sequenced.db ≡ true → holder.id < 2 ^ 64
         → Serves old new s → IsReady holder.sequenced.db holder.sequenced.log s
         → ((to : Holder T C R) × (reply : Result (Unit {0}) Refusal)
-        × ApplyAnswers ways s new holder to reply × (fenced_of epoch epochs to reply ≡ result)
+        × ApplyAnswers (may_of ways) s new holder to reply × (fenced_of epoch epochs to reply ≡ result)
         × LeavesReady holder.sequenced.db holder.sequenced.log new) ⊎ (ran_out result ≡ true) }
 {}
