@@ -201,8 +201,8 @@ module _ {T C R : Type 0} (ways : MayWays T C R) (tries : ℕ) (old new : Told) 
   unchanged serves ready same = record { left = s; contents = ap (λ (t : Told). t.contents) same ∙ serves.contents; ready = ready }
 
 -- a holder of the latest version needs no other try
-pub latest_enough : {T C R : Type 0} (ways : MayWays T C R) (tries : ℕ) (s : Store) (from : Holder T C R) → top_of from.sequenced.db from.sequenced.log s ≡ Some from.id → (top : ℕ) → top_of from.sequenced.db from.sequenced.log s ≡ Some top → from.id + 1 ≤ top → 1 < tries
-latest_enough ways tries s from latest top at le = let number : top ≡ from.id = (let tops : Some top ≡ Some from.id = sym at ∙ latest in cc) in absurd (omega (arith, le, number))
+pub latest_enough : {T C R : Type 0} (tries : ℕ) (s : Store) (from : Holder T C R) → top_of from.sequenced.db from.sequenced.log s ≡ Some from.id → (top : ℕ) → top_of from.sequenced.db from.sequenced.log s ≡ Some top → from.id + 1 ≤ top → 1 < tries
+latest_enough tries s from latest top at le = let number : top ≡ from.id = (let tops : Some top ≡ Some from.id = sym at ∙ latest in cc) in absurd (omega (arith, le, number))
 
 -- ---- a plain call of a change that is computed
 
@@ -245,7 +245,7 @@ module _ {T C R : Type 0} (ways : Ways T C R) where
       → Applies ways moment tries old new from to result → 0 < tries → is_db_path from.sequenced.db ≡ true → from.id < 2 ^ 64 → Serves old new s → IsReady from.sequenced.db from.sequenced.log s
       → top_of from.sequenced.db from.sequenced.log s ≡ Some from.id
       → (ApplyAnswers (may_of ways) s new from to result × LeavesReady from.sequenced.db from.sequenced.log new) ⊎ (ran_out result ≡ true)
-  apply_latest moment tries old new s from to result applies one named small serves ready latest = by_memory moment tries old new s from to result one (latest_enough (may_of ways) tries s from latest) named small serves ready applies
+  apply_latest moment tries old new s from to result applies one named small serves ready latest = by_memory moment tries old new s from to result one (latest_enough tries s from latest) named small serves ready applies
 
 -- ---- a plain call of a change that may answer in more than one way
 
