@@ -1,5 +1,5 @@
 -- The commit of a change over a store that serves it.
-use Rattle.std.proofs.Common.{◌≡◌, ℕ, ℤ, ◌+◌, ◌-◌, ◌<◌, ◌≤◌, ◌^◌, ◌⊎◌, inl, inr, Bool, true, false, List, Option, Some, None, Result, Ok, Err, refl, sym, ap, ◌∙◌, subst, arith}
+use Rattle.std.proofs.Common.{◌≡◌, ℕ, ℤ, ◌+◌, ◌-◌, ◌<◌, ◌≤◌, ◌^◌, ◌⊎◌, inl, inr, true, List, Option, Some, None, Result, Ok, Err, refl, sym, ap, ◌∙◌, subst, arith}
 use Rattle.slate_ids.specs.Answers.{ran_out}
 use Rattle.slate_ids.specs.Ids.{is_db_path}
 use Rattle.slate_ids.specs.declared.error.SlateDBError.{SlateDBError}
@@ -10,7 +10,6 @@ use Rattle.slate_store.specs.Machines.{Goes, Stay, End}
 use Rattle.slate_store.specs.Runs.{one_if}
 use Rattle.slate_store.specs.Store.{Store, object_at}
 use Rattle.slate_store.specs.declared.store_answer.StoreAnswer.{StoreAnswer}
-use Rattle.slate_log.specs.Advance.{boundary_at}
 use Rattle.slate_log.specs.Commit.{never}
 use Rattle.slate_log.specs.CommitPhase.{commit_asks, commit_goes}
 use Rattle.slate_log.specs.LogPaths.{version_path}
@@ -34,9 +33,9 @@ use Rattle.slate_complete.specs.Reading.{ReadAnswers}
 use Rattle.slate_complete.specs.Reading.ReadAnswers.{NoVersion, Latest, Undecoded, NoBoundary}
 use Rattle.slate_complete.specs.Ready.{top_of, IsReady, LeavesReady, IsLatest, version_at}
 use Rattle.slate_complete.specs.Serving.{Serves}
-use Rattle.slate_complete.proofs.CommitWalks.{CommitEnds, CommitWalk, putting}
+use Rattle.slate_complete.proofs.CommitWalks.{CommitEnds, putting}
 use Rattle.slate_complete.proofs.CommitWalks.CommitEnds.{Done, Late, Bad}
-use Rattle.slate_complete.proofs.LatestReads.{Walk, listing}
+use Rattle.slate_complete.proofs.LatestReads.{listing}
 use Rattle.slate_complete.proofs.Places.{Kept}
 use Rattle.slate_complete.proofs.Renewals.{Renews, renewal, renewal_by, next_fits}
 use Rattle.slate_complete.proofs.Renewals.Renews.{Fails, Leaves, Commits}

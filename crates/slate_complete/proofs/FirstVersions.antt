@@ -1,12 +1,11 @@
 -- The creation of a log over a store that serves it.
-use Rattle.std.proofs.Common.{◌≡◌, ℕ, ℤ, ◌⊎◌, inl, inr, true, List, Option, Some, None, Result, Ok, Err, refl, sym, ap, ◌∙◌, subst, arith}
+use Rattle.std.proofs.Common.{◌≡◌, ℕ, ℤ, ◌⊎◌, inl, inr, true, List, None, Result, Ok, Err, refl, sym, ap, ◌∙◌, arith}
 use Rattle.slate_ids.specs.Answers.{ran_out}
 use Rattle.slate_ids.specs.Ids.{is_db_path}
 use Rattle.slate_ids.specs.declared.error.SlateDBError.{SlateDBError}
 use Rattle.slate_store.specs.Calls.{Told}
 use Rattle.slate_store.specs.Store.{Store}
 use Rattle.slate_log.specs.CommitPhase.{encoded_commit}
-use Rattle.slate_log.specs.declared.commit_phase.CommitPhase.{CommitPhase}
 use Rattle.slate_log.specs.declared.sequenced.Sequenced.{Sequenced}
 use Rattle.slate_txn.specs.Creating.{created, Creates}
 use Rattle.slate_txn.specs.Holder.{Holder}
