@@ -1,10 +1,12 @@
-//! Tests of the rules on new versions of a manifest, on public calls alone.
+//! Tests of the rules on new versions of a manifest and of flushes, on public calls alone.
 #![tactic(auto)]
 
 #[cfg(test)]
 mod cutoff_tests;
 #[cfg(test)]
 mod entry_tests;
+#[cfg(test)]
+mod flush_tests;
 #[cfg(test)]
 mod rules_tests;
 #[cfg(test)]
