@@ -1,0 +1,2 @@
+mod LeastIds
+mod MappedRecords

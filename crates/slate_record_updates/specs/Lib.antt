@@ -1,0 +1,4 @@
+pub mod RecordRules
+pub mod EntrySteps
+pub mod RecordEpochs
+pub mod RecordChanges
