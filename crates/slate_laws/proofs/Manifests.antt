@@ -1,17 +1,12 @@
 -- The two logs: what their codecs and their rules give, and what is committed of a change.
-use Rattle.std.proofs.Common.{◌≡◌, ℕ, ℤ, ◌+◌, ◌==◌, ◌≤◌, nat_lt, Bool, true, false, List, [], ◌∷◌, map, Option, Some, None, Result, Ok, Err, ◌⊎◌, inl, inr, refl, sym, ap, ◌∙◌, subst, arith}
-use Rattle.std.proofs.lemmas.Bool.Decides.{nat_tests}
-use Rattle.std.specs.Prelude.{if◌then◌else◌, ◌||◌, ◌&&◌}
-use Rattle.std.specs.List.{list_all}
+use Rattle.std.proofs.Common.{◌≡◌, ℕ, ℤ, ◌+◌, ◌==◌, ◌≤◌, Bool, true, false, List, Option, Some, None, Result, Ok, Err, refl, ap, ◌∙◌}
+use Rattle.std.specs.Prelude.{if◌then◌else◌}
 use Rattle.slate_ids.specs.Limits.{last_number}
 use Rattle.slate_ids.specs.declared.error.SlateDBError.{SlateDBError}
 use Rattle.slate_ids.specs.declared.error.SlateDBError.TheVariants.{Exhausted}
 use Rattle.slate_layout.specs.laws.Codecs.{codec_round_trip, record_codec_trip}
-use Rattle.slate_updates.specs.Checkpoints.{is_named}
 use Rattle.slate_updates.specs.Rules.{manifest_refusal}
 use Rattle.slate_updates.proofs.Lawful.{nothing_falls, names_stay}
-use Rattle.slate_encodable.specs.Normal.{normal_manifest, normal_checkpoint}
-use Rattle.slate_model.specs.declared.checkpoint.Checkpoint.{Checkpoint}
 use Rattle.slate_model.specs.declared.manifest.Manifest.{Manifest}
 use Rattle.slate_updates.specs.Changes.{made, right_of, fence_of, commit_of}
 use Rattle.slate_updates.specs.declared.manifest_change.ManifestChange.{ManifestChange}

@@ -1,5 +1,5 @@
 -- The rules look at nothing that a manifest's bytes drop: what is read back of a manifest is refused as the manifest itself.
-use Rattle.std.proofs.Common.{◌≡◌, ℕ, ◌+◌, ◌==◌, Bool, List, [], ◌∷◌, ◌++◌, map, Option, Some, None, refl, sym, ap, ◌∙◌}
+use Rattle.std.proofs.Common.{◌≡◌, ℕ, ◌+◌, ◌==◌, Bool, List, [], ◌∷◌, ◌++◌, map, Option, Some, refl, ap, ◌∙◌}
 use Rattle.std.specs.Prelude.{if◌then◌else◌, ◌||◌, ◌&&◌, not}
 use Rattle.std.specs.List.{list_all, find, flat_map}
 use Rattle.slate_encodable.specs.Normal.{normal_manifest, normal_core, normal_segment, normal_checkpoint}
@@ -9,10 +9,8 @@ use Rattle.slate_ids.specs.declared.error.SlateDBError.TheVariants.{InvalidSegme
 use Rattle.slate_ids.specs.declared.error.UpdateRule.TheVariants.{U1, U2, U3, U5}
 use Rattle.slate_log.specs.declared.right.Right.{Right}
 use Rattle.slate_manifest_encoding.proofs.Kept.{views_kept}
-use Rattle.slate_tables.specs.Views.{View}
 use Rattle.slate_tables.specs.declared.ss_table_id.SsTableId.{SsTableId}
 use Rattle.slate_model.specs.declared.checkpoint.Checkpoint.{Checkpoint}
-use Rattle.slate_model.specs.declared.external_db.ExternalDb.{ExternalDb}
 use Rattle.slate_model.specs.declared.manifest.Manifest.{Manifest}
 use Rattle.slate_model.specs.Cores.{Core}
 use Rattle.slate_model.specs.Segments.{Prefixed}

@@ -1,6 +1,6 @@
 -- A manifest that may follow another keeps each rule, and what the rules say.
-use Rattle.std.specs.Prelude.{ℕ, ◌+◌, ◌==◌, ◌≤◌, ◌<◌, ◌&&◌, ◌||◌, nat_lt, Bool, true, false, not, List, [], ◌∷◌, Option, Some, None, if◌then◌else◌}
-use Rattle.std.specs.List.{list_all, list_any, find}
+use Rattle.std.specs.Prelude.{ℕ, ◌+◌, ◌==◌, ◌≤◌, ◌&&◌, ◌||◌, nat_lt, Bool, true, false, not, List, [], ◌∷◌, Option, Some, None, if◌then◌else◌}
+use Rattle.std.specs.List.{list_all, find}
 use Rattle.std.proofs.Common.{◌≡◌, ◌⊎◌, ◌↔◌, refl, sym, ◌∙◌, ap, subst, inl, inr, arith}
 use Rattle.std.proofs.lemmas.Bool.Decides.{nat_tests}
 use Rattle.slate_ids.specs.declared.error.SlateDBError.{SlateDBError}
@@ -17,7 +17,7 @@ use Rattle.slate_model.specs.Segments.{Prefixed}
 use Rattle.slate_log.specs.declared.right.Right.{Right}
 use Rattle.slate_updates.specs.Checkpoints.{is_named}
 use Rattle.slate_updates.specs.Entries.{entries_kept}
-use Rattle.slate_updates.specs.FlushedTables.{tick_refusal, early_refusal, is_early, is_before, least_tick, flushed_tables}
+use Rattle.slate_updates.specs.FlushedTables.{tick_refusal, early_refusal, is_early, least_tick, flushed_tables}
 use Rattle.slate_updates.specs.RunTables.{runs_known}
 use Rattle.slate_updates.specs.Prefixes.{nested_after, prefix_refusal}
 use Rattle.slate_updates.specs.Rules.{falls, names_known, unless_kept, first_refusal, manifest_refusal}

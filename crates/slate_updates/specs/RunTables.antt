@@ -1,5 +1,5 @@
 -- Tables of sorted runs, from one version of a manifest to the next.
-use Rattle.std.specs.Prelude.{ℕ, ◌||◌, Bool, true, false, List, [], ◌++◌, map}
+use Rattle.std.specs.Prelude.{◌||◌, Bool, true, false, List, [], ◌++◌, map}
 use Rattle.std.specs.List.{flat_map, list_all}
 use Rattle.slate_log.specs.declared.right.Right.{Right}
 use Rattle.slate_log.specs.declared.right.Right.TheVariants.{Plain, Attach, Compactor, RecordHolder}

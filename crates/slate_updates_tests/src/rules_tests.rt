@@ -95,15 +95,10 @@ fn a_rule_that_is_broken_alone_is_answered(rt: HostRuntime) {
     }
 }
 
-/// Whether what breaks two rules is refused with the first of them, for each rule from a place on.
-fn first_is_answered(
-    rt: &impl Abort,
-    alloc: Global,
-    first: &(u8, &[With]),
-    later: &[(u8, &[With])],
-) -> bool {
-    for (rule, breaks) in later {
-        if *rule != first.0 && broken_by(rt, alloc, first.1, breaks) != first.0 {
+/// Whether what breaks this rule and any later one is refused with this one.
+fn first_is_answered(rt: &impl Abort, alloc: Global, rule: u8, breaks: &[With]) -> bool {
+    for (other, others) in &BREAKS {
+        if *other > rule && broken_by(rt, alloc, breaks, others) != rule {
             return false;
         }
     }
@@ -112,13 +107,11 @@ fn first_is_answered(
 
 #[test]
 fn of_two_broken_rules_the_first_is_answered(rt: HostRuntime) {
-    let mut left = BREAKS.as_slice();
-    while let Some((first, later)) = left.split_first() {
+    for (rule, breaks) in &BREAKS {
         assert!(rt;
-            first_is_answered(&rt, rt.alloc(), first, later),
-            "with {first:?}"
+            first_is_answered(&rt, rt.alloc(), *rule, breaks),
+            "with {breaks:?}"
         );
-        left = later;
     }
 }
 
