@@ -1,24 +1,24 @@
 -- Laws of an apply by a function that may answer differently each time.
-use Rattle.std.proofs.Common.{◌≡◌, ◌≢◌, ◌⊎◌, ℤ, ℕ, Bool, true, false, List, [], ◌∷◌, Option, Some, None, Result, Ok, Err, inl, inr, ap, sym, subst, ◌∙◌, refl}
+use Rattle.std.proofs.Common.{◌≡◌, ◌⊎◌, ℤ, ℕ, Bool, true, false, List, Option, Some, None, Result, Ok, Err, inl, inr, ap, sym, subst, ◌∙◌, refl}
 use Rattle.std.specs.Prelude.{nat_lt, if◌then◌else◌}
 use denote.Ref.{Bor}
 use Rattle.slate_ids.specs.Answers.{Gives, OrMemory, OrMemory-map, ran_out, is_memory}
 use Rattle.slate_ids.specs.declared.error.SlateDBError.{SlateDBError}
 use Rattle.slate_ids.specs.declared.error.SlateDBError.TheVariants.{Fenced}
 use Rattle.slate_store.specs.Calls.{Told}
-use Rattle.slate_store.specs.Machines.{Goes, Stay, End}
+use Rattle.slate_store.specs.Machines.{Stay, End}
 use Rattle.slate_store.specs.declared.store_answer.StoreAnswer.{StoreAnswer}
 use Rattle.slate_log.specs.Change.{wanted}
-use Rattle.slate_log.specs.CommitPhase.{commit_goes, prepared}
-use Rattle.slate_log.specs.Fence.{fence}
+use Rattle.slate_log.specs.CommitPhase.{prepared}
+use Rattle.slate_log.specs.Fence.{fence, unless}
 use Rattle.slate_log.specs.ReadPhase.{read_goes, Reply}
 use Rattle.slate_log.specs.declared.commit_phase.CommitPhase.{CommitPhase}
 use Rattle.slate_log.specs.declared.right.Right.{Right}
 use Rattle.slate_txn.proofs.Moves.{ran_of, began_of, ran_more, began_more}
-use Rattle.slate_txn.specs.Apply.{Ways, ApplyState, ApplyGoes, Applies, Begins, ApplyStopped, apply_goes, ways_of, renews, read_on, begun}
-use Rattle.slate_txn.specs.ApplyMoves.{RenewedBy, MayWays, ways_by, RenewsBy, ReadMoves, ApplyMoves, AppliedBy, ApplyBeganBy, BeginsBy, BegunBy, ApplyStoppedBy, AppliesBy, MaybeBy}
-use Rattle.slate_txn.specs.Changing.{ComputesWith, May, MayWith}
-use Rattle.slate_txn.specs.FencedApplying.{UnlessMay, FencedMay}
+use Rattle.slate_txn.specs.Apply.{ApplyGoes, Applies, Begins, ApplyStopped, apply_goes, ways_of, renews, read_on, begun}
+use Rattle.slate_txn.specs.ApplyMoves.{RenewedBy, MayWays, ways_by, RenewsBy, ReadMoves, ApplyMoves, AppliedBy, ApplyBeganBy, BeginsBy, ApplyStoppedBy, AppliesBy, MaybeBy}
+use Rattle.slate_txn.specs.Changing.{Computes, ComputesWith, May, MayWith}
+use Rattle.slate_txn.specs.FencedApplying.{UnlessMay, FencedMay, fenced_made}
 use Rattle.slate_txn.specs.FencedHolder.{FencedHolder}
 use Rattle.slate_txn.specs.Holder.{Holder, at_version}
 use Rattle.slate_txn.specs.Updating.{maybe_of}
@@ -65,6 +65,10 @@ pub by_made : {C T : Type 0} (answers : Bor C → ℕ → Bor T → Result (Opti
 by_made answers made computes id value reply may enough =
     subst (λ v. made id v ≡ reply) may.shows (gives_enough reply (made id may.shown.now) (computes may.codec id may.shown reply may.says) enough)
 
+pub may_made : {T : Type 0} (answers : ℕ → Bor T → Result (Option T) SlateDBError → Type 0) (made : ℕ → T → Result (Option T) SlateDBError) → Computes answers made → ByMade (May answers) made
+may_made answers made computes id value reply may enough =
+    subst (λ v. made id v ≡ reply) may.shows (gives_enough reply (made id may.shown.now) (computes id may.shown reply may.says) enough)
+
 -- what is begun by it
 pub renews_made : {T C R : Type 0} (ways : MayWays T C R) (made : ℕ → T → Result (Option T) SlateDBError) → ByMade ways.may made → (holder : Holder T C R) (id : ℕ) (value : T) (start : Result (Option (CommitPhase T)) SlateDBError)
     → RenewsBy ways holder id value start → renews (ways_of ways.decoded ways.encoded ways.refusal made ways.right) holder id value ≡ start
@@ -109,13 +113,13 @@ applies_made ways made by moment tries old new from to result (inr m) = inr (m.0
 abbrev pub with_may : {T C R : Type 0} → MayWays T C R → (ℕ → T → Result (Option T) SlateDBError → Type 0) → MayWays T C R
 with_may ways more = ways_by ways.decoded ways.encoded ways.refusal more ways.right
 
--- where each answer is one of these too
+-- where each answer is one of these too, as far as memory is enough
 abbrev pub Within : {T : Type 0} → (ℕ → T → Result (Option T) SlateDBError → Type 0) → (ℕ → T → Result (Option T) SlateDBError → Type 0) → Type 0
-Within may more = (id : ℕ) (value : _) (reply : Result (Option _) SlateDBError) → may id value reply → more id value reply
+Within may more = (id : ℕ) (value : _) (reply : Result (Option _) SlateDBError) → may id value reply → ran_out reply ≡ false → more id value reply
 
 pub renewed_more : {T : Type 0} {may : ℕ → T → Result (Option T) SlateDBError → Type 0} (more : ℕ → T → Result (Option T) SlateDBError → Type 0) {refusal : ℕ → T → T → Right → Option SlateDBError} {encoded : T → Result (List ℕ) SlateDBError} {right : Right} {id : ℕ} {value : T} {start : Result (Option (CommitPhase T)) SlateDBError}
     → Within may more → RenewedBy may refusal encoded right id value start → RenewedBy more refusal encoded right id value start
-renewed_more more {id = id} {value = value} by renewed = record { reply = renewed.reply; given = by id value renewed.reply renewed.given; enough = renewed.enough; commits = renewed.commits }
+renewed_more more {id = id} {value = value} by renewed = record { reply = renewed.reply; given = by id value renewed.reply renewed.given renewed.enough; enough = renewed.enough; commits = renewed.commits }
 
 read_more : {T C R : Type 0} (ways : MayWays T C R) (more : ℕ → T → Result (Option T) SlateDBError → Type 0) → Within ways.may more → (holder : Holder T C R) (went : Reply T) (out : ApplyGoes T C R)
     → ReadMoves holder (RenewsBy ways holder) went out → ReadMoves holder (RenewsBy (with_may ways more) holder) went out
@@ -170,7 +174,7 @@ nothing_applies ways moment tries told found holder is (inr renewed) =
 -- a wrapped function answers what the function may answer
 pub wraps : {C T : Type 0} (answers : Bor C → ℕ → Bor T → Result (Option T) SlateDBError → Type 0) (inner : ℕ → Bor T → Result (Option T) SlateDBError → Type 0)
     → ((codec : Bor C) (id : ℕ) (shown : Bor T) (reply : Result (Option T) SlateDBError) → answers codec id shown reply → inner id shown reply) → Within (MayWith answers) (May inner)
-wraps answers inner says id value reply may = record { shown = may.shown; shows = may.shows; says = says may.codec id may.shown reply may.says }
+wraps answers inner says id value reply may enough = record { shown = may.shown; shows = may.shows; says = says may.codec id may.shown reply may.says }
 
 unless_may : {T : Type 0} (inner : ℕ → Bor T → Result (Option T) SlateDBError → Type 0) (e : Option SlateDBError) (id : ℕ) (shown : Bor T) (value : T) (reply : Result (Option T) SlateDBError)
     → shown.now ≡ value → UnlessMay e (inner id shown) reply → UnlessMay e (May inner id value) reply
@@ -180,7 +184,7 @@ unless_may inner None id shown value reply shows says = record { shown = shown; 
 -- one that asks a fence before answers the fence, or what the function may answer
 pub wraps_fenced : {C T E : Type 0} (answers : Bor C → ℕ → Bor T → Result (Option T) SlateDBError → Type 0) (epoch : E → T → ℕ) (epochs : E) (own : ℕ) (inner : ℕ → Bor T → Result (Option T) SlateDBError → Type 0)
     → ((codec : Bor C) (id : ℕ) (shown : Bor T) (reply : Result (Option T) SlateDBError) → answers codec id shown reply → UnlessMay (fence own (epoch epochs shown.now)) (inner id shown) reply) → Within (MayWith answers) (FencedMay epoch epochs own (May inner))
-wraps_fenced answers epoch epochs own inner says id value reply may =
+wraps_fenced answers epoch epochs own inner says id value reply may enough =
     let here = unless_may inner (fence own (epoch epochs may.shown.now)) id may.shown value reply may.shows (says may.codec id may.shown reply may.says) in
     subst (λ v. UnlessMay (fence own (epoch epochs v)) (May inner id value) reply) may.shows here
 
@@ -216,3 +220,13 @@ pub fenced_applies : {T C R E : Type 0} (decoded : C → List ℕ → Result T S
     → AppliesBy (ways_by decoded encoded refusal (FencedMay epoch fenced.epochs fenced.epoch may) right) moment tries old new fenced.holder to result
 fenced_applies decoded encoded refusal epoch right may inside fenced moment tries old new to result same applies =
     subst (λ (f : FencedHolder _ _ _ _). AppliesBy (ways_by decoded encoded refusal (FencedMay epoch f.epochs f.epoch may) right) moment tries old new f.holder to result) same applies
+
+-- a function that asks a fence first answers the fence, or what it computes
+unless_made : {T : Type 0} (e : Option SlateDBError) (made reply : Result (Option T) SlateDBError) → unless e made ≡ reply → UnlessMay e (λ r. made ≡ r) reply
+unless_made (Some e) made reply same = sym same
+unless_made None made reply same = same
+
+pub computes_fenced : {C T E : Type 0} (answers : Bor C → ℕ → Bor T → Result (Option T) SlateDBError → Type 0) (epoch : E → T → ℕ) (epochs : E) (own : ℕ) (made : ℕ → T → Result (Option T) SlateDBError)
+    → ComputesWith answers (fenced_made epoch epochs own made) → Within (MayWith answers) (FencedMay epoch epochs own (λ id value reply. made id value ≡ reply))
+computes_fenced answers epoch epochs own made computes id value reply may enough =
+    unless_made (fence own (epoch epochs value)) (made id value) reply (by_made answers (fenced_made epoch epochs own made) computes id value reply may enough)

@@ -1,10 +1,9 @@
 -- An apply ends in a fault only where the store faults.
 use Rattle.std.specs.Prelude.{◌≡◌, ◌≢◌, ◌+◌, ◌==◌, ℕ, Bool, true, false, List, Option, Some, None, Result, Ok, Err, if◌then◌else◌, refl}
-use Rattle.std.proofs.Common.{◌⊎◌, inl, inr, ap, sym, subst, ◌∙◌}
-use Rattle.slate_ids.specs.Answers.{is_conflict, is_memory, Gives}
+use Rattle.std.proofs.Common.{◌⊎◌, inl, inr, ap, sym, subst}
+use Rattle.slate_ids.specs.Answers.{is_conflict}
 use Rattle.slate_ids.specs.Limits.{last_number}
-use Rattle.slate_store.specs.Calls.{Told, IsAnswerTo}
-use Rattle.slate_log.specs.Due.{FaultOf}
+use Rattle.slate_store.specs.Calls.{IsAnswerTo}
 use Rattle.slate_ids.specs.declared.error.SlateDBError.{SlateDBError}
 use Rattle.slate_ids.specs.declared.error.SlateDBError.TheVariants.{StoreFault, Exhausted, LatestTransactionalObjectVersionMissing}
 use Rattle.slate_store.specs.Machines.{Goes, Stay, End, IsEnd}

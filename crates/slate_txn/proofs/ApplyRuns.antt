@@ -1,12 +1,8 @@
 -- Laws of apply that its proofs take.
-use Rattle.std.specs.Prelude.{◌≡◌, ℕ, ℤ, true, false, Option, Some, Result, Ok, refl}
-use Rattle.std.proofs.Common.{inl, inr, ap, sym, subst, ◌∙◌}
-use Rattle.slate_ids.specs.Answers.{Gives, OrMemory}
-use Rattle.slate_ids.specs.declared.error.SlateDBError.{SlateDBError}
-use Rattle.slate_store.specs.Calls.{Told}
+use Rattle.std.specs.Prelude.{◌≡◌, true, refl}
 use Rattle.slate_store.specs.declared.step.Step.{Step}
 use Rattle.slate_store.specs.declared.step.Step.TheVariants.{Again, Done}
-use Rattle.slate_txn.specs.Apply.{Ways, Applied, ApplyBegan, ApplyStopped, Begins, apply_asks, is_reading_phase}
+use Rattle.slate_txn.specs.Apply.{apply_asks, is_reading_phase}
 use Rattle.slate_log.specs.CommitPhase.{commit_due, is_putting}
 use Rattle.slate_log.specs.Due.{WhereOut}
 use Rattle.slate_txn.specs.Holder.{Holder}

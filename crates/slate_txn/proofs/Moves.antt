@@ -1,11 +1,11 @@
 -- A run of moves goes on by a step; by a function it is a run of that function.
-use Rattle.std.specs.Prelude.{◌≡◌, ℕ, ◌+◌, ◌-◌, ◌<◌, ◌⊎◌, ℤ, Bool, true, false, Result, Ok, Err, List, [], ◌∷◌, ◌++◌, refl, if◌then◌else◌}
+use Rattle.std.specs.Prelude.{◌≡◌, ℕ, ◌+◌, ◌-◌, ◌<◌, ℤ, Bool, true, false, Result, Err, List, [], ◌∷◌, ◌++◌, refl, if◌then◌else◌}
 use Rattle.std.proofs.Common.{sym, subst, ap, arith, inl, inr, ◌∙◌}
-use Rattle.slate_ids.specs.Answers.{OrMemory, OrMemory-map, ran_out}
+use Rattle.slate_ids.specs.Answers.{OrMemory, OrMemory-map}
 use Rattle.slate_ids.specs.declared.error.SlateDBError.{SlateDBError}
 use Rattle.slate_ids.specs.declared.error.SlateDBError.TheVariants.{Contended}
 use Rattle.slate_store.specs.Calls.{Told, Makes, moment_of}
-use Rattle.slate_store.specs.Machines.{Goes, Stay, End, Held, AtMost}
+use Rattle.slate_store.specs.Machines.{Goes, Stay, End, Held}
 use Rattle.slate_store.specs.Runs.{one_if, made_by, Run, turns, Ran, Began}
 use Rattle.slate_store.specs.declared.made.Made.{Made}
 use Rattle.slate_store.specs.declared.step.Step.{Step}

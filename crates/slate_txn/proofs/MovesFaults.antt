@@ -1,5 +1,5 @@
 -- An apply by what a function may answer ends in a fault only where the store faults.
-use Rattle.std.specs.Prelude.{◌≡◌, ◌≢◌, ◌≤◌, ◌+◌, ◌==◌, ℤ, ℕ, Bool, true, false, Option, Some, None, Result, Ok, Err, List, [], ◌∷◌, refl}
+use Rattle.std.specs.Prelude.{◌≡◌, ◌≤◌, ℤ, ℕ, Bool, true, false, Option, Some, None, Result, Ok, Err, List, [], ◌∷◌, refl}
 use Rattle.std.proofs.Common.{◌⊎◌, inl, inr, arith, ap, subst, sym, ◌∙◌}
 use Rattle.std.proofs.lemmas.Bool.Decides.{nat_tests}
 use Rattle.slate_ids.specs.Answers.{OrMemory, ran_out, is_memory}
@@ -14,7 +14,7 @@ use Rattle.slate_store.specs.declared.store_call.StoreCall.{StoreCall}
 use Rattle.slate_log.proofs.Commits.{commit_faults}
 use Rattle.slate_log.proofs.Faults.{Fine, fine_stay, fine_err}
 use Rattle.slate_log.proofs.ReadFaults.{read_faults}
-use Rattle.slate_log.specs.CommitPhase.{commit_due, commit_goes, is_putting}
+use Rattle.slate_log.specs.CommitPhase.{is_putting}
 use Rattle.slate_log.specs.Due.{FaultOf}
 use Rattle.slate_log.specs.ReadPhase.{read_due, read_goes, Reply}
 use Rattle.slate_log.specs.declared.commit_phase.CommitPhase.{CommitPhase}
@@ -22,7 +22,7 @@ use Rattle.slate_log.specs.declared.read_phase.ReadPhase.{ReadPhase}
 use Rattle.slate_log.specs.declared.read_phase.ReadPhase.TheVariants.{Listing, Getting, Bounding as BoundingRead, Over}
 use Rattle.slate_txn.proofs.ApplyFaults.{Due, due_wanted, fine_begun, sound_commit}
 use Rattle.slate_txn.proofs.ApplyRuns.{putting_due}
-use Rattle.slate_txn.specs.Apply.{Ways, FaultFree, ApplyState, ApplyGoes, apply_asks, state_due, ways_of, renews}
+use Rattle.slate_txn.specs.Apply.{FaultFree, ApplyGoes, apply_asks, state_due, ways_of}
 use Rattle.slate_txn.proofs.AppliesBy.{ByMade, Within, renewed_more, renews_made, with_may}
 use Rattle.slate_log.specs.declared.right.Right.{Right}
 use Rattle.slate_txn.specs.FencedApplying.{FencedMay}

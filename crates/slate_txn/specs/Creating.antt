@@ -1,11 +1,12 @@
 -- Creating a log: a holder is made by the commit of version 1.
-use Rattle.std.specs.Prelude.{◌≡◌, ℕ, ℤ, Bool, true, false, List, Result, Ok, Err}
+use Rattle.std.specs.Prelude.{◌≡◌, ℕ, ℤ, Bool, true, false, List, Option, Some, None, Result, Ok, Err}
 use Rattle.slate_ids.specs.declared.error.SlateDBError.{SlateDBError}
 use Rattle.slate_store.specs.Calls.{Told}
 use Rattle.slate_store.specs.Machines.{Goes, Stay, End, Steps, AnswersAtOnce}
 use Rattle.slate_store.specs.declared.step.Step.{Step}
+use Rattle.slate_store.specs.declared.step.Step.TheVariants.{Again, Done}
 use Rattle.slate_store.specs.declared.store_answer.StoreAnswer.{StoreAnswer}
-use Rattle.slate_log.specs.CommitPhase.{encoded_commit, commit_asks, commit_goes, commit_due}
+use Rattle.slate_log.specs.CommitPhase.{encoded_commit, commit_asks, commit_goes, commit_due, commit_version}
 use Rattle.slate_log.specs.declared.commit_phase.CommitPhase.{CommitPhase}
 use Rattle.slate_log.specs.declared.sequenced.Sequenced.{Sequenced}
 use Rattle.slate_txn.specs.Holder.{Holder, holder_of}
@@ -58,3 +59,15 @@ CreateSteps old new moment (Refused e) to step = AnswersAtOnce old new e step ×
 CreateSteps old new moment (Committing commit sequenced rules) to step =
     Steps old new (commit_asks sequenced.db sequenced.log commit) moment (create_goes commit sequenced rules) (Committing commit sequenced rules) to step
 CreateSteps old new moment Over to step = Unit {0}
+
+-- the version that is to be put
+abbrev pub create_version : {T C R : Type 0} → CreateMachine T C R → Option (ℕ × T)
+create_version (Refused e) = None
+create_version (Committing commit sequenced rules) = commit_version commit
+create_version Over = None
+
+-- the machine keeps to it, and the holder holds it
+abbrev pub CreateKeeps : {T C R : Type 0} → CreateMachine T C R → CreateMachine T C R → Step (Holder T C R) → Type 0
+CreateKeeps old new Again = create_version new ≡ create_version old
+CreateKeeps old new (Done (Ok holder)) = create_version old ≡ Some (holder.id, holder.object)
+CreateKeeps old new (Done (Err e)) = Unit {0}

@@ -2,6 +2,8 @@
 use Rattle.std.specs.Prelude.{◌≡◌, ℕ, Option, Some, None, Result, Err}
 use Rattle.slate_ids.specs.declared.error.SlateDBError.{SlateDBError}
 use Rattle.slate_txn.specs.Apply.{Ways, renews}
+use Rattle.slate_txn.specs.ApplyMoves.{MayWays, RenewsBy}
+use Rattle.slate_log.specs.declared.commit_phase.CommitPhase.{CommitPhase}
 use Rattle.slate_log.specs.Fence.{unless, fence}
 use Rattle.slate_txn.specs.Fencing.{NoFence, NotFenced}
 use Rattle.slate_txn.specs.Holder.{Holder}
@@ -23,3 +25,8 @@ FencedMay epoch epochs own may id value reply = UnlessMay (fence own (epoch epoc
 pub record FenceFree {T C R : Type 0} (ways : Ways T C R) : Type 0 where
   pub decodes : (codec : C) → NoFence (ways.decoded codec)
   pub renewal : (holder : Holder T C R) (id : ℕ) (value : T) → NotFenced (renews ways holder id value)
+
+-- neither codec, rules nor what the function may answer is a fence
+pub record Unfenced {T C R : Type 0} (ways : MayWays T C R) : Type 0 where
+  pub decodes : (codec : C) → NoFence (ways.decoded codec)
+  pub renewal : (holder : Holder T C R) (id : ℕ) (value : T) (start : Result (Option (CommitPhase T)) SlateDBError) → RenewsBy ways holder id value start → NotFenced start

@@ -1,11 +1,12 @@
 -- The machine that makes a fenced holder in one try.
-use Rattle.std.specs.Prelude.{◌≡◌, ℕ, ℤ, Bool, true, false, Result, Ok, Err}
+use Rattle.std.specs.Prelude.{◌≡◌, ℕ, ℤ, Bool, true, false, Option, Some, None, Result, Ok, Err}
 use Rattle.slate_ids.specs.declared.error.SlateDBError.{SlateDBError}
 use Rattle.slate_store.specs.Calls.{Told}
 use Rattle.slate_store.specs.Machines.{Goes, Stay, End, Steps, AnswersAtOnce}
 use Rattle.slate_store.specs.declared.step.Step.{Step}
+use Rattle.slate_store.specs.declared.step.Step.TheVariants.{Again, Done}
 use Rattle.slate_store.specs.declared.store_answer.StoreAnswer.{StoreAnswer}
-use Rattle.slate_log.specs.CommitPhase.{commit_asks, commit_goes, commit_due}
+use Rattle.slate_log.specs.CommitPhase.{commit_asks, commit_goes, commit_due, commit_version}
 use Rattle.slate_txn.specs.FencedHolder.{FencedHolder, fenced_at}
 use Rattle.slate_txn.specs.Holder.{Holder, at_version}
 use Rattle.slate_log.specs.declared.commit_phase.CommitPhase.{CommitPhase}
@@ -49,3 +50,15 @@ InitSteps epoch old new moment (Refused e) to step = AnswersAtOnce old new e ste
 InitSteps epoch old new moment (Committing commit holder epochs) to step =
     Steps old new (commit_asks holder.sequenced.db holder.sequenced.log commit) moment (init_goes epoch commit holder epochs) (Committing commit holder epochs) to step
 InitSteps epoch old new moment Over to step = Unit {0}
+
+-- the version that is to be put
+abbrev pub init_version : {T C R E : Type 0} → InitMachine T C R E → Option (ℕ × T)
+init_version (Refused e) = None
+init_version (Committing commit holder epochs) = commit_version commit
+init_version Over = None
+
+-- the machine keeps to it, and the fenced holder holds it, with its epoch
+abbrev pub InitKeeps : {T C R E : Type 0} → (E → T → ℕ) → InitMachine T C R E → InitMachine T C R E → Step (FencedHolder T C R E) → Type 0
+InitKeeps epoch old new Again = init_version new ≡ init_version old
+InitKeeps epoch old new (Done (Ok fenced)) = (init_version old ≡ Some (fenced.holder.id, fenced.holder.object)) × (fenced.epoch ≡ epoch fenced.epochs fenced.holder.object)
+InitKeeps epoch old new (Done (Err e)) = Unit {0}

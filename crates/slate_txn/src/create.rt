@@ -1,10 +1,10 @@
 //! Creating a log by its version 1.
-ghost use Rattle.std.specs.Prelude.{◌≡◌, ◌≢◌, ◌⊎◌, IfOk, IfErr, OnOk, OnErr, Some, Err, true, false};
+ghost use Rattle.std.specs.Prelude.{◌≡◌, ◌≢◌, ◌⊎◌, IfOk, IfErr, IfSome, OnOk, OnErr, Some, Err, true, false};
 ghost use Rattle.slate_ids.specs.Answers.{Gives};
 ghost use Rattle.slate_ids.specs.declared.error.SlateDBError.TheVariants.{StoreFault};
 ghost use Rattle.slate_log.specs.CommitPhase.{is_putting, commit_version};
 ghost use Rattle.slate_log.specs.Due.{FaultOf, FaultRose, StillDue};
-ghost use Rattle.slate_txn.specs.Creating.{first_commit, created, Creates, create_of, create_due, create_open, CreateSteps};
+ghost use Rattle.slate_txn.specs.Creating.{first_commit, created, Creates, create_of, create_due, create_open, create_version, CreateKeeps, CreateSteps};
 ghost use Rattle.slate_txn.specs.Holder.{holder_of};
 ghost use Rattle.slate_txn.specs.Standing.{SameContents, CommitStands, may_stand};
 
@@ -103,6 +103,8 @@ impl<T: Drop, C: ObjectCodec<T> + Drop, R: Rules<T> + Drop> Stored<T, C, R> {
         ensures open { IfOk result (λ machine. create_open machine ≡ true) }
         ensures machine { IfOk result (λ machine. machine ≡ create_of
             (first_commit (C.encoded sequenced.codec) value) sequenced rules) }
+        ensures version { IfOk result (λ machine. IfSome (create_version machine)
+            (λ version. version ≡ (1, value))) }
     {
         match first_commit(alloc, &sequenced.codec, value) {
             Ok(commit) => Ok(CreateMachine::Committing(commit, sequenced, rules)),
@@ -140,6 +142,7 @@ impl<T: Drop, C: Drop, R: Drop> CreateMachine<T, C, R> {
         requires open { create_open self.now ≡ true }
         ensures steps { CreateSteps (S.told store.old) (S.told store.new) moment
             self.old self.new result }
+        ensures version { CreateKeeps self.old self.new result }
         ensures open { create_due self.old ≡ true → StillDue result (create_open self.new) }
         ensures fault { create_due self.old ≡ true → FaultRose (S.told store.old) (S.told store.new) result }
     {

@@ -5,7 +5,7 @@ ghost use Rattle.slate_txn.specs.Changing.{Computes, Making, May};
 ghost use Rattle.slate_txn.specs.ApplyMoves.{ways_by, AppliesBy, MaybeBy, NeverFaults};
 ghost use Rattle.slate_txn.specs.Apply.{Applies, FaultFree, ways_of};
 ghost use Rattle.slate_log.specs.Change.{renewed};
-ghost use Rattle.slate_txn.specs.FencedApplying.{fenced_made, FencedMay, FenceFree};
+ghost use Rattle.slate_txn.specs.FencedApplying.{fenced_made, FencedMay, FenceFree, Unfenced};
 ghost use Rattle.slate_log.specs.Fence.{unless};
 ghost use Rattle.slate_txn.specs.Fencing.{held_fence, FencedOnly};
 ghost use Rattle.slate_txn.specs.Updating.{maybe_of, update_open};
@@ -53,6 +53,8 @@ impl<T: Drop, C: ObjectCodec<T> + Drop, R: Rules<T> + Drop, E: Epochs<T> + Drop>
             (ways_of C.decoded C.encoded R.refusal
             (fenced_made E.epoch self.old.epochs self.old.epoch made) right.now)
             → FaultOf (S.told store.old) (S.told store.new) result }
+        ensures unfenced { Unfenced (ways_by C.decoded C.encoded R.refusal (May (F.post f)) right.now)
+            → FencedOnly (held_fence E.epoch self.new) result }
         ensures fenced { (made : Making T) → Computes (F.post f) made
             → FenceFree (ways_of C.decoded C.encoded R.refusal made right.now)
             → FencedOnly (held_fence E.epoch self.new) result }

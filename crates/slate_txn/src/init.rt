@@ -1,9 +1,9 @@
 //! The machine that makes a fenced holder.
-ghost use Rattle.std.specs.Prelude.{◌≡◌, IfOk, true, false};
+ghost use Rattle.std.specs.Prelude.{◌≡◌, IfOk, IfSome, Some, true, false};
 ghost use Rattle.slate_ids.specs.Answers.{ran_out};
-ghost use Rattle.slate_log.specs.CommitPhase.{is_putting};
+ghost use Rattle.slate_log.specs.CommitPhase.{commit_version, is_putting};
 ghost use Rattle.slate_log.specs.Due.{FaultRose, StillDue};
-ghost use Rattle.slate_txn.specs.Initing.{init_of, init_due, init_open, fenced_reply, InitSteps};
+ghost use Rattle.slate_txn.specs.Initing.{init_of, init_due, init_open, init_version, fenced_reply, InitKeeps, InitSteps};
 ghost use Rattle.slate_log.specs.declared.right.Right.TheVariants.{Plain};
 ghost use Rattle.slate_txn.specs.Raise.{raised, epoch_commit};
 
@@ -61,6 +61,8 @@ fn start<T: Drop, C: Drop, R: Drop, E: Drop>(
     ensures open { IfOk result (λ machine. init_open machine ≡ true) }
     ensures machine { IfOk result (λ machine. machine ≡ init_of commit stored epochs) }
     ensures memory { IfOk result (λ machine. ran_out commit ≡ false) }
+    ensures version { IfOk result (λ machine. IfSome (init_version machine)
+        (λ version. IfOk commit (λ c. commit_version c ≡ Some version))) }
 {
     match commit {
         Ok(commit) => Ok(InitMachine::Committing(commit, stored, epochs)),
@@ -115,6 +117,8 @@ impl<T: Drop, C: ObjectCodec<T> + Drop, R: Rules<T> + Drop, E: Epochs<T> + Drop>
         ensures machine { IfOk result (λ machine. machine ≡ init_of (epoch_commit (R.refusal stored.rules)
             (C.encoded stored.sequenced.codec) (E.epoch epochs) (E.with_epoch epochs) epoch Plain
             stored.id stored.object) stored epochs) }
+        ensures epoch { IfOk result (λ machine. IfSome (init_version machine)
+            (λ version. E.epoch epochs version.1 ≡ epoch)) }
     {
         let held = &stored;
         let set = prepare_epoch(
@@ -159,6 +163,7 @@ impl<T: Drop, C: ObjectCodec<T> + Drop, R: Rules<T> + Drop, E: Epochs<T> + Drop>
         requires open { init_open self.now ≡ true }
         ensures steps { InitSteps E.epoch (S.told store.old) (S.told store.new) moment
             self.old self.new result }
+        ensures version { InitKeeps E.epoch self.old self.new result }
         ensures open { init_due self.old ≡ true → StillDue result (init_open self.new) }
         ensures fault { init_due self.old ≡ true → FaultRose (S.told store.old) (S.told store.new) result }
     {

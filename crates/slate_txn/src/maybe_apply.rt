@@ -18,7 +18,8 @@ impl<T: Drop, C: ObjectCodec<T> + Drop, R: Rules<T> + Drop> Stored<T, C, R> {
     /// Commits what `f` makes of the number and the value held. Where it makes none, nothing is committed, and its refusal
     /// is the answer. After a conflict the latest version is read and held, and what `f` makes of that is committed: so often
     /// as there are tries, then `Contended`. Each conflict, and each version that is gone when it is got or is at or below
-    /// the boundary, uses one. The holder holds what was put or read last.
+    /// the boundary, uses one. `f` is asked anew of each version that is read, and may answer differently each time. The
+    /// holder holds what was put or read last.
     pub fn maybe_apply<F: Fn(u64, &T) -> Result<Option<T>, SlateDBError>, S: ObjectStore>(
         &mut self,
         alloc: Global,
