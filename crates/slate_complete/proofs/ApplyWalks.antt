@@ -150,7 +150,7 @@ module _ {T C R : Type 0} (ways : Ways T C R) where
       read_done reply (Undecoded n bytes e latest refuses is) go =
           let e' = ends left t (Reading read_over) from (Err e) (arrive left left t (read_on from (renews ways from) (End read_over reply)) (End (Reading read_over, from) (Err e)) (ap (λ r. read_on from (renews ways from) (End read_over r)) is) go (omega arith)) in
           (Unread n bytes e (kept_latest db log s t top kept at n bytes latest) refuses e'.replied, leaves t kept.ready e'.contents)
-      read_done reply (NoBoundary none is) go =
+      read_done reply (NoBoundary n bytes value latest decodes none is) go =
           let e = ends left t (Reading read_over) from (Err (Corrupt BoundaryFormat)) (arrive left left t (read_on from (renews ways from) (End read_over reply)) (End (Reading read_over, from) (Err (Corrupt BoundaryFormat))) (ap (λ r. read_on from (renews ways from) (End read_over r)) is) go (omega arith)) in
           (BadBoundary (sym kept.same_boundary ∙ none) e.replied, leaves t kept.ready e.contents)
 

@@ -59,7 +59,7 @@ module _ {T : Type 0} (decoded : List ℕ → Result T SlateDBError) (db : List 
     bounding : (n : ℕ) (bytes : List ℕ) (value : T) → IsLatest db log s n bytes → decoded bytes ≡ Ok value → Left left (Stay (enter (Bounding n value))) → (boundary : Option ℕ) → boundary_at db log s ≡ boundary → Walk
     bounding n bytes value latest reads from None at = record {
       reply = Err (Corrupt BoundaryFormat);
-      answers = NoBoundary at refl;
+      answers = NoBoundary n bytes value latest reads at refl;
       go = λ rest used. step_in is_listing (read_asks db log) (read_goes log decoded) starts asks goes enter on within moment left rest s (Bounding n value) (End Over (Err (Corrupt BoundaryFormat))) new to result from (bounds n value None at) some used;
     }
     bounding n bytes value latest reads from (Some boundary) at =
