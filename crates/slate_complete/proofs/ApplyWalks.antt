@@ -156,7 +156,7 @@ module _ {T C R : Type 0} (ways : MayWays T C R) (moves : ApplyState T C R → S
           let m = subst (λ (r : Result (Option (ℕ × T)) SlateDBError). ReadMoves from (renew from) (End read_over r) g) is moved in
           let e = ends left t (Reading read_over) from (Err a) (arrive left left t g (End (Reading read_over, from) (Err a)) (sym m) go (omega arith)) in
           (Unread n bytes a (kept_latest db log s t top kept at n bytes latest) refuses e.replied, leaves t kept.ready e.contents)
-      read_done reply (NoBoundary none is) g moved go =
+      read_done reply (NoBoundary n bytes value latest decodes none is) g moved go =
           let m = subst (λ (r : Result (Option (ℕ × T)) SlateDBError). ReadMoves from (renew from) (End read_over r) g) is moved in
           let e = ends left t (Reading read_over) from (Err (Corrupt BoundaryFormat)) (arrive left left t g (End (Reading read_over, from) (Err (Corrupt BoundaryFormat))) (sym m) go (omega arith)) in
           (BadBoundary (sym kept.same_boundary ∙ none) e.replied, leaves t kept.ready e.contents)

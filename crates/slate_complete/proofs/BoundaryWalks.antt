@@ -1,13 +1,8 @@
 -- An advance, and a deletion, over a store that serves it.
-use Rattle.std.proofs.Common.{◌≡◌, ℕ, ℤ, ◌==◌, ◌<◌, ◌≤◌, ◌^◌, pos, max, Bool, true, false, nat_le, if◌then◌else◌, List, [], ◌∷◌, map, filter, Option, Some, None, Result, Ok, Err, refl, ap, ◌∙◌, subst, cond, arith}
+use Rattle.std.proofs.Common.{◌≡◌, ℕ, ℤ, ◌==◌, ◌<◌, ◌≤◌, ◌^◌, pos, max, Bool, true, false, nat_le, if◌then◌else◌, List, Option, Some, None, Result, Ok, Err, refl, ap, ◌∙◌, subst, arith}
 use Rattle.std.specs.Prelude.{decimal}
-use Rattle.std.specs.BTreeMap.{insert_entry}
-use Rattle.std.specs.Ordering.{match_ordering}
-use Rattle.std.specs.declared.cmp.Ordering.{Ordering}
-use Rattle.std.specs.declared.cmp.Ordering.TheVariants.{Less, Equal, Greater}
 use Rattle.std.proofs.lemmas.Bool.Decides.{nat_tests}
 use Rattle.slate_ids.specs.Ids.{is_db_path}
-use Rattle.slate_ids.specs.PathText.{path_cmp}
 use Rattle.slate_ids.specs.declared.error.SlateDBError.{SlateDBError}
 use Rattle.slate_ids.specs.declared.error.SlateDBError.TheVariants.{Corrupt, InvalidDeletion}
 use Rattle.slate_ids.specs.declared.error.FormatName.TheVariants.{Boundary as BoundaryFormat}
@@ -16,16 +11,16 @@ use Rattle.slate_ids.proofs.DecimalTexts.{decimal_back}
 use Rattle.slate_store.specs.Calls.{Told}
 use Rattle.slate_store.specs.Folders.{is_in}
 use Rattle.slate_store.specs.Machines.{Stay, End}
-use Rattle.slate_store.specs.Store.{Store, object_at, metadata, put_new, replace, has_tag, stored, removed}
+use Rattle.slate_store.specs.Store.{Store, object_at, put_new, replace, has_tag, stored, removed}
 use Rattle.slate_store.specs.declared.object.StoredObject.{StoredObject}
 use Rattle.slate_store.specs.declared.store_answer.StoreAnswer.TheVariants.{Got}
 use Rattle.slate_log.specs.Advance.{Advanced, boundary_at}
 use Rattle.slate_log.specs.AdvancePhase.{AdvanceGoes, advance_asks, advance_goes, is_bounding, bound_goes, read_goes_to}
-use Rattle.slate_log.specs.Boundary.{boundary_of, boundary_got, greater, greatest_from}
+use Rattle.slate_log.specs.Boundary.{boundary_of, boundary_got}
 use Rattle.slate_log.specs.Commit.{never}
 use Rattle.slate_log.specs.Delete.{DeleteRan}
 use Rattle.slate_log.specs.DeletePhase.{DeleteGoes, delete_asks, delete_goes, checked_goes}
-use Rattle.slate_log.specs.LogPaths.{boundary_path, version_path, folder, number_of}
+use Rattle.slate_log.specs.LogPaths.{boundary_path, version_path, folder}
 use Rattle.slate_log.specs.declared.advance_phase.AdvancePhase.{AdvancePhase}
 use Rattle.slate_log.specs.declared.advance_phase.AdvancePhase.TheVariants.{Bounding, Creating, Replacing, Over}
 use Rattle.slate_log.specs.declared.delete_phase.DeletePhase.{DeletePhase}
@@ -39,7 +34,8 @@ use Rattle.slate_complete.specs.Deleting.{DeleteAnswers}
 use Rattle.slate_complete.specs.Deleting.DeleteAnswers.{IsDeleted, IsAbove, NoBoundary as Unbounded}
 use Rattle.slate_complete.specs.Ready.{top_of, IsBelow, IsReady, LeavesReady}
 use Rattle.slate_complete.specs.Serving.{Serves}
-use Rattle.slate_complete.proofs.Entries.{Entries, at_put, put_object}
+use Rattle.slate_complete.proofs.Asides.{put_tops}
+use Rattle.slate_complete.proofs.Entries.{at_put, put_object}
 use Rattle.slate_complete.proofs.Leavings.{advanced_ready, deleted_ready}
 use Rattle.slate_complete.proofs.Turns.{Rest, step, ended, before}
 
@@ -48,36 +44,6 @@ use Rattle.slate_complete.proofs.Turns.{Rest, step, ended, before}
 not_listed : (log : LogKind) (db : List ℕ) → is_in (folder log db) (boundary_path log db) ≡ false
 not_listed Manifest db = refl
 not_listed Compactions db = refl
-
-module _ (log : LogKind) (db : List ℕ) (v : StoredObject) where
-  abbrev own : ObjectPath
-  own = boundary_path log db
-
-  abbrev tops : Option ℕ → Entries → Option ℕ
-  tops best es = greatest_from log best (map metadata (filter (λ o. is_in (folder log db) o.0) es))
-
-  skipped : (b : Bool) (best : Option ℕ) (es : Entries) → b ≡ false → greatest_from log best (map metadata (cond b ((own, v) ∷ filter (λ o. is_in (folder log db) o.0) es) (filter (λ o. is_in (folder log db) o.0) es))) ≡ tops best es
-  skipped true best es h = absurd cc
-  skipped false best es h = refl
-
-  put_bound : (es : Entries) (best : Option ℕ) → tops best (insert_entry path_cmp es own v) ≡ tops best es
-  put_bound [] best = skipped (is_in (folder log db) own) best [] (not_listed log db)
-  put_bound (e ∷ es) best = by_order (path_cmp own e.0) (λ best. put_bound es best)
-    where
-      renamed : (b : Bool) → greatest_from log best (map metadata (cond b ((e.0, v) ∷ filter (λ o. is_in (folder log db) o.0) es) (filter (λ o. is_in (folder log db) o.0) es))) ≡ greatest_from log best (map metadata (cond b (e ∷ filter (λ o. is_in (folder log db) o.0) es) (filter (λ o. is_in (folder log db) o.0) es)))
-      renamed true = refl
-      renamed false = refl
-
-      pass : (b : Bool) → ((best : Option ℕ) → tops best (insert_entry path_cmp es own v) ≡ tops best es)
-          → greatest_from log best (map metadata (cond b (e ∷ filter (λ o. is_in (folder log db) o.0) (insert_entry path_cmp es own v)) (filter (λ o. is_in (folder log db) o.0) (insert_entry path_cmp es own v))))
-          ≡ greatest_from log best (map metadata (cond b (e ∷ filter (λ o. is_in (folder log db) o.0) es) (filter (λ o. is_in (folder log db) o.0) es)))
-      pass true rest = rest (greater best (number_of log e.0))
-      pass false rest = rest best
-
-      by_order : (o : Ordering) → ((best : Option ℕ) → tops best (insert_entry path_cmp es own v) ≡ tops best es) → tops best (match_ordering o ((own, v) ∷ e ∷ es) ((e.0, v) ∷ es) (e ∷ insert_entry path_cmp es own v)) ≡ tops best (e ∷ es)
-      by_order Less rest = skipped (is_in (folder log db) own) best (e ∷ es) (not_listed log db)
-      by_order Equal rest = renamed (is_in (folder log db) e.0)
-      by_order Greater rest = pass (is_in (folder log db) e.0) rest
 
 zero_told : (n : ℕ) → (n == 0) ≡ true → n ≡ 0
 zero_told n h = grind (arith, nat_tests, h)
@@ -110,7 +76,7 @@ module _ (db : List ℕ) (log : LogKind) (moment : ℤ) (n left : ℕ) (some : 0
   put_ends b at lt rest =
       let e = ended is_bounding (advance_asks db log) advance_goes moment left put Over (Ok tt) new to result rest in
       let reads : boundary_at db log put ≡ Some (max n b) = ap boundary_got (at_put path (decimal n) moment s) ∙ (decimal_back n small ∙ ap Some (omega (arith, lt))) in
-      let kept = put_bound log db (put_object s (decimal n) moment) s.objects None in
+      let kept = put_tops log db (boundary_path log db) (not_listed log db) (put_object s (decimal n) moment) s.objects None in
       (IsAdvanced b put at e.contents reads kept e.answer, λ named ready below. record { left = put; contents = e.contents; ready = advanced_ready db log s n b (decimal n) moment named ready at below reads kept })
 
   -- nothing was to be put

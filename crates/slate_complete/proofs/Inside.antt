@@ -40,7 +40,7 @@ pub read_inside : {T : Type 0} (decoded : List ℕ → Result T SlateDBError) (d
 read_inside decoded db log s result inside (NoVersion none is) e same = absurd cc
 read_inside decoded db log s result inside (Latest n bytes value latest reads is) e same = absurd cc
 read_inside decoded db log s result inside (Undecoded n bytes a latest refuses is) e same = same_error result a e is same (inside bytes a refuses)
-read_inside decoded db log s result inside (NoBoundary none is) e same = same_error result _ e is same refl
+read_inside decoded db log s result inside (NoBoundary n bytes value latest reads none is) e same = same_error result _ e is same refl
 
 pub advance_inside : (db : List ℕ) (log : LogKind) (s : Store) (new : Told) (n : ℕ) (result : Result (Unit {0}) SlateDBError) → AdvanceAnswers db log s new n result → NotOutside result
 advance_inside db log s new n result (IsAdvanced b t at told reached kept is) e same = absurd cc

@@ -61,7 +61,7 @@ module _ {T : Type 0} (decoded : List ℕ → Result T SlateDBError) (db : List 
     bounding : (n : ℕ) (bytes : List ℕ) (value : T) → IsLatest db log s n bytes → decoded bytes ≡ Ok value → Left left (Stay (enter (Bounding n value))) → (boundary : Option ℕ) → boundary_at db log s ≡ boundary → Walk
     bounding n bytes value latest reads from None at =
         let o = step_in is_listing (read_asks db log) (read_goes log decoded) starts asks may enter on within moment left s (Bounding n value) new to result from some (End Over (Err (Corrupt BoundaryFormat))) (bounds n value None at) in
-        record { reply = Err (Corrupt BoundaryFormat); answers = NoBoundary at refl; there = o.there; moved = o.moved; go = o.go }
+        record { reply = Err (Corrupt BoundaryFormat); answers = NoBoundary n bytes value latest reads at refl; there = o.there; moved = o.moved; go = o.go }
     bounding n bytes value latest reads from (Some boundary) at =
         let below : IsBelow boundary (Some n) = subst (IsBelow boundary) latest.top (subst (λ (o : Option ℕ). IfSome o (λ b. IsBelow b (top_of db log s))) at ready.below) in
         let o = step_in is_listing (read_asks db log) (read_goes log decoded) starts asks may enter on within moment left s (Bounding n value) new to result from some (End Over (Ok (Some (n, value)))) (bounds n value (Some boundary) at ∙ above n value boundary below) in

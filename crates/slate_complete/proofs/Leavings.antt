@@ -1,9 +1,8 @@
 -- What the deletion of a version at or below the boundary, and the put of a boundary, leave of a log that is ready.
-use Rattle.std.proofs.Common.{◌≡◌, ◌≢◌, ℕ, ℤ, ◌<◌, ◌≤◌, ◌^◌, max, Bool, true, false, List, [], ◌∷◌, map, filter, Option, Some, None, IfSome, refl, sym, ap, ◌∙◌, subst, cond, arith}
-use Rattle.std.specs.Map.{remove_entry}
+use Rattle.std.proofs.Common.{◌≡◌, ℕ, ℤ, ◌<◌, ◌≤◌, ◌^◌, max, Bool, true, false, List, [], ◌∷◌, map, filter, Option, Some, None, IfSome, refl, sym, ap, ◌∙◌, subst, cond, arith}
 use Rattle.std.specs.BTreeMap.{is_at}
 use Rattle.slate_ids.specs.Ids.{is_db_path}
-use Rattle.slate_ids.specs.PathText.{path_text, path_cmp}
+use Rattle.slate_ids.specs.PathText.{path_cmp}
 use Rattle.slate_ids.specs.declared.object_path.ObjectPath.{ObjectPath}
 use Rattle.slate_ids.proofs.PathsApart.{same_path}
 use Rattle.slate_store.specs.Folders.{is_in}
@@ -13,7 +12,8 @@ use Rattle.slate_log.specs.Boundary.{boundary_got, greater, greatest_from}
 use Rattle.slate_log.specs.LogPaths.{folder, number_of, version_path, boundary_path}
 use Rattle.slate_log.specs.declared.log_kind.LogKind.{LogKind}
 use Rattle.slate_complete.specs.Ready.{AreFine, top_of, IsBelow, IsReady}
-use Rattle.slate_complete.proofs.Entries.{Entries, look, same_found, passes_by, fine_after, boundary_fine, version_fine, boundary_apart}
+use Rattle.slate_complete.proofs.Asides.{left, fine_left, left_else}
+use Rattle.slate_complete.proofs.Entries.{Entries, same_found, fine_after, boundary_fine, version_fine, boundary_apart}
 use Rattle.slate_complete.proofs.Tops.{numbers, number_back, is_listed, from_swap}
 
 max_below : (n b : ℕ) (top : Option ℕ) → IsBelow n top → IsBelow b top → IsBelow (max n b) top
@@ -48,33 +48,11 @@ module _ (db : List ℕ) (log : LogKind) (named : is_db_path db ≡ true) (n : �
   abbrev own : ObjectPath
   own = version_path log db n
 
-  abbrev left : Entries → Entries
-  left es = remove_entry (is_at (path_cmp own)) es
-
-  fine_left : (es : Entries) → AreFine es → AreFine (left es)
-  fine_left [] h = tt
-  fine_left (e ∷ es) h = test (is_at (path_cmp own) e.0) (fine_left es h.1)
-    where
-      test : (b : Bool) → AreFine (left es) → AreFine (cond b es (e ∷ left es))
-      test true rest = h.1
-      test false rest = (h.0, rest)
-
-  -- at another text nothing changes
-  left_else : (q : ObjectPath) → path_text q ≢ path_text own → (es : Entries) → look q (left es) ≡ look q es
-  left_else q ne [] = refl
-  left_else q ne (e ∷ es) = test (is_at (path_cmp own) e.0) refl (left_else q ne es)
-    where
-      test : (b : Bool) → is_at (path_cmp own) e.0 ≡ b → look q (left es) ≡ look q es → look q (cond b es (e ∷ left es)) ≡ look q (e ∷ es)
-      test true is rest =
-          let off = passes_by q e.0 (λ same. ne (same ∙ sym (same_found own e.0 is))) in
-          sym (ap (λ b. cond b (Some e.1) (look q es)) off)
-      test false is rest = ap (λ r. cond (is_at (path_cmp q) e.0) (Some e.1) r) rest
-
   abbrev tops : Option ℕ → Entries → Option ℕ
   tops best es = greatest_from log best (numbers log db es)
 
   -- up to the number deleted, the greatest is as before
-  left_tops : (es : Entries) (best : Option ℕ) → AreFine es → greater (tops best (left es)) (Some n) ≡ greater (tops best es) (Some n)
+  left_tops : (es : Entries) (best : Option ℕ) → AreFine es → greater (tops best (left own es)) (Some n) ≡ greater (tops best es) (Some n)
   left_tops [] best fine = refl
   left_tops (e ∷ es) best fine = test (is_at (path_cmp own) e.0) refl (λ best. left_tops es best fine.1)
     where
@@ -85,24 +63,24 @@ module _ (db : List ℕ) (log : LogKind) (named : is_db_path db ≡ true) (n : �
       gone true h number = sym (ap (λ (o : Option ℕ). greater (greatest_from log (greater best o) (numbers log db es)) (Some n)) number ∙ (ap (λ (o : Option ℕ). greater o (Some n)) (from_swap log db n best (numbers log db es)) ∙ twice n (tops best es)))
       gone false h number = absurd cc
 
-      pass : (b : Bool) → ((best : Option ℕ) → greater (tops best (left es)) (Some n) ≡ greater (tops best es) (Some n))
-          → greater (greatest_from log best (map metadata (cond b (e ∷ filter (λ o. is_in (folder log db) o.0) (left es)) (filter (λ o. is_in (folder log db) o.0) (left es))))) (Some n)
+      pass : (b : Bool) → ((best : Option ℕ) → greater (tops best (left own es)) (Some n) ≡ greater (tops best es) (Some n))
+          → greater (greatest_from log best (map metadata (cond b (e ∷ filter (λ o. is_in (folder log db) o.0) (left own es)) (filter (λ o. is_in (folder log db) o.0) (left own es))))) (Some n)
           ≡ greater (greatest_from log best (map metadata (cond b (e ∷ filter (λ o. is_in (folder log db) o.0) es) (filter (λ o. is_in (folder log db) o.0) es)))) (Some n)
       pass true rest = rest (greater best (number_of log e.0))
       pass false rest = rest best
 
-      test : (b : Bool) → is_at (path_cmp own) e.0 ≡ b → ((best : Option ℕ) → greater (tops best (left es)) (Some n) ≡ greater (tops best es) (Some n)) → greater (tops best (cond b es (e ∷ left es))) (Some n) ≡ greater (tops best (e ∷ es)) (Some n)
+      test : (b : Bool) → is_at (path_cmp own) e.0 ≡ b → ((best : Option ℕ) → greater (tops best (left own es)) (Some n) ≡ greater (tops best es) (Some n)) → greater (tops best (cond b es (e ∷ left own es))) (Some n) ≡ greater (tops best (e ∷ es)) (Some n)
       test true is rest = gone (is_in (folder log db) e.0) (ap (is_in (folder log db)) (same is) ∙ is_listed log db n) (ap (number_of log) (same is) ∙ number_back log db n)
       test false is rest = pass (is_in (folder log db) e.0) rest
 
   module _ (s : Store) (ready : IsReady db log s) (b : ℕ) (at : boundary_at db log s ≡ Some b) (pos : 0 < n) (le : n ≤ b) where
     left_boundary : boundary_at db log (removed own s) ≡ Some b
-    left_boundary = ap boundary_got (left_else (boundary_path log db) (boundary_apart db named log n small) s.objects) ∙ at
+    left_boundary = ap boundary_got (left_else own (boundary_path log db) (boundary_apart db named log n small) s.objects) ∙ at
 
     by_top : (top : Option ℕ) → top_of db log s ≡ top → IsBelow b top → IsReady db log (removed own s)
     by_top None is below = absurd (omega (arith, below, pos, le))
     by_top (Some m) is below =
-        ready_of db log (removed own s) b (Some m) (fine_left s.objects ready.fine) left_boundary
+        ready_of db log (removed own s) b (Some m) (fine_left own s.objects ready.fine) left_boundary
         (same_top n m (top_of db log (removed own s)) (omega (arith, below, le)) (left_tops s.objects None ready.fine ∙ ap (λ (o : Option ℕ). greater o (Some n)) is)) below
 
     pub deleted_ready : IsReady db log (removed own s)

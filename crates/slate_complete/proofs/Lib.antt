@@ -7,6 +7,8 @@ mod CommitWalks
 mod Renewals
 mod ApplyWalks
 mod UpdateWalks
+mod Asides
+mod OtherCalls
 mod Leavings
 mod BoundaryWalks
 mod HolderReads

@@ -34,11 +34,11 @@ pub is_listed : (k : LogKind) (db : List ℕ) (n : ℕ) → is_in (folder k db) 
 is_listed Manifest db n = bytes_same db
 is_listed Compactions db n = bytes_same db
 
-record IsListed (k : LogKind) (db : List ℕ) (p : ObjectPath) : Type 0 where
+pub record IsListed (k : LogKind) (db : List ℕ) (p : ObjectPath) : Type 0 where
   pub number : ℕ
   pub is : p ≡ version_path k db number
 
-listed_is : (k : LogKind) (db : List ℕ) (p : ObjectPath) → is_in (folder k db) p ≡ true → IsListed k db p
+pub listed_is : (k : LogKind) (db : List ℕ) (p : ObjectPath) → is_in (folder k db) p ≡ true → IsListed k db p
 listed_is Manifest db (paths.Manifest of n) h = record { number = n; is = ap (λ d. paths.Manifest d n) (sym (same_bytes db of h)) }
 listed_is Manifest db (paths.Record of n) h = absurd cc
 listed_is Manifest db (paths.ManifestBoundary of) h = absurd cc

@@ -9,3 +9,4 @@ pub mod Deleting
 pub mod Updating
 pub mod Outside
 pub mod Creating
+pub mod Elsewhere
