@@ -1,3 +1,5 @@
 pub mod Replies
 pub mod Manifests
 pub mod CheckedDelete
+pub mod Named
+pub mod Referenced

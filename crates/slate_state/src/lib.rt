@@ -4,10 +4,16 @@
 
 mod checked_delete;
 mod checked_delete_phase;
+mod manifest_map;
 mod manifest_store;
 mod names;
+mod number_queue;
+mod referenced_phase;
 
 pub use checked_delete_phase::CheckedDeletePhase;
+pub use manifest_map::ManifestMap;
 pub use manifest_store::ManifestStore;
 pub use names::{ManifestNames, VersionNames};
+pub use number_queue::NumberQueue;
+pub use referenced_phase::ReferencedPhase;
 pub use slate_updates::ManifestRules;
