@@ -1,2 +1,3 @@
 mod CheckedFaults
+mod ReferencedFaults
 mod Wheres

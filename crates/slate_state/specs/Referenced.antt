@@ -87,6 +87,11 @@ abbrev pub referenced_rank : ReferencedPhase → ℕ
 referenced_rank (Getting left found) = length left
 referenced_rank Over = 0
 
+-- it ends with what it has
+abbrev pub found_goes : ReferencedPhase → ReferencedGoes
+found_goes (Getting left found) = End Over (Ok found)
+found_goes Over = End Over (Err StoreFault)
+
 -- one fact where no number is left, and else another
 abbrev pub IfNone : Option ℕ → Type 0 → Type 0 → Type 0
 IfNone None P Q = P

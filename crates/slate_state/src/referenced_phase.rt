@@ -1,12 +1,12 @@
 //! Reading the versions that a manifest's checkpoints name.
-ghost use Rattle.std.specs.Prelude.{◌≡◌, ◌<◌, true, drop, length, IfOk};
-ghost use Rattle.slate_ids.specs.Answers.{Gives};
-ghost use Rattle.slate_log.specs.Due.{StillDue, FaultRose, NoFault, WhereOut, NeverOut};
+ghost use Rattle.std.specs.Prelude.{◌≡◌, ◌<◌, true, false, drop, length, IfOk};
+ghost use Rattle.slate_ids.specs.Answers.{Gives, OrMemory};
+ghost use Rattle.slate_log.specs.Due.{StillDue, FaultOf, FaultRose, NoFault, WhereOut, NeverOut};
 ghost use Rattle.slate_log.specs.TryRead.{try_reply};
 ghost use Rattle.slate_state.specs.Referenced.{number_asks, number_goes, referenced_asks, referenced_due, referenced_goes};
-ghost use Rattle.slate_state.specs.Referenced.{referenced_open, referenced_rank, referenced_start, rest_goes, ReferencedSteps};
+ghost use Rattle.slate_state.specs.Referenced.{referenced_open, referenced_rank, referenced_start, rest_goes, found_goes, ReadsAll, ReferencedBegan, ReferencedRan, ReferencedSteps};
 ghost use Rattle.slate_state.specs.declared.referenced_phase.ReferencedPhase.TheVariants.{Getting};
-ghost use Rattle.slate_store.specs.Machines.{GoesOn, GoesOnAlways, IsAgain};
+ghost use Rattle.slate_store.specs.Machines.{GoesOn, GoesOnAlways, IsAgain, Steps};
 
 use crate::manifest_map::ManifestMap;
 use crate::number_queue::NumberQueue;
@@ -168,6 +168,110 @@ impl ReferencedPhase {
                     self.got(n, left, found, reply)
                 }
             },
+        }
+    }
+
+    // Ends where no number is left.
+    fn end(&mut self) -> Step<ManifestMap>
+        requires open { referenced_open self.now ≡ true }
+        requires over { referenced_due self.now ≡ false }
+        ensures { GoesOnAlways (found_goes self.old) self.new result }
+    {
+        match mem::replace(self, ReferencedPhase::Over) {
+            ReferencedPhase::Getting(_, found) => Step::Done(Ok(found)),
+            ReferencedPhase::Over => unreachable!(),
+        }
+    }
+
+    // Makes the one call that is due.
+    fn step<C: ObjectCodec<Manifest>, S: ObjectStore>(
+        &mut self,
+        alloc: Global,
+        sequenced: &Sequenced<Manifest, C>,
+        store: &mut S,
+        moment: Millis,
+    ) -> Step<ManifestMap>
+        requires due { referenced_due self.now ≡ true }
+        ensures steps { Steps (S.told store.old) (S.told store.new)
+            (referenced_asks sequenced.now.db self.old) moment
+            (referenced_goes (C.decoded sequenced.now.codec) self.old) self.old self.new result }
+        ensures falls { IsAgain result → referenced_rank self.new < referenced_rank self.old }
+        ensures due { StillDue result (referenced_open self.new) }
+        ensures more { IsAgain result → referenced_due self.new ≡ true }
+        ensures fault { NoFault (C.decoded sequenced.now.codec)
+            → FaultRose (S.told store.old) (S.told store.new) result }
+    {
+        let call = self.asks(sequenced);
+        match perform(alloc, store, &call, moment) {
+            Ok(answer) => self.goes_on(alloc, sequenced, &answer),
+            Err(_) => Step::Done(Err(SlateDBError::OutOfMemory)),
+        }
+    }
+
+    /// Makes the one call that is due. Where no number is left it makes none and answers the manifests. Running out of memory
+    /// leaves the phase as it was, and any other end leaves none due.
+    pub fn next<C: ObjectCodec<Manifest>, S: ObjectStore>(
+        &mut self,
+        alloc: Global,
+        sequenced: &Sequenced<Manifest, C>,
+        store: &mut S,
+        moment: Millis,
+    ) -> Step<ManifestMap>
+        requires open { referenced_open self.now ≡ true }
+        ensures steps { ReferencedSteps sequenced.now.db (C.decoded sequenced.now.codec)
+            (S.told store.old) (S.told store.new) moment self.old self.new result }
+        ensures due { StillDue result (referenced_open self.new) }
+        ensures fault { NoFault (C.decoded sequenced.now.codec) → referenced_due self.old ≡ true
+            → FaultRose (S.told store.old) (S.told store.new) result }
+    {
+        if self.due() {
+            self.step(alloc, sequenced, store, moment)
+        } else {
+            self.end()
+        }
+    }
+
+    // Gets what is left, until it ends.
+    fn drive<C: ObjectCodec<Manifest>, S: ObjectStore>(
+        &mut self,
+        alloc: Global,
+        sequenced: &Sequenced<Manifest, C>,
+        store: &mut S,
+    ) -> Result<ManifestMap, SlateDBError>
+        requires due { referenced_due self.now ≡ true }
+        ensures read { OrMemory result
+            (ReferencedBegan sequenced.now.db (C.decoded sequenced.now.codec) (S.told store.old) (S.told store.new) self.old)
+            (ReferencedRan sequenced.now.db (C.decoded sequenced.now.codec) (S.told store.old) (S.told store.new) self.old result) }
+        ensures fault { NoFault (C.decoded sequenced.now.codec)
+            → FaultOf (S.told store.old) (S.told store.new) result }
+    {
+        loop {
+            match self.step(alloc, sequenced, store, 0) {
+                Step::Done(result) => return result,
+                Step::Again => {}
+            }
+        }
+    }
+
+    // Reads all that is left: no call is made where nothing is.
+    pub(crate) fn run<C: ObjectCodec<Manifest>, S: ObjectStore>(
+        &mut self,
+        alloc: Global,
+        sequenced: &Sequenced<Manifest, C>,
+        store: &mut S,
+    ) -> Result<ManifestMap, SlateDBError>
+        requires open { referenced_open self.now ≡ true }
+        ensures read { ReadsAll sequenced.now.db (C.decoded sequenced.now.codec)
+            (S.told store.old) (S.told store.new) self.old result }
+        ensures fault { NoFault (C.decoded sequenced.now.codec)
+            → FaultOf (S.told store.old) (S.told store.new) result }
+    {
+        if self.due() {
+            return self.drive(alloc, sequenced, store);
+        }
+        match mem::replace(self, ReferencedPhase::Over) {
+            ReferencedPhase::Getting(_, found) => Ok(found),
+            ReferencedPhase::Over => unreachable!(),
         }
     }
 }
