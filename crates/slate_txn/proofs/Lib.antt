@@ -1,3 +1,5 @@
+mod Starts
+mod Creates
 mod Updates
 mod Standing
 mod Loads
@@ -9,3 +11,5 @@ mod Refreshes
 mod FencedRefreshes
 mod FencedUpdates
 mod FencedApplies
+mod PutValues
+mod SetEpochs

@@ -27,7 +27,7 @@ use Rattle.slate_log.specs.declared.commit_phase.CommitPhase.{CommitPhase}
 use Rattle.slate_log.specs.declared.commit_phase.CommitPhase.TheVariants.{Putting, Bounding, Over}
 use Rattle.slate_log.specs.declared.log_kind.LogKind.{LogKind}
 use Rattle.slate_txn.specs.Holder.{Holder}
-use Rattle.slate_txn.specs.Standing.{SameContents, PutStands, after_put, may_stand, UpdateStands}
+use Rattle.slate_txn.specs.Standing.{SameContents, PutStands, CommitStands, after_put, may_stand, UpdateStands}
 use Rattle.slate_txn.specs.Updating.{done_of}
 
 -- under any mark a call has its whole effect or none
@@ -232,16 +232,16 @@ not_before x (Ok y) P gives = tt
 not_before x (Err e) P (inl same) = absurd cc
 not_before x (Err e) P (inr out) = absurd (let both : false ≡ true = out in cc)
 
--- what the put of an update leaves
-update_leaves : {T C R : Type 0} (holder : Holder T C R) (moment : ℤ) (old new : Told) (commit : CommitPhase T) (start : Result (CommitPhase T) SlateDBError) (reply : Result (ℕ × T) SlateDBError) (result : Result (Unit {0}) SlateDBError)
-    → Gives (Ok commit) start → is_putting commit ≡ true → result ≡ done_of reply
-    → OrMemory reply (CommitBegan holder.sequenced.db holder.sequenced.log moment old new commit) (Committed holder.sequenced.db holder.sequenced.log moment old new commit reply)
-    → Leaves (SameContents old new) (UpdateStands holder moment old new start) result
-update_leaves holder moment old new commit start reply result (inr out) putting done ran = absurd (let both : false ≡ true = out in cc)
-update_leaves holder moment old new commit start reply result (inl same) putting done ran =
-    subst (λ (s : Result (CommitPhase _) SlateDBError). Leaves (SameContents old new) (UpdateStands holder moment old new s) result) (sym same)
-    (subst (λ (r : Result (Unit {0}) SlateDBError). Leaves (SameContents old new) (PutStands holder.sequenced.db holder.sequenced.log moment old new commit) r) (sym done)
-    (done_leaves (SameContents old new) (PutStands holder.sequenced.db holder.sequenced.log moment old new commit) reply (put_leaves holder.sequenced.db holder.sequenced.log moment old new commit reply putting ran)))
+-- what the put of a commit leaves that may be refused before it
+pub start_leaves : {T X : Type 0} (db : List ℕ) (log : LogKind) (answer : Result (ℕ × T) SlateDBError → Result X SlateDBError) (moment : ℤ) (old new : Told) (commit : CommitPhase T) (start : Result (CommitPhase T) SlateDBError) (reply : Result (ℕ × T) SlateDBError) (result : Result X SlateDBError)
+    → (Leaves (SameContents old new) (PutStands db log moment old new commit) reply → Leaves (SameContents old new) (PutStands db log moment old new commit) (answer reply))
+    → Gives (Ok commit) start → is_putting commit ≡ true → result ≡ answer reply → OrMemory reply (CommitBegan db log moment old new commit) (Committed db log moment old new commit reply)
+    → Leaves (SameContents old new) (CommitStands db log moment old new start) result
+start_leaves db log answer moment old new commit start reply result keeps (inr out) putting done ran = absurd (let both : false ≡ true = out in cc)
+start_leaves db log answer moment old new commit start reply result keeps (inl same) putting done ran =
+    subst (λ (s : Result (CommitPhase _) SlateDBError). Leaves (SameContents old new) (CommitStands db log moment old new s) result) (sym same)
+    (subst (λ (r : Result _ SlateDBError). Leaves (SameContents old new) (PutStands db log moment old new commit) r) (sym done)
+    (keeps (put_leaves db log moment old new commit reply putting ran)))
 
 -- the same of a holder that was seen as what is within it
 pub update_left : {T C R : Type 0} (inside holder : Holder T C R) (moment : ℤ) (old new : Told) (commit : CommitPhase T) (start : Result (CommitPhase T) SlateDBError) (reply : Result (ℕ × T) SlateDBError) (result : Result (Unit {0}) SlateDBError)
@@ -249,5 +249,7 @@ pub update_left : {T C R : Type 0} (inside holder : Holder T C R) (moment : ℤ)
     → OrMemory reply (CommitBegan inside.sequenced.db inside.sequenced.log moment old new commit) (Committed inside.sequenced.db inside.sequenced.log moment old new commit reply)
     → Leaves (SameContents old new) (UpdateStands holder moment old new start) result
 update_left inside holder moment old new commit start reply result same gives putting done ran =
-    update_leaves holder moment old new commit start reply result gives putting done
+    let db = holder.sequenced.db in
+    let log = holder.sequenced.log in
+    start_leaves db log done_of moment old new commit start reply result (done_leaves (SameContents old new) (PutStands db log moment old new commit) reply) gives putting done
     (subst (λ (h : Holder _ _ _). OrMemory reply (CommitBegan h.sequenced.db h.sequenced.log moment old new commit) (Committed h.sequenced.db h.sequenced.log moment old new commit reply)) same ran)

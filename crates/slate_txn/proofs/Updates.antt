@@ -10,6 +10,7 @@ use Rattle.slate_store.specs.declared.step.Step.{Step}
 use Rattle.slate_store.specs.declared.step.Step.TheVariants.{Again, Done}
 use Rattle.slate_log.specs.CommitPhase.{commit_asks, commit_goes}
 use Rattle.slate_log.specs.Commit.{Committed, CommitBegan}
+use Rattle.slate_txn.proofs.Starts.{started_ran}
 use Rattle.slate_txn.specs.Holder.{Holder}
 use Rattle.slate_log.specs.declared.commit_phase.CommitPhase.{CommitPhase}
 use Rattle.slate_txn.specs.declared.update.UpdateMachine.{UpdateMachine}
@@ -25,10 +26,7 @@ pub updated : {T C R : Type 0} (holder : Holder T C R) (moment : ℤ) (old new :
     → Gives (Ok commit) start → result ≡ done_of reply
     → OrMemory reply (CommitBegan holder.sequenced.db holder.sequenced.log moment old new commit) (Committed holder.sequenced.db holder.sequenced.log moment old new commit reply)
     → OrMemory result (UpdateBegan holder moment old new start) (Updated holder moment old new start result)
-updated holder moment old new commit start reply result (inr out) same ran = absurd (let both : false ≡ true = out in cc)
-updated holder moment old new commit start reply result (inl e) same (inl done) =
-    inl (subst (λ (s : Result (CommitPhase _) SlateDBError). Updated holder moment old new s result) (sym e) (reply, done, sym same))
-updated holder moment old new commit start reply result (inl e) same (inr m) = inr (ap ran_out same ∙ done_out reply ∙ m.0, inr (commit, e, m.1))
+updated holder moment old new commit start reply result gives same ran = started_ran holder.sequenced.db holder.sequenced.log done_of moment old new commit start reply result (done_out reply) gives same ran
 
 abbrev with_commit : {T C R : Type 0} → Holder T C R → CommitPhase T → UpdateState T C R
 with_commit holder commit = (Committing commit, holder)

@@ -1,5 +1,7 @@
 pub mod Raise
 pub mod Holder
+pub mod Starts
+pub mod Creating
 pub mod Updating
 pub mod Standing
 pub mod Loading

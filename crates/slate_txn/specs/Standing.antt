@@ -1,4 +1,4 @@
--- What an update leaves in the store.
+-- What a commit leaves in the store.
 use Rattle.std.specs.Prelude.{◌≡◌, ◌||◌, ℤ, Bool, true, false, List, ℕ, Some, Result, Ok, Err}
 use Rattle.slate_ids.specs.Answers.{is_memory}
 use Rattle.slate_ids.specs.declared.error.SlateDBError.{SlateDBError}
@@ -30,7 +30,11 @@ after_put _ = false
 abbrev pub may_stand : SlateDBError → Bool
 may_stand e = is_memory e || after_put e
 
--- the put of an update that began stands
+-- the put of a commit that began stands
+abbrev pub CommitStands : {T : Type 0} → List ℕ → LogKind → ℤ → Told → Told → Result (CommitPhase T) SlateDBError → Type 0
+CommitStands db log moment old new (Ok commit) = PutStands db log moment old new commit
+CommitStands db log moment old new (Err e) = ⊥
+
+-- the same of the commit of an update
 abbrev pub UpdateStands : {T C R : Type 0} → Holder T C R → ℤ → Told → Told → Result (CommitPhase T) SlateDBError → Type 0
-UpdateStands holder moment old new (Ok commit) = PutStands holder.sequenced.db holder.sequenced.log moment old new commit
-UpdateStands holder moment old new (Err e) = ⊥
+UpdateStands holder moment old new start = CommitStands holder.sequenced.db holder.sequenced.log moment old new start

@@ -1,6 +1,5 @@
 -- An update of the value held, and the commit of what a function makes of it.
 use Rattle.std.specs.Prelude.{◌≡◌, ℕ, ℤ, ◌==◌, Bool, true, false, List, Option, Some, None, Result, Ok, Err, if◌then◌else◌}
-use Rattle.std.proofs.Common.{◌⊎◌}
 use Rattle.slate_ids.specs.Answers.{OrMemory}
 use Rattle.slate_ids.specs.declared.error.SlateDBError.{SlateDBError}
 use Rattle.slate_ids.specs.declared.error.SlateDBError.TheVariants.{TransactionalObjectVersionExists}
@@ -10,8 +9,8 @@ use Rattle.slate_store.specs.declared.step.Step.{Step}
 use Rattle.slate_store.specs.declared.step.Step.TheVariants.{Again, Done}
 use Rattle.slate_store.specs.declared.store_answer.StoreAnswer.{StoreAnswer}
 use Rattle.slate_log.specs.CommitPhase.{prepared, commit_asks, commit_goes, commit_due}
-use Rattle.slate_log.specs.Commit.{Committed, CommitBegan}
 use Rattle.slate_txn.specs.Holder.{Holder, at_version}
+use Rattle.slate_txn.specs.Starts.{StartRan, StartBegan}
 use Rattle.slate_log.specs.declared.commit_phase.CommitPhase.{CommitPhase}
 use Rattle.slate_log.specs.declared.commit_phase.CommitPhase.TheVariants.{Over}
 use Rattle.slate_txn.specs.declared.stored.DirtyObject.{DirtyObject}
@@ -36,12 +35,11 @@ held_of holder (Err e) = holder
 
 -- an update that is refused at once makes no call; else its commit ran
 abbrev pub Updated : {T C R : Type 0} → Holder T C R → ℤ → Told → Told → Result (CommitPhase T) SlateDBError → Result (Unit {0}) SlateDBError → Type 0
-Updated holder moment old new (Err e) result = (result ≡ Err e) × (new ≡ old)
-Updated holder moment old new (Ok commit) result = (reply : Result (ℕ × _) SlateDBError) × Committed holder.sequenced.db holder.sequenced.log moment old new commit reply × (done_of reply ≡ result)
+Updated holder moment old new start result = StartRan holder.sequenced.db holder.sequenced.log done_of moment old new start result
 
 -- memory ran out before the first call, or within the commit
 abbrev pub UpdateBegan : {T C R : Type 0} → Holder T C R → ℤ → Told → Told → Result (CommitPhase T) SlateDBError → Type 0
-UpdateBegan holder moment old new start = (new ≡ old) ⊎ ((commit : CommitPhase _) × (start ≡ Ok commit) × CommitBegan holder.sequenced.db holder.sequenced.log moment old new commit)
+UpdateBegan holder moment old new start = StartBegan holder.sequenced.db holder.sequenced.log moment old new start
 
 -- a whole update of a holder
 abbrev pub Updates : {T C R : Type 0} → (R → ℕ → T → T → Right → Option SlateDBError) → (C → T → Result (List ℕ) SlateDBError) → ℤ → Told → Told → Holder T C R → DirtyObject T → Right → Result (Unit {0}) SlateDBError → Type 0

@@ -1,12 +1,15 @@
 //! A fenced holder.
 ghost use Rattle.std.specs.Prelude.{◌≡◌, ◌<◌, ◌⊎◌, IfOk, IfErr, IfSome, Some, Err, true};
 ghost use Rattle.slate_ids.specs.Answers.{is_memory};
-ghost use Rattle.slate_txn.specs.Apply.{FaultFree};
+ghost use Rattle.slate_txn.specs.Apply.{FaultFree, ways_of};
 ghost use Rattle.slate_log.specs.Due.{FaultOf};
-ghost use Rattle.slate_txn.specs.Fence.{FencedBy, raising};
+ghost use Rattle.slate_log.specs.declared.right.Right.TheVariants.{Plain};
+ghost use Rattle.slate_txn.specs.Fence.{FencedBelow, FencedBy, fenced_of, raising, setting};
+ghost use Rattle.slate_txn.specs.FencedApplying.{FenceFree};
 ghost use Rattle.slate_txn.specs.Fencing.{held_fence};
+ghost use Rattle.slate_txn.specs.Raise.{this_epoch};
 
-use crate::raise::raise_copy;
+use crate::raise::{raise_copy, set_copy};
 use crate::stored::{DirtyObject, Stored};
 use slate_ids::{Epochs, Millis, ObjectCodec, SlateDBError};
 use slate_log::{Right, Rules, fence};
@@ -28,6 +31,27 @@ impl<T, C, R, E> Model for Fenced<T, C, R, E> {
     ghost Value = { FencedHolder T C R E };
 
     ghost view = { λ a. record { holder = a.stored; epochs = a.epochs; epoch = a.epoch } };
+}
+
+// After Ok the fenced holder of the version held.
+fn fenced_after<T: Drop, C: Drop, R: Drop, E: Epochs<T> + Drop>(
+    stored: Stored<T, C, R>,
+    epochs: E,
+    reply: Result<(), SlateDBError>,
+) -> Result<Fenced<T, C, R, E>, SlateDBError>
+    ensures { result ≡ fenced_of E.epoch epochs stored reply }
+{
+    match reply {
+        Err(e) => Err(e),
+        Ok(()) => {
+            let epoch = epochs.get(&stored.object);
+            Ok(Fenced {
+                stored,
+                epochs,
+                epoch,
+            })
+        }
+    }
 }
 
 impl<T: Drop, C: ObjectCodec<T> + Drop, R: Rules<T> + Drop, E: Epochs<T> + Drop> Fenced<
@@ -55,17 +79,36 @@ impl<T: Drop, C: ObjectCodec<T> + Drop, R: Rules<T> + Drop, E: Epochs<T> + Drop>
     {
         let mut stored = stored;
         let raise = |codec: &C, id: u64, value: &T| raise_copy(alloc, codec, &epochs, id, value);
-        match stored.apply(alloc, &raise, &Right::Plain, store, moment, tries) {
-            Err(e) => Err(e),
-            Ok(()) => {
-                let epoch = epochs.get(stored.object());
-                Ok(Fenced {
-                    stored,
-                    epochs,
-                    epoch,
-                })
-            }
-        }
+        let reply = stored.apply(alloc, &raise, &Right::Plain, store, moment, tries);
+        fenced_after(stored, epochs, reply)
+    }
+
+    /// Commits the value held with this epoch. Where the epoch of the version held, or of one that is read after a conflict,
+    /// is greater, the answer is `Fenced` with both, and nothing is committed. After a conflict it reads the latest version and
+    /// gives that this epoch: so often as there are tries, then `Contended`. Each conflict and each restarted read uses one. A
+    /// refusal drops the holder.
+    pub fn init_with_epoch<S: ObjectStore>(
+        alloc: Global,
+        stored: Stored<T, C, R>,
+        epochs: E,
+        epoch: u64,
+        store: &mut S,
+        moment: Millis,
+        tries: u32,
+    ) -> Result<Fenced<T, C, R, E>, SlateDBError>
+        requires { 0 < tries }
+        ensures set { FencedBy E.epoch (setting C.decoded C.encoded R.refusal E.epoch E.with_epoch epochs
+            epoch Plain) moment tries (S.told store.old) (S.told store.new) stored epochs result }
+        ensures own { IfOk result (λ fenced. fenced.epoch ≡ epoch) }
+        ensures fenced { FenceFree (ways_of C.decoded C.encoded R.refusal
+            (this_epoch (E.with_epoch epochs) epoch) Plain) → FencedBelow epoch result }
+        ensures fault { FaultFree (setting C.decoded C.encoded R.refusal E.epoch E.with_epoch epochs
+            epoch Plain) → FaultOf (S.told store.old) (S.told store.new) result }
+    {
+        let mut stored = stored;
+        let set = |codec: &C, id: u64, value: &T| set_copy(alloc, codec, &epochs, epoch, id, value);
+        let reply = stored.apply(alloc, &set, &Right::Plain, store, moment, tries);
+        fenced_after(stored, epochs, reply)
     }
 
     /// The epoch that it committed.

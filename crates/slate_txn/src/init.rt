@@ -1,14 +1,17 @@
 //! The machine that makes a fenced holder.
-ghost use Rattle.std.specs.Prelude.{◌≡◌, IfOk, true};
+ghost use Rattle.std.specs.Prelude.{◌≡◌, IfOk, true, false};
+ghost use Rattle.slate_ids.specs.Answers.{ran_out};
+ghost use Rattle.slate_log.specs.CommitPhase.{is_putting};
 ghost use Rattle.slate_log.specs.Due.{FaultRose, StillDue};
 ghost use Rattle.slate_txn.specs.Initing.{init_of, init_due, init_open, fenced_reply, InitSteps};
-ghost use Rattle.slate_txn.specs.Raise.{raised};
+ghost use Rattle.slate_log.specs.declared.right.Right.TheVariants.{Plain};
+ghost use Rattle.slate_txn.specs.Raise.{raised, epoch_commit};
 
 use crate::fenced::Fenced;
-use crate::raise::prepare_raise;
+use crate::raise::{prepare_epoch, prepare_raise};
 use crate::stored::Stored;
 use slate_ids::{Epochs, Millis, ObjectCodec, OutOfMemory, SlateDBError};
-use slate_log::{CommitPhase, Rules};
+use slate_log::{CommitPhase, Right, Rules};
 use slate_store::{ObjectStore, Step};
 use std::alloc::Global;
 use std::mem;
@@ -16,9 +19,9 @@ use std::mem;
 /// The machine of one try of a fence. It owns the holder until it ends.
 #[derive(Drop)]
 pub enum InitMachine<T, C, R, E> {
-    /// The raise was refused before its first call, and the machine answers so.
+    /// It was refused before its first call, and answers so.
     Refused(SlateDBError),
-    /// The commit of the value held with its epoch plus one.
+    /// The commit of the value held with its new epoch.
     Committing(CommitPhase<T>, Stored<T, C, R>, E),
     /// It ended.
     Over,
@@ -44,6 +47,29 @@ fn fence<T: Drop, C: Drop, R: Drop, E: Epochs<T> + Drop>(
                 epochs,
                 epoch,
             })
+        }
+    }
+}
+
+// The machine of a commit, or of its refusal.
+fn start<T: Drop, C: Drop, R: Drop, E: Drop>(
+    stored: Stored<T, C, R>,
+    epochs: E,
+    commit: Result<CommitPhase<T>, SlateDBError>,
+) -> Result<InitMachine<T, C, R, E>, OutOfMemory>
+    requires putting { IfOk commit (λ c. is_putting c ≡ true) }
+    ensures open { IfOk result (λ machine. init_open machine ≡ true) }
+    ensures machine { IfOk result (λ machine. machine ≡ init_of commit stored epochs) }
+    ensures memory { IfOk result (λ machine. ran_out commit ≡ false) }
+{
+    match commit {
+        Ok(commit) => Ok(InitMachine::Committing(commit, stored, epochs)),
+        Err(e) => {
+            if e.is_memory() {
+                Err(OutOfMemory)
+            } else {
+                Ok(InitMachine::Refused(e))
+            }
         }
     }
 }
@@ -74,16 +100,34 @@ impl<T: Drop, C: ObjectCodec<T> + Drop, R: Rules<T> + Drop, E: Epochs<T> + Drop>
             held.id,
             &held.object,
         );
-        match raised {
-            Ok(commit) => Ok(InitMachine::Committing(commit, stored, epochs)),
-            Err(e) => {
-                if e.is_memory() {
-                    Err(OutOfMemory)
-                } else {
-                    Ok(InitMachine::Refused(e))
-                }
-            }
-        }
+        start(stored, epochs, raised)
+    }
+
+    /// The machine of one try of a fence with this epoch. Where the epoch of the version held is greater, or the commit is
+    /// refused before its first call, no call is due in it.
+    pub fn start_init_with_epoch(
+        alloc: Global,
+        stored: Stored<T, C, R>,
+        epochs: E,
+        epoch: u64,
+    ) -> Result<InitMachine<T, C, R, E>, OutOfMemory>
+        ensures open { IfOk result (λ machine. init_open machine ≡ true) }
+        ensures machine { IfOk result (λ machine. machine ≡ init_of (epoch_commit (R.refusal stored.rules)
+            (C.encoded stored.sequenced.codec) (E.epoch epochs) (E.with_epoch epochs) epoch Plain
+            stored.id stored.object) stored epochs) }
+    {
+        let held = &stored;
+        let set = prepare_epoch(
+            alloc,
+            &held.sequenced.codec,
+            &held.rules,
+            &epochs,
+            epoch,
+            &Right::Plain,
+            held.id,
+            &held.object,
+        );
+        start(stored, epochs, set)
     }
 }
 
@@ -93,7 +137,7 @@ impl<T: Drop, C: ObjectCodec<T> + Drop, R: Rules<T> + Drop, E: Epochs<T> + Drop>
     R,
     E,
 > {
-    /// Whether a call is due. None is after an end, unless memory ran out, nor where the raise was refused.
+    /// Whether a call is due. None is after an end, unless memory ran out, nor where it was refused.
     pub fn due(&self) -> bool
         ensures due { result ≡ init_due self.now }
         ensures open { result ≡ true → init_open self.now ≡ true }
@@ -104,7 +148,7 @@ impl<T: Drop, C: ObjectCodec<T> + Drop, R: Rules<T> + Drop, E: Epochs<T> + Drop>
         }
     }
 
-    /// Makes the one call that is due. A refused raise makes none and answers its refusal. A conflict ends it. Want of
+    /// Makes the one call that is due. A refused one makes none and answers its refusal. A conflict ends it. Want of
     /// memory leaves the machine as it was, and any other end leaves none due and drops the holder, or hands it out.
     pub fn next<S: ObjectStore>(
         &mut self,

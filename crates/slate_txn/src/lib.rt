@@ -2,6 +2,7 @@
 #![tactic(auto)]
 
 mod apply;
+mod create;
 mod fenced;
 mod fenced_apply;
 mod fenced_refresh;
@@ -15,12 +16,13 @@ mod stored;
 mod update;
 
 pub use apply::ApplyPhase;
+pub use create::CreateMachine;
 pub use fenced::Fenced;
 pub use fenced_refresh::FencedRefreshMachine;
 pub use fenced_update::FencedUpdateMachine;
 pub use init::InitMachine;
-pub use load::LoadMachine;
-pub use raise::prepare_raise;
+pub use load::{LoadMachine, TryLoadMachine};
+pub use raise::{prepare_epoch, prepare_raise};
 pub use refresh::RefreshMachine;
 pub use slate_ids::Epochs;
 pub use slate_log::{LogKind, Right, Rules, Sequenced};

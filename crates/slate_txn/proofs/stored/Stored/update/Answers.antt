@@ -15,7 +15,8 @@ returns-clause-update g c =
     let commit = c.in_ok-commit.commit in
     let reply = c.run-reply.result in
     let ran = rw (to_z-of_z w64 c.args.moment c.ranges.moment) at c.run-reply.ensures.run in
-    updated c.args.self.now c.args.moment old new commit _ reply c.hold.result c.in_ok-commit.ensures.commit c.hold.ensures.done
+    let start = started g.R.Rules.refusal g.C.ObjectCodec.encoded c.args.self.now c.args.dirty c.args.right.now in
+    updated c.args.self.now c.args.moment old new commit start reply c.hold.result c.in_ok-commit.ensures.commit c.hold.ensures.done
     (subst (λ (h : Holder _ _ _). OrMemory reply (CommitBegan h.sequenced.db h.sequenced.log c.args.moment old new commit) (Committed h.sequenced.db h.sequenced.log c.args.moment old new commit reply)) c.self.view_is ran)
 
 pub returns-clause-before : goal.returns-clause-before
