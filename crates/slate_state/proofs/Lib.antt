@@ -1,3 +1,5 @@
 mod CheckedFaults
+mod NoFaults
 mod ReferencedFaults
+mod Replies
 mod Wheres

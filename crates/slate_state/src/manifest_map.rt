@@ -2,8 +2,9 @@
 ghost use Rattle.std.specs.Prelude.{◌≡◌, ◌∷◌, [], IfOk, OnOk, OnErr};
 ghost use Rattle.std.specs.BTreeMap.{insert_entry};
 ghost use Rattle.std.specs.Ordering.{nat_cmp};
+ghost use Rattle.slate_state.specs.Referenced.{entries_of};
 
-use slate_ids::OutOfMemory;
+use slate_ids::{OutOfMemory, SlateDBError};
 use slate_model::Manifest;
 use std::alloc::Global;
 use std::collections::BTreeMap;
@@ -52,5 +53,17 @@ impl ManifestMap {
         ensures { result.entries ≡ self }
     {
         self.manifests
+    }
+}
+
+// The ordered map of those that were read.
+pub(crate) fn into_map(
+    reply: Result<ManifestMap, SlateDBError>,
+) -> Result<BTreeMap<u64, Manifest>, SlateDBError>
+    ensures { entries_of result ≡ reply }
+{
+    match reply {
+        Ok(found) => Ok(found.into_map()),
+        Err(e) => Err(e),
     }
 }

@@ -4,7 +4,7 @@ ghost use Rattle.slate_ids.specs.Answers.{Gives, OrMemory};
 ghost use Rattle.slate_log.specs.Due.{StillDue, FaultOf, FaultRose, NoFault, WhereOut, NeverOut};
 ghost use Rattle.slate_log.specs.TryRead.{try_reply};
 ghost use Rattle.slate_state.specs.Referenced.{number_asks, number_goes, referenced_asks, referenced_due, referenced_goes};
-ghost use Rattle.slate_state.specs.Referenced.{referenced_open, referenced_rank, referenced_start, rest_goes, found_goes, ReadsAll, ReferencedBegan, ReferencedRan, ReferencedSteps};
+ghost use Rattle.slate_state.specs.Referenced.{referenced_open, referenced_rank, referenced_start, rest_goes, found_goes, ReadsAll, Referenced, ReferencedBegan, ReferencedRan, ReferencedSteps};
 ghost use Rattle.slate_state.specs.declared.referenced_phase.ReferencedPhase.TheVariants.{Getting};
 ghost use Rattle.slate_store.specs.Machines.{GoesOn, GoesOnAlways, IsAgain, Steps};
 
@@ -274,4 +274,21 @@ impl ReferencedPhase {
             ReferencedPhase::Over => unreachable!(),
         }
     }
+}
+
+// Reads the versions that a manifest's checkpoints name.
+pub(crate) fn read_named<C: ObjectCodec<Manifest>, S: ObjectStore>(
+    alloc: Global,
+    sequenced: &Sequenced<Manifest, C>,
+    store: &mut S,
+    n: u64,
+    manifest: &Manifest,
+) -> Result<ManifestMap, SlateDBError>
+    ensures read { Referenced sequenced.now.db (C.decoded sequenced.now.codec) n manifest.now
+        (S.told store.old) (S.told store.new) result }
+    ensures fault { NoFault (C.decoded sequenced.now.codec)
+        → FaultOf (S.told store.old) (S.told store.new) result }
+{
+    let mut phase = ReferencedPhase::start(alloc, n, manifest)?;
+    phase.run(alloc, sequenced, store)
 }
