@@ -4,6 +4,7 @@
 
 mod checked_delete;
 mod checked_delete_phase;
+mod manifest_machines;
 mod manifest_map;
 mod manifest_store;
 mod names;
@@ -11,6 +12,10 @@ mod number_queue;
 mod referenced_phase;
 
 pub use checked_delete_phase::CheckedDeletePhase;
+pub use manifest_machines::{
+    AdvanceBoundaryMachine, DeleteManifestMachine, DeleteUncheckedMachine, LatestManifestMachine, ListManifestsMachine,
+    ReadManifestMachine, ReferencedManifestsMachine, TryLatestManifestMachine, TryReadManifestMachine,
+};
 pub use manifest_map::ManifestMap;
 pub use manifest_store::ManifestStore;
 pub use names::{ManifestNames, VersionNames};

@@ -43,6 +43,13 @@ impl Model for ManifestStore {
 }
 
 impl ManifestStore {
+    // The versions.
+    pub(crate) fn log(&self) -> &Sequenced<Manifest, ManifestCodec>
+        ensures { result.now ≡ self.now }
+    {
+        &self.sequenced
+    }
+
     /// The log of the manifests of this database. Takes no memory.
     pub fn new(db: DbPath) -> ManifestStore
         ensures db { result.db ≡ db }
