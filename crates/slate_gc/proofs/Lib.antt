@@ -1,4 +1,3 @@
-mod Named
 mod Kept
 mod Starts
 mod PassFaults

@@ -1,12 +1,11 @@
 -- The removal after the end of a read, and that it ends in no fault.
 use Rattle.std.specs.Prelude.{◌≡◌, ◌≢◌, ℕ, ◌+◌, ◌==◌, ℤ, Bool, true, false, List, Option, Some, None, Result, Ok, Err, if◌then◌else◌, refl}
 use Rattle.std.specs.List.{list_any}
-use Rattle.std.proofs.Common.{inl, inr, ap, sym, subst, true≢false}
+use Rattle.std.proofs.Common.{inl, inr, ap, sym, ◌∙◌, subst, true≢false}
 use Rattle.slate_ids.specs.Answers.{OrMemory}
 use Rattle.slate_ids.specs.Limits.{last_number}
 use Rattle.slate_ids.specs.declared.error.SlateDBError.{SlateDBError}
 use Rattle.slate_ids.specs.declared.error.SlateDBError.TheVariants.{StoreFault, Exhausted}
-use Rattle.slate_ids.specs.declared.error.UpdateRule.{UpdateRule}
 use Rattle.slate_gc.specs.GcPass.{removal_goes, read_on}
 use Rattle.slate_gc.specs.declared.gc_pass.GcPass.{GcPass}
 use Rattle.slate_gc.specs.declared.gc_pass.GcPass.TheVariants.{Reading}
@@ -23,9 +22,11 @@ use Rattle.slate_log.specs.declared.right.Right.TheVariants.{Plain}
 use Rattle.slate_model.specs.declared.manifest.Manifest.{Manifest}
 use Rattle.slate_store.specs.Machines.{End, GoesOn}
 use Rattle.slate_store.specs.declared.step.Step.{Step}
-use Rattle.slate_updates.specs.Changes.{commit_of, floored}
+use Rattle.slate_updates.specs.Changes.{commit_of, floored, with_floor}
 use Rattle.slate_updates.specs.Checkpoints.{is_expired}
-use Rattle.slate_updates.specs.Rules.{manifest_refusal, refused_by}
+use Rattle.slate_updates.specs.Rules.{manifest_refusal}
+use Rattle.slate_updates.specs.RuleLaws.{IsOfRules, is_of_rules}
+use Rattle.slate_updates.proofs.Lawful.{causes}
 use Rattle.slate_updates.specs.declared.manifest_change.ManifestChange.TheVariants.{DropExpired}
 
 -- the removal, as the step of the read's last call
@@ -55,19 +56,19 @@ encoded_well : (n : ℕ) (m : Manifest) (bytes : Result (List ℕ) SlateDBError)
 encoded_well n m (Ok bytes) h = refl
 encoded_well n m (Err e) h = λ same. h (ap (λ (k : SlateDBError). Err k) same)
 
-checked_well : (rule : Option UpdateRule) (n : ℕ) (m : Manifest) (bytes : Result (List ℕ) SlateDBError) → bytes ≢ Err StoreFault → StartsWell (some_commit (checked_commit (refused_by rule) n m bytes))
-checked_well None n m bytes h = encoded_well n m bytes h
-checked_well (Some rule) n m bytes h = λ same. absurd cc
+checked_well : (refusal : Option SlateDBError) (n : ℕ) (m : Manifest) (bytes : Result (List ℕ) SlateDBError) → IsOfRules refusal → bytes ≢ Err StoreFault → StartsWell (some_commit (checked_commit refusal n m bytes))
+checked_well None n m bytes own h = encoded_well n m bytes h
+checked_well (Some e) n m bytes own h = λ same. let clash : false ≡ true = sym (ap is_of_rules same) ∙ own in cc
 
-numbered_well : (last : Bool) (n : ℕ) (refusal : Option UpdateRule) (m : Manifest) (bytes : Result (List ℕ) SlateDBError) → bytes ≢ Err StoreFault
-    → StartsWell (some_commit (if last then Err (Exhausted n) else checked_commit (refused_by refusal) (n + 1) m bytes))
-numbered_well true n refusal m bytes h = λ same. absurd cc
-numbered_well false n refusal m bytes h = checked_well refusal (n + 1) m bytes h
+numbered_well : (last : Bool) (n : ℕ) (refusal : Option SlateDBError) (m : Manifest) (bytes : Result (List ℕ) SlateDBError) → IsOfRules refusal → bytes ≢ Err StoreFault
+    → StartsWell (some_commit (if last then Err (Exhausted n) else checked_commit refusal (n + 1) m bytes))
+numbered_well true n refusal m bytes own h = λ same. absurd cc
+numbered_well false n refusal m bytes own h = checked_well refusal (n + 1) m bytes own h
 
 wanted_well : (encoded : Manifest → Result (List ℕ) SlateDBError) → NoFault encoded → (n floor : ℕ) (old new : Manifest) (has : Bool)
     → StartsWell (wanted (λ new. prepared manifest_refusal encoded n old new Plain) (floored floor (if has then Ok (Some new) else Ok None)))
 wanted_well encoded good n floor old new false = tt
-wanted_well encoded good n floor old new true = numbered_well (n == last_number) n _ _ _ (good _)
+wanted_well encoded good n floor old new true = numbered_well (n == last_number) n _ _ _ (causes n old (with_floor floor new) Plain) (good _)
 
 pub removal_well : (encoded : Manifest → Result (List ℕ) SlateDBError) → NoFault encoded → (now : ℤ) (n : ℕ) (m : Manifest) → StartsWell (commit_of encoded DropExpired now n m)
 removal_well encoded good now n m = wanted_well encoded good n m.core.floor m _ (list_any (is_expired now) m.core.checkpoints)

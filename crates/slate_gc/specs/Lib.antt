@@ -1,4 +1,3 @@
-pub mod Named
 pub mod Filter
 pub mod Picks
 pub mod Deletes

@@ -3,7 +3,7 @@ ghost use Rattle.std.specs.Prelude.{◌≡◌, ◌++◌, ◌∷◌, [], List, If
 ghost use Rattle.slate_log.specs.LogPaths.{number_of};
 ghost use Rattle.slate_log.specs.declared.log_kind.LogKind.TheVariants as logs;
 ghost use Rattle.slate_model.specs.declared.checkpoint.Checkpoint.{Checkpoint as AnyCheckpoint};
-ghost use Rattle.slate_gc.specs.Named.{IsSetOf};
+ghost use Rattle.slate_updates.specs.Named.{IsSetOf};
 ghost use Rattle.slate_gc.specs.Picks as picking;
 
 use crate::objects::Objects;
@@ -11,6 +11,7 @@ use slate_ids::{Listed, Millis, OutOfMemory};
 use slate_log::LogKind;
 use slate_model::Checkpoint;
 use slate_store::ObjectMetadata;
+use slate_updates::named_versions;
 use std::alloc::Global;
 use std::collections::BTreeSet;
 
@@ -38,17 +39,6 @@ pub fn aged(
         }
     }
     Ok(listed)
-}
-
-// The versions that checkpoints name.
-fn named_versions(alloc: Global, checkpoints: &[Checkpoint]) -> Result<BTreeSet<u64>, OutOfMemory>
-    ensures { IfOk result (λ named. IsSetOf named checkpoints.now) }
-{
-    let mut named = BTreeSet::new(alloc);
-    for checkpoint in checkpoints {
-        named.insert(checkpoint.manifest_id)?;
-    }
-    Ok(named)
 }
 
 // Whether an object is a version below the greatest that isn't named.

@@ -3,7 +3,7 @@
 use slate_ids::{CheckpointId, Epochs, SlateDBError, UpdateRule};
 use slate_log::{Right, Rules};
 use slate_model::{Checkpoint, Manifest, ManifestCore};
-use slate_updates::{ManifestRules, WriterEpochs, flush, raise_writer};
+use slate_updates::{ManifestRules, ManifestEpochs, flush, raise_writer};
 use std::alloc::Global;
 use std::process::Abort;
 
@@ -88,7 +88,7 @@ fn checkpoints_name_known_versions(rt: HostRuntime) {
 /// The writer's epoch once it was raised.
 fn raised(alloc: Global, epoch: u64) -> Option<u64> {
     match raise_writer(alloc, 1, &numbered(alloc, epoch, 0, 0)) {
-        Ok(Some(manifest)) => Some(WriterEpochs.get(&manifest)),
+        Ok(Some(manifest)) => Some(ManifestEpochs::Writer.get(&manifest)),
         _ => None,
     }
 }

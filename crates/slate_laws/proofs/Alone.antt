@@ -7,7 +7,6 @@ use Rattle.slate_ids.specs.Ids.{is_db_path}
 use Rattle.slate_ids.specs.Limits.{last_number, next_count}
 use Rattle.slate_ids.specs.declared.error.SlateDBError.{SlateDBError}
 use Rattle.slate_ids.specs.declared.error.SlateDBError.TheVariants.{Exhausted, ManifestMissing, TransactionalObjectVersionExists}
-use Rattle.slate_ids.specs.declared.error.UpdateRule.TheVariants.{U1, U2}
 use Rattle.slate_ids.specs.declared.object_path.ObjectPath.TheVariants as paths
 use Rattle.slate_ids.proofs.PathsApart.{same_path}
 use Rattle.slate_manifest_parts.specs.Decoding.{decoded_manifest}
@@ -50,7 +49,10 @@ use Rattle.slate_gc.specs.declared.pass_options.PassOptions.{PassOptions}
 use Rattle.slate_gc.specs.declared.pass_phase.PassPhase.TheVariants as passing
 use Rattle.slate_updates.specs.Changes.{commit_of, floored, with_floor}
 use Rattle.slate_updates.specs.Checkpoints.{is_named, is_expired, with_checkpoints}
-use Rattle.slate_updates.specs.Rules.{names_known, manifest_refusal, refused_by, refusal_of_update}
+use Rattle.slate_updates.specs.Prefixes.{prefix_refusal}
+use Rattle.slate_updates.specs.Rules.{manifest_refusal}
+use Rattle.slate_updates.proofs.Lawful.{lawful}
+use Rattle.slate_updates.proofs.Unchanged.{passes}
 use Rattle.slate_updates.specs.declared.manifest_change.ManifestChange.TheVariants.{DropExpired}
 use Rattle.slate_events.specs.declared.call.Call.{Call}
 use Rattle.slate_events.specs.declared.reply.Reply.{Reply}
@@ -102,25 +104,21 @@ left_named id (c ∷ cs) keep all h =
 abbrev less : (Checkpoint → Bool) → Manifest → Manifest
 less keep m = with_floor m.core.floor (with_checkpoints (filter keep m.core.checkpoints) m)
 
--- no rule refuses it
-less_lawful : (n : ℕ) (m : Manifest) (keep : Checkpoint → Bool) → refusal_of_update n m (less keep m) ≡ None
-less_lawful n m keep =
-    by_tests (nat_lt m.writer_epoch m.writer_epoch) (nat_lt m.compactor_epoch m.compactor_epoch) (nat_lt (less keep m).core.floor m.core.floor) (names_known n m (less keep m))
-    (not_less m.writer_epoch) (not_less m.compactor_epoch) (not_above m.core.floor (watermark (with_checkpoints (filter keep m.core.checkpoints) m).core))
-    (left_named n m.core.checkpoints keep m.core.checkpoints (λ k e. e))
+-- no rule refuses it, where the prefixes don't nest
+less_lawful : (n : ℕ) (m : Manifest) (keep : Checkpoint → Bool) → prefix_refusal m.core.segments ≡ None → manifest_refusal n m (less keep m) Plain ≡ None
+less_lawful n m keep apart =
+    let tables = passes m (less keep m) Plain refl refl in
+    lawful n m (less keep m) Plain (record {
+      numbers = none_falls m.writer_epoch m.compactor_epoch m.core.replay_after_wal_id m.core.floor (watermark (with_checkpoints (filter keep m.core.checkpoints) m).core);
+      names = left_named n m.core.checkpoints keep m.core.checkpoints (λ k e. e);
+      entries = tables.0;
+      ticks = tables.1;
+      runs = tables.2;
+      prefixes = apart;
+    })
   where
-    not_less : (k : ℕ) → nat_lt k k ≡ false
-    not_less k = grind (arith, nat_tests)
-
-    not_above : (a b : ℕ) → nat_lt (max a b) a ≡ false
-    not_above a b = grind (arith, nat_tests)
-
-    by_tests : (a b c d : Bool) → a ≡ false → b ≡ false → c ≡ false → d ≡ true → (if a || b || c then Some U1 else if d then None else Some U2) ≡ None
-    by_tests false false false true h k l e = refl
-    by_tests true b c d h k l e = absurd cc
-    by_tests false true c d h k l e = absurd cc
-    by_tests false false true d h k l e = absurd cc
-    by_tests false false false false h k l e = absurd cc
+    none_falls : (w c r f k : ℕ) → (nat_lt w w || nat_lt c c || nat_lt r r || nat_lt (max f k) f) ≡ false
+    none_falls w c r f k = grind (arith, nat_tests)
 
 -- ---- counts
 
@@ -144,6 +142,7 @@ pub record IsLatest (db : List ℕ) (s : Store) (n : ℕ) (v : Manifest) : Type 
   pub bytes : List ℕ
   pub encodes : encoded source ≡ Ok bytes
   pub normal : v ≡ normal_manifest source
+  pub apart : prefix_refusal v.core.segments ≡ None
   pub small : n < 2 ^ 64
   pub free : n + 1 < 2 ^ 64 → object_at (version_path ManifestLog db (n + 1)) s ≡ None
 
@@ -286,7 +285,7 @@ module _ (facts : Facts) (call : Call) (db : List ℕ) (options : PassOptions) w
           is_last : (i : ℕ) → (i == last_number) ≡ true → i ≡ last_number
           is_last i e = grind (arith, nat_tests)
       by_number k false is =
-          subst (λ (o : Option SlateDBError). Removed s (removal_goes now (some_commit (checked_commit o (n + 1) new (encoded new))))) (sym (ap refused_by (less_lawful n v keep)))
+          subst (λ (o : Option SlateDBError). Removed s (removal_goes now (some_commit (checked_commit o (n + 1) new (encoded new))))) (sym (less_lawful n v keep h.apart))
           (subst (λ (r : Result (List ℕ) SlateDBError). Removed s (removal_goes now (some_commit (encoded_commit (n + 1) new r)))) (sym k.is) ((fits n is h.small, h.free (fits n is h.small), λ b e. above b n (up b e)), tt))
         where
           fits : (i : ℕ) → (i == last_number) ≡ false → i < 2 ^ 64 → i + 1 < 2 ^ 64

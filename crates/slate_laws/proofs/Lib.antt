@@ -9,6 +9,7 @@ mod Moves
 mod Lists
 mod Turns
 mod Maps
+mod NormalRules
 mod Manifests
 mod Advances
 mod Passes

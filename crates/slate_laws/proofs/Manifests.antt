@@ -6,10 +6,10 @@ use Rattle.std.specs.List.{list_all}
 use Rattle.slate_ids.specs.Limits.{last_number}
 use Rattle.slate_ids.specs.declared.error.SlateDBError.{SlateDBError}
 use Rattle.slate_ids.specs.declared.error.SlateDBError.TheVariants.{Exhausted}
-use Rattle.slate_ids.specs.declared.error.UpdateRule.TheVariants.{U1, U2}
 use Rattle.slate_layout.specs.laws.Codecs.{codec_round_trip, record_codec_trip}
 use Rattle.slate_updates.specs.Checkpoints.{is_named}
-use Rattle.slate_updates.specs.Rules.{falls, names_known, refused_by, manifest_refusal}
+use Rattle.slate_updates.specs.Rules.{manifest_refusal}
+use Rattle.slate_updates.proofs.Lawful.{nothing_falls, names_stay}
 use Rattle.slate_encodable.specs.Normal.{normal_manifest, normal_checkpoint}
 use Rattle.slate_model.specs.declared.checkpoint.Checkpoint.{Checkpoint}
 use Rattle.slate_model.specs.declared.manifest.Manifest.{Manifest}
@@ -25,55 +25,10 @@ use Rattle.slate_log.specs.declared.log_kind.LogKind.{LogKind}
 use Rattle.slate_log.specs.declared.log_kind.LogKind.TheVariants as logs
 use Rattle.slate_protocol.specs.Logs.{manifests, records, log_of}
 use Rattle.slate_laws.proofs.Facts.{IsLog}
-
--- both of two
-all_true : (a b : Bool) → (a && b) ≡ true → (a ≡ true) × (b ≡ true)
-all_true true b h = (refl, h)
-all_true false b h = absurd cc
-
--- the rules look at no moment, so what is read back keeps them
-names_normal : (n : ℕ) (old : Manifest) (cs : List Checkpoint)
-    → list_all (λ c. c.manifest_id == n + 1 || is_named c.manifest_id old.core.checkpoints) (map normal_checkpoint cs) ≡ list_all (λ c. c.manifest_id == n + 1 || is_named c.manifest_id old.core.checkpoints) cs
-names_normal n old [] = refl
-names_normal n old (c ∷ cs) = ap (λ (b : Bool). (c.manifest_id == n + 1 || is_named c.manifest_id old.core.checkpoints) && b) (names_normal n old cs)
-
-refusal_normal : (n : ℕ) (old m : Manifest) (right : Right) → manifest_refusal n old (normal_manifest m) right ≡ manifest_refusal n old m right
-refusal_normal n old m right = ap (λ (b : Bool). refused_by (if falls old m then Some U1 else (if b then None else Some U2))) (names_normal n old m.core.checkpoints)
-
--- a number that checkpoints name is one that all of them may name
-named_known : (n k : ℕ) (old : Manifest) (cs : List Checkpoint) → list_all (λ c. c.manifest_id == n + 1 || is_named c.manifest_id old.core.checkpoints) cs ≡ true → is_named k cs ≡ true → (k ≡ n + 1) ⊎ (is_named k old.core.checkpoints ≡ true)
-named_known n k old [] all h = absurd cc
-named_known n k old (c ∷ cs) all h = by_first (c.manifest_id == k) refl h (all_true (c.manifest_id == n + 1 || is_named c.manifest_id old.core.checkpoints) _ all)
-    (λ rest more. named_known n k old cs rest more)
-  where
-    same : (a b : ℕ) → (a == b) ≡ true → a ≡ b
-    same a b e = grind (arith, nat_tests)
-
-    either : (t : Bool) → (c.manifest_id == n + 1) ≡ t → c.manifest_id ≡ k → (t || is_named c.manifest_id old.core.checkpoints) ≡ true → (k ≡ n + 1) ⊎ (is_named k old.core.checkpoints ≡ true)
-    either true is e own = inl (sym e ∙ same c.manifest_id (n + 1) is)
-    either false is e own = inr (subst (λ j. is_named j old.core.checkpoints ≡ true) e own)
-
-    by_first : (t : Bool) → (c.manifest_id == k) ≡ t → (t || is_named k cs) ≡ true
-        → ((c.manifest_id == n + 1 || is_named c.manifest_id old.core.checkpoints) ≡ true) × (list_all (λ c. c.manifest_id == n + 1 || is_named c.manifest_id old.core.checkpoints) cs ≡ true)
-        → (list_all (λ c. c.manifest_id == n + 1 || is_named c.manifest_id old.core.checkpoints) cs ≡ true → is_named k cs ≡ true → (k ≡ n + 1) ⊎ (is_named k old.core.checkpoints ≡ true))
-        → (k ≡ n + 1) ⊎ (is_named k old.core.checkpoints ≡ true)
-    by_first true is h both rest = either (c.manifest_id == n + 1) refl (same c.manifest_id k is) both.0
-    by_first false is h both rest = rest both.1 h
-
--- the rules let a version name no number that the one before doesn't name, but its own
-manifest_known : (n : ℕ) (old m : Manifest) (right : Right) (k : ℕ) → manifest_refusal n old m right ≡ None → is_named k m.core.checkpoints ≡ true → (k ≡ n + 1) ⊎ (is_named k old.core.checkpoints ≡ true)
-manifest_known n old m right k h named = by_falls (falls old m) h
-  where
-    by_names : (b : Bool) → names_known n old m ≡ b → refused_by (if b then None else Some U2) ≡ None → (k ≡ n + 1) ⊎ (is_named k old.core.checkpoints ≡ true)
-    by_names true is h = named_known n k old m.core.checkpoints is named
-    by_names false is h = absurd cc
-
-    by_falls : (b : Bool) → refused_by (if b then Some U1 else (if names_known n old m then None else Some U2)) ≡ None → (k ≡ n + 1) ⊎ (is_named k old.core.checkpoints ≡ true)
-    by_falls true h = absurd cc
-    by_falls false h = by_names (names_known n old m) refl h
+use Rattle.slate_laws.proofs.NormalRules.{refusal_normal}
 
 pub manifests_log : IsLog manifests
-manifests_log = record { round = λ m bytes h. codec_round_trip m bytes h; plain = λ n old m right h. refusal_normal n old m right ∙ h; known = manifest_known; first = λ author m k h named. absurd cc }
+manifests_log = record { round = λ m bytes h. codec_round_trip m bytes h; plain = λ n old m right h. refusal_normal n old m right ∙ h; known = λ n old m right k h named. names_stay n old m right h k named; first = λ author m k h named. absurd cc }
 
 -- ---- the log of records, of which no author makes anything yet
 
@@ -139,11 +94,4 @@ module _ (encoded : Manifest → Result (List ℕ) SlateDBError) (change : Manif
 
 -- the rules let no writer epoch fall
 pub epoch_rises : (old new : Manifest) (n : ℕ) (right : Right) → manifest_refusal n old new right ≡ None → old.writer_epoch ≤ new.writer_epoch
-epoch_rises old new n right h = by_rule (falls old new) refl h
-  where
-    no_fall : (x y : ℕ) (a b : Bool) → (nat_lt x y || a || b) ≡ false → y ≤ x
-    no_fall x y a b h = grind (arith, nat_tests)
-
-    by_rule : (b : Bool) → falls old new ≡ b → refused_by (if b then Some U1 else (if names_known n old new then None else Some U2)) ≡ None → old.writer_epoch ≤ new.writer_epoch
-    by_rule true is h = absurd cc
-    by_rule false is h = no_fall new.writer_epoch old.writer_epoch (nat_lt new.compactor_epoch old.compactor_epoch) (nat_lt new.core.floor old.core.floor) is
+epoch_rises old new n right h = (nothing_falls n old new right h).writer

@@ -20,7 +20,9 @@ use Rattle.slate_encodable.proofs.NormalLaws.{normal_only}
 use Rattle.slate_encodable.specs.Normal.{normal_manifest, is_normal}
 use Rattle.slate_model.specs.declared.checkpoint.Checkpoint.{Checkpoint}
 use Rattle.slate_model.specs.declared.manifest.Manifest.{Manifest}
+use Rattle.slate_events.specs.declared.cluster_cause.ClusterCause.{ClusterCause}
 use Rattle.slate_events.specs.declared.cluster_cause.ClusterCause.TheVariants as cause
+use Rattle.slate_model.specs.Selection.{are_apart}
 use Rattle.slate_events.specs.declared.db_spec.DbSpec.{DbSpec}
 use Rattle.slate_store.specs.Store.{Store, object_at}
 use Rattle.slate_store.specs.declared.object.StoredObject.{StoredObject}
@@ -58,6 +60,7 @@ record Parts (specs : List DbSpec) : Type 0 where
   pub is : objects_of specs ≡ Some objects
   pub made : IsMade specs objects
   pub own : list_any names_other specs ≡ false
+  pub apart : list_any overlaps specs ≡ false
 
 -- where no cause is left, the checkpoints name first versions
 names_own : (specs : List DbSpec) (objects : Firsts) → cause_beside objects specs ≡ None → list_any names_other specs ≡ false
@@ -68,13 +71,21 @@ names_own specs objects h = by_both (list_any overlaps specs) (list_any names_ot
     by_both false true h = absurd cc
     by_both false false h = refl
 
+-- nor do prefixes nest
+none_overlap : (specs : List DbSpec) (objects : Firsts) → cause_beside objects specs ≡ None → list_any overlaps specs ≡ false
+none_overlap specs objects h = by_first (list_any overlaps specs) _ h
+  where
+    by_first : (b : Bool) (rest : Option ClusterCause) → (if b then Some cause.Segments else rest) ≡ None → b ≡ false
+    by_first true rest h = absurd cc
+    by_first false rest h = refl
+
 parts_of : (specs : List DbSpec) → cause_of_specs specs ≡ None → Parts specs
 parts_of specs h = by_tallies (tallies_from [] specs) (are_ids_fine specs) (objects_of specs) refl refl h
   where
     by_tallies : (t : Option (List (List ℕ × Tally))) (ids : Bool) (o : Option Firsts) → tallies_from [] specs ≡ t → objects_of specs ≡ o
         → (if not (is_some t) then Some cause.Path else (if not ids then Some cause.Ids else (if not (is_some o) then Some cause.Value else cause_beside (listed_or_none o) specs))) ≡ None
         → Parts specs
-    by_tallies (Some t) true (Some o) is_t is_o h = record { tallies = t; tallied = is_t; objects = o; is = is_o; made = made_of specs o (firsts_from [] specs) refl is_o; own = names_own specs o h }
+    by_tallies (Some t) true (Some o) is_t is_o h = record { tallies = t; tallied = is_t; objects = o; is = is_o; made = made_of specs o (firsts_from [] specs) refl is_o; own = names_own specs o h; apart = none_overlap specs o h }
     by_tallies None ids o is_t is_o h = absurd cc
     by_tallies (Some t) false o is_t is_o h = absurd cc
     by_tallies (Some t) true None is_t is_o h = absurd cc
@@ -83,6 +94,20 @@ parts_of specs h = by_tallies (tallies_from [] specs) (are_ids_fine specs) (obje
 neither : (a b : Bool) → (a || b) ≡ false → (a ≡ false) × (b ≡ false)
 neither true b h = absurd cc
 neither false b h = (refl, h)
+
+-- the prefixes of an accepted database don't nest
+own_apart : (d : List ℕ) (spec : DbSpec) (specs : List DbSpec) → list_any overlaps specs ≡ false → spec_of d specs ≡ Some spec → are_apart spec.manifest.core.segments ≡ true
+own_apart d spec [] h at = absurd cc
+own_apart d spec (first ∷ specs) h at = test (bytes_eq d first.path) at (neither (overlaps first) (list_any overlaps specs) h) (own_apart d spec specs)
+  where
+    not_over : (b : Bool) → not b ≡ false → b ≡ true
+    not_over true h = refl
+    not_over false h = absurd cc
+
+    test : (b : Bool) → (if b then Some first else spec_of d specs) ≡ Some spec → (overlaps first ≡ false) × (list_any overlaps specs ≡ false)
+        → (list_any overlaps specs ≡ false → spec_of d specs ≡ Some spec → are_apart spec.manifest.core.segments ≡ true) → are_apart spec.manifest.core.segments ≡ true
+    test true at h rest = let same : first ≡ spec = cc in subst (λ (s : DbSpec). are_apart s.manifest.core.segments ≡ true) same (not_over (are_apart first.manifest.core.segments) h.0)
+    test false at h rest = rest h.1 at
 
 -- the checkpoints of an accepted database name its first version
 own_names : (d : List ℕ) (spec : DbSpec) (specs : List DbSpec) → list_any names_other specs ≡ false → spec_of d specs ≡ Some spec → names_other spec ≡ false
@@ -127,6 +152,7 @@ pub record HasFirst (specs : List DbSpec) (d : List ℕ) : Type 0 where
   pub is : opening_manifests specs d ≡ opening_link spec ∷ []
   pub encodes : encoded spec.manifest ≡ Ok (listed_or_none (first_bytes spec.manifest))
   pub normal : normal_manifest spec.manifest ≡ spec.manifest
+  pub apart : are_apart spec.manifest.core.segments ≡ true
 
 first_encodes : (m : Manifest) (bytes : List ℕ) → first_bytes m ≡ Some bytes → (encoded m ≡ Ok (listed_or_none (first_bytes m))) × (normal_manifest m ≡ m)
 first_encodes m bytes h = by_bytes (encoded m) refl (is_normal m) refl h
@@ -220,7 +246,7 @@ module _ (specs : List DbSpec) (accepted : IsAccepted specs) where
     pub has_first : HasFirst specs d
     has_first =
         let e = first_encodes it.spec.manifest it.found.bytes it.found.is in
-        record { spec = it.spec; is = chain_is; encodes = e.0; normal = e.1 }
+        record { spec = it.spec; is = chain_is; encodes = e.0; normal = e.1; apart = own_apart d it.spec specs parts.apart it.at }
 
     no_boundary : (k : LogKind) → object_at (boundary_path k d) w.store ≡ None
     no_boundary logs.Manifest = nothing_at (paths.ManifestBoundary d) (record { fine = named; away = λ db id e. absurd cc }) (λ db e. absurd cc)

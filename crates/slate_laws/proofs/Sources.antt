@@ -1,5 +1,5 @@
 -- The greatest manifest of a database is what is read back of one that has bytes: at each moment of a run.
-use Rattle.std.proofs.Common.{◌≡◌, ℕ, ◌<◌, List, [], ◌∷◌, Ok, sym, subst, arith}
+use Rattle.std.proofs.Common.{◌≡◌, ℕ, ◌<◌, List, [], ◌∷◌, None, Ok, sym, subst, arith}
 use Rattle.slate_encodable.specs.Normal.{normal_manifest}
 use Rattle.slate_layout.specs.Codec.{encoded}
 use Rattle.slate_log.specs.declared.log_kind.LogKind.TheVariants as logs
@@ -9,16 +9,21 @@ use Rattle.slate_protocol.specs.Chains.{Link, Changed, IsChain, IsFirst, top}
 use Rattle.slate_protocol.specs.Chains.Changed.{Stays, Gets}
 use Rattle.slate_protocol.specs.Chains.IsFirst.{Opens, Begins}
 use Rattle.slate_protocol.specs.Lawful.{IsAccepted}
-use Rattle.slate_protocol.specs.Logs.{Author, Chain, manifests, opening_chains}
+use Rattle.slate_protocol.specs.Logs.{Author, Chain, change_by, manifests, opening_chains}
 use Rattle.slate_protocol.specs.Specs.{opening_world}
 use Rattle.slate_protocol.specs.World.{HasDb}
+use Rattle.slate_updates.specs.Changes.{right_of}
+use Rattle.slate_updates.specs.Prefixes.{prefix_refusal}
+use Rattle.slate_updates.proofs.Lawful.{keeps}
+use Rattle.slate_updates.proofs.PrefixesApart.{none_nested}
 use Rattle.slate_laws.proofs.Opening.{has_first}
 
--- the manifest of which a version is read back
+-- the manifest of which a version is read back, whose prefixes don't nest
 pub record HasSource (l : Link Manifest Author) : Type 0 where
   pub source : Manifest
   pub encodes : encoded source ≡ Ok l.bytes
   pub normal : l.value ≡ normal_manifest source
+  pub apart : prefix_refusal l.value.core.segments ≡ None
 
 -- there is a version, and the greatest has one
 abbrev pub TopHasSource : Chain logs.Manifest → Type 0
@@ -42,10 +47,10 @@ source_stays P c c' (Gets l author by p is) h k = subst TopHasSource (sym is) (b
   where
     by_old : (b : Chain logs.Manifest) → IsChain manifests (l ∷ b) → TopHasSource b → HasSource l
     by_old [] h k = absurd k
-    by_old (old ∷ b) h k = record { source = h.0.made; encodes = h.0.bytes; normal = h.0.value }
+    by_old (old ∷ b) h k = record { source = h.0.made; encodes = h.0.bytes; normal = h.0.value; apart = (keeps old.number old.value l.value (right_of (change_by h.0.author)) h.0.lawful).prefixes }
 
 -- a database begins so
 pub source_begins : (specs : List DbSpec) (accepted : IsAccepted specs) (d : List ℕ) → HasDb (opening_world specs) d → TopHasSource (opening_chains specs logs.Manifest d)
 source_begins specs accepted d has =
     let f = has_first specs accepted d has in
-    subst TopHasSource (sym f.is) (record { source = f.spec.manifest; encodes = f.encodes; normal = sym f.normal })
+    subst TopHasSource (sym f.is) (record { source = f.spec.manifest; encodes = f.encodes; normal = sym f.normal; apart = none_nested f.spec.manifest.core.segments f.apart })

@@ -120,6 +120,7 @@ module _ (db : List ℕ) (named : is_db_path db ≡ true) (s : Store) where
               bytes = l.bytes;
               encodes = h.encodes;
               normal = h.normal;
+              apart = h.apart;
               small = i.small;
               free = λ small. no_bytes (object_at (version_path logs.Manifest db (l.number + 1)) s) (i.above (l.number + 1) after_bound small ∙ ap link_bytes none_next);
             }

@@ -21,4 +21,4 @@ pub use manifest_store::ManifestStore;
 pub use names::{ManifestNames, VersionNames};
 pub use number_queue::NumberQueue;
 pub use referenced_phase::ReferencedPhase;
-pub use slate_updates::ManifestRules;
+pub use slate_updates::{ManifestEpochs, ManifestRules, l0_ulid_cutoff};

@@ -8,8 +8,7 @@ use Rattle.slate_ids.specs.declared.error.FieldName.{FieldName}
 use Rattle.slate_ids.specs.declared.error.FormatName.{FormatName}
 use Rattle.slate_ids.specs.declared.error.FormatName.TheVariants.{Manifest as ManifestFormat}
 use Rattle.slate_ids.specs.declared.error.SlateDBError.{SlateDBError}
-use Rattle.slate_ids.specs.declared.error.SlateDBError.TheVariants.{Corrupt, Exhausted, InvalidVersion, ManifestMissing, StoreFault}
-use Rattle.slate_ids.specs.declared.error.UpdateRule.{UpdateRule}
+use Rattle.slate_ids.specs.declared.error.SlateDBError.TheVariants.{Corrupt, Exhausted, InvalidVersion, ManifestMissing, OutOfMemory, StoreFault}
 use Rattle.slate_model.specs.Trees.{views_of}
 use Rattle.slate_model.specs.declared.manifest.Manifest.{Manifest}
 use Rattle.slate_parts.specs.InfoCodec.{unless_field}
@@ -43,7 +42,9 @@ use Rattle.slate_log.specs.declared.right.Right.{Right}
 use Rattle.slate_log.specs.declared.right.Right.TheVariants.{Plain}
 use Rattle.slate_updates.specs.Changes.{commit_of, floored, with_floor}
 use Rattle.slate_updates.specs.Checkpoints.{is_expired}
-use Rattle.slate_updates.specs.Rules.{manifest_refusal, refusal_of_update, refused_by}
+use Rattle.slate_updates.specs.Rules.{manifest_refusal}
+use Rattle.slate_updates.specs.RuleLaws.{IsOfRules, is_of_rules}
+use Rattle.slate_updates.proofs.Lawful.{causes}
 use Rattle.slate_updates.specs.declared.manifest_change.ManifestChange.TheVariants.{DropExpired}
 use Rattle.slate_gc.specs.Deletes.{has_object}
 use Rattle.slate_gc.specs.GcPass as whole
@@ -148,14 +149,19 @@ plain_typed name typed (Err e) h = h
 plain_encoded : (m : Manifest) → IsPlainResult (encoded m)
 plain_encoded m = plain_typed ManifestFormat (is_manifest m) (encoded_manifest m) (plain_early (early_field m) m)
 
-plain_checked : (rule : Option UpdateRule) (n : ℕ) (m : Manifest) (bytes : Result (List ℕ) SlateDBError) → IsPlainResult bytes → IsPlainResult (some_commit (checked_commit (refused_by rule) n m bytes))
-plain_checked None n m (Ok bytes) h = tt
-plain_checked None n m (Err e) h = h
-plain_checked (Some rule) n m bytes h = refl
+-- a refusal of the rules is no want of memory
+rules_plain : (e : SlateDBError) → is_of_rules e ≡ true → is_memory e ≡ false
+rules_plain OutOfMemory h = absurd cc
+rules_plain _ h = refl
+
+plain_checked : (refusal : Option SlateDBError) (n : ℕ) (m : Manifest) (bytes : Result (List ℕ) SlateDBError) → IsOfRules refusal → IsPlainResult bytes → IsPlainResult (some_commit (checked_commit refusal n m bytes))
+plain_checked None n m (Ok bytes) own h = tt
+plain_checked None n m (Err e) own h = h
+plain_checked (Some e) n m bytes own h = rules_plain e own
 
 plain_prepared : (n : ℕ) (old m : Manifest) (right : Right) (last : Bool) → IsPlainResult (some_commit (if last then Err (Exhausted n) else checked_commit (manifest_refusal n old m right) (n + 1) m (encoded m)))
 plain_prepared n old m right true = refl
-plain_prepared n old m right false = plain_checked (refusal_of_update n old m) (n + 1) m (encoded m) (plain_encoded m)
+plain_prepared n old m right false = plain_checked (manifest_refusal n old m right) (n + 1) m (encoded m) (causes n old m right) (plain_encoded m)
 
 plain_wanted : (floor n : ℕ) (old new : Manifest) (right : Right) (some : Bool)
     → IsPlainResult (wanted (λ made. prepared manifest_refusal encoded n old made right) (floored floor (if some then Ok (Some new) else Ok None)))

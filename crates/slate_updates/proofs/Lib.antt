@@ -1,1 +1,7 @@
 mod Expired
+mod NamedVersions
+mod TableSets
+mod Nested
+pub mod Lawful
+pub mod PrefixesApart
+pub mod Unchanged

@@ -1,4 +1,11 @@
 pub mod Checkpoints
+pub mod Named
+pub mod TableSets
+pub mod Entries
+pub mod FlushedTables
+pub mod RunTables
+pub mod Prefixes
 pub mod Rules
+pub mod RuleLaws
 pub mod Writers
 pub mod Changes

@@ -1,21 +1,30 @@
 -- What an open and a flush of a writer make of a manifest.
-use Rattle.std.specs.Prelude.{ℕ, ℤ, Option, Result}
+use Rattle.std.specs.Prelude.{◌≡◌, ℕ, ℤ, Option, Result, refl}
 use Rattle.slate_ids.specs.declared.error.SlateDBError.{SlateDBError}
 use Rattle.slate_model.specs.declared.manifest.Manifest.{Manifest}
 use Rattle.slate_model.specs.Sequences.{inserted}
 use Rattle.slate_log.specs.Change.{next_epoch}
+use Rattle.slate_updates.specs.declared.epochs.ManifestEpochs.{ManifestEpochs}
+use Rattle.slate_updates.specs.declared.epochs.ManifestEpochs.TheVariants.{Writer, Compactor}
 
--- the epoch that fences writers
-abbrev pub writer_epoch_of : Manifest → ℕ
-writer_epoch_of m = m.writer_epoch
+-- the epoch of a manifest that fences the holders of a kind
+abbrev pub epoch_of : ManifestEpochs → Manifest → ℕ
+epoch_of Writer m = m.writer_epoch
+epoch_of Compactor m = m.compactor_epoch
 
--- the manifest with another epoch of the writer
-abbrev pub with_writer_epoch : Manifest → ℕ → Manifest
-with_writer_epoch m n = record m { writer_epoch = n }
+-- the manifest with another epoch of that kind
+abbrev pub with_epoch : ManifestEpochs → Manifest → ℕ → Manifest
+with_epoch Writer m n = record m { writer_epoch = n }
+with_epoch Compactor m n = record m { compactor_epoch = n }
+
+-- the epoch that was set is the manifest's
+pub epoch_set : (kind : ManifestEpochs) (m : Manifest) (n : ℕ) → epoch_of kind (with_epoch kind m n) ≡ n
+epoch_set Writer m n = refl
+epoch_set Compactor m n = refl
 
 -- what an open makes of the manifest read: its writer epoch plus one, where there is such an epoch
 abbrev pub raised_writer : ℕ → Manifest → Result (Option Manifest) SlateDBError
-raised_writer n m = next_epoch writer_epoch_of with_writer_epoch n m
+raised_writer n m = next_epoch (epoch_of Writer) (with_epoch Writer) n m
 
 -- what a flush makes of the manifest read: its tick and its sequence number, whose pair the tracker takes where it is in order
 abbrev pub flushed : ℕ → ℤ → Manifest → Manifest

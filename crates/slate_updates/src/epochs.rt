@@ -1,31 +1,42 @@
-//! The epoch that fences writers.
+//! The epochs that fence writers and compactors.
 ghost use Rattle.std.specs.Prelude.{refl};
 ghost use Rattle.slate_ids.specs.Answers.{Gives};
-ghost use Rattle.slate_updates.specs.Writers.{with_writer_epoch, raised_writer};
+ghost use Rattle.slate_updates.specs.Writers.{epoch_of, epoch_set as set_law, raised_writer, with_epoch};
 
 use slate_ids::{Epochs, SlateDBError};
 use slate_log::next_epoch;
 use slate_model::{Manifest, Plain};
 use std::alloc::Global;
 
-/// The writer's epoch of a manifest.
-#[derive(Clone, Copy, Debug)]
-pub struct WriterEpochs;
+/// One of a manifest's epochs: each fences the holders of its own kind alone.
+#[derive(Clone, Copy, Debug, Drop)]
+pub enum ManifestEpochs {
+    /// That of writers.
+    Writer,
+    /// That of compactors.
+    Compactor,
+}
 
-impl Epochs<Manifest> for WriterEpochs {
-    ghost epoch = { λ _ manifest. manifest.writer_epoch };
+impl Epochs<Manifest> for ManifestEpochs {
+    ghost epoch = { λ kind manifest. epoch_of kind manifest };
 
-    ghost with_epoch = { λ _ manifest n. with_writer_epoch manifest n };
+    ghost with_epoch = { λ kind manifest n. with_epoch kind manifest n };
 
     fn get(&self, value: &Manifest) -> u64 {
-        value.writer_epoch
+        match self {
+            ManifestEpochs::Writer => value.writer_epoch,
+            ManifestEpochs::Compactor => value.compactor_epoch,
+        }
     }
 
     fn set(&self, value: &mut Manifest, number: u64) {
-        value.writer_epoch = number;
+        match self {
+            ManifestEpochs::Writer => value.writer_epoch = number,
+            ManifestEpochs::Compactor => value.compactor_epoch = number,
+        }
     }
 
-    ghost epoch_set = { λ _ _ _. refl };
+    ghost epoch_set = { λ kind manifest n. set_law kind manifest n };
 }
 
 /// What an open makes of version `n`: the manifest with its writer epoch plus one. Refused where there is no such epoch.
@@ -36,5 +47,5 @@ pub fn raise_writer(
 ) -> Result<Option<Manifest>, SlateDBError>
     ensures { Gives result (raised_writer n manifest.now) }
 {
-    next_epoch(&WriterEpochs, n, Plain::clone(manifest, alloc)?)
+    next_epoch(&ManifestEpochs::Writer, n, Plain::clone(manifest, alloc)?)
 }

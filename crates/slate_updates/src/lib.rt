@@ -2,17 +2,30 @@
 #![tactic(auto)]
 
 mod checkpoints;
+mod entries;
 mod epochs;
+mod flushed_tables;
 mod flushing;
+mod laws;
 mod lookups;
 mod manifest_change;
+mod named;
+mod prefixes;
 mod rules;
+mod run_tables;
+mod tables;
 
 pub use checkpoints::{
     delete_checkpoint, expire_checkpoints, refresh_checkpoint, replace_checkpoint, write_checkpoint,
 };
-pub use epochs::{WriterEpochs, raise_writer};
+pub use epochs::{ManifestEpochs, raise_writer};
+pub use flushed_tables::l0_ulid_cutoff;
 pub use flushing::flush;
+pub use laws::{
+    cutoff_is_timely, lawful_updates_keep, neighbours_tell, rules_refuse_so, unchanged_trees_pass,
+};
 pub use lookups::{find_checkpoint, is_named};
 pub use manifest_change::{ManifestChange, floors_rise};
-pub use rules::{ManifestRules, refusal_of_update};
+pub use named::named_versions;
+pub use prefixes::check_prefixes;
+pub use rules::{ManifestRules, check_entries, check_names, check_numbers, check_runs};

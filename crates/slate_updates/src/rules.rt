@@ -1,28 +1,33 @@
 //! The rules on a new version.
-ghost use Rattle.std.specs.Prelude.{◌≡◌, ◌==◌, ◌+◌};
-ghost use Rattle.slate_updates.specs.Rules.{falls as fallen, names_known as all_known};
-ghost use Rattle.slate_updates.specs.Rules.{refusal_of_update as refused_by, manifest_refusal};
+ghost use Rattle.std.specs.Prelude.{◌≡◌, ◌==◌, ◌+◌, ◌||◌, IfOk, not};
+ghost use Rattle.std.specs.BTreeSet.{contains};
+ghost use Rattle.std.specs.List.{list_all};
+ghost use Rattle.std.specs.Ordering.{nat_cmp};
+ghost use Rattle.slate_ids.specs.Answers.{Gives, refused};
+ghost use Rattle.slate_ids.specs.declared.error.UpdateRule.TheVariants as rule;
+ghost use Rattle.slate_updates.specs.Entries as entries;
+ghost use Rattle.slate_updates.specs.RunTables as runs;
+ghost use Rattle.slate_updates.specs.Rules as rules;
+ghost use Rattle.slate_updates.specs.Rules.{unless_kept, manifest_refusal};
 
-use crate::lookups::is_named;
-use slate_ids::{SlateDBError, UpdateRule};
+use crate::entries::entries_kept;
+use crate::flushed_tables::l0_ulid_cutoff;
+use crate::named::named_versions;
+use crate::prefixes::check_prefixes;
+use crate::run_tables::runs_known;
+use slate_ids::{OutOfMemory, SlateDBError, UpdateRule};
 use slate_log::{Right, Rules};
 use slate_model::Manifest;
 use std::alloc::Global;
+use std::collections::BTreeSet;
 
 fn falls(old: &Manifest, new: &Manifest) -> bool
-    ensures { result ≡ fallen old.now new.now }
+    ensures { result ≡ rules.falls old.now new.now }
 {
     new.writer_epoch < old.writer_epoch
         || new.compactor_epoch < old.compactor_epoch
+        || new.core.replay_after_wal_id < old.core.replay_after_wal_id
         || new.core.floor < old.core.floor
-}
-
-fn names_known(old_id: u64, old: &Manifest, new: &Manifest) -> bool
-    ensures { result ≡ all_known old_id old.now new.now }
-{
-    let named = old.core.checkpoints.as_slice();
-    new.core.checkpoints.as_slice().iter().all(|c| follows(c.manifest_id, old_id)
-        || is_named(c.manifest_id, named))
 }
 
 fn follows(n: u64, old_id: u64) -> bool
@@ -31,23 +36,82 @@ fn follows(n: u64, old_id: u64) -> bool
     n > 0 && n - 1 == old_id
 }
 
-/// The rule that a new manifest breaks after the old one, whose number is `old_id`: no epoch and no floor falls, and
-/// each checkpoint names the new version or one that a checkpoint of the old one names. Takes no memory.
-pub fn refusal_of_update(old_id: u64, old: &Manifest, new: &Manifest) -> Option<UpdateRule>
-    ensures { result ≡ refused_by old_id old.now new.now }
+// Whether each checkpoint names the version after the old one, or one of the set.
+fn are_known(old_id: u64, named: &BTreeSet<u64>, new: &Manifest) -> bool
+    ensures { result ≡ list_all
+        (λ c. c.manifest_id == old_id + 1 || contains nat_cmp named.now c.manifest_id) new.now.core.checkpoints }
 {
-    if falls(old, new) {
-        return Some(UpdateRule::U1);
-    }
-    if names_known(old_id, old, new) {
-        None
+    let checkpoints = new.core.checkpoints.as_slice();
+    checkpoints.iter().all(|c| follows(c.manifest_id, old_id) || named.contains(&c.manifest_id))
+}
+
+fn names_known(
+    alloc: Global,
+    old_id: u64,
+    old: &Manifest,
+    new: &Manifest,
+) -> Result<bool, OutOfMemory>
+    ensures { IfOk result (λ known. known ≡ rules.names_known old_id old.now new.now) }
+{
+    let named = named_versions(alloc, old.core.checkpoints.as_slice())?;
+    Ok(are_known(old_id, &named, new))
+}
+
+// The refusal that names a rule, where it isn't kept.
+fn unless_kept(rule: UpdateRule, kept: bool) -> Result<(), SlateDBError>
+    ensures { result ≡ refused (rules.unless_kept rule kept) }
+{
+    if kept {
+        Ok(())
     } else {
-        Some(UpdateRule::U2)
+        Err(SlateDBError::UpdateRefused(rule))
     }
 }
 
-/// Which manifests may follow which: epochs and floor don't fall, and a checkpoint names the new version or one that the old
-/// manifest names.
+/// Whether neither epoch falls, nor the last file of the write-ahead log that needs no replay, nor the floor; else UpdateRefused(U1).
+/// Takes no memory.
+pub fn check_numbers(old: &Manifest, new: &Manifest) -> Result<(), SlateDBError>
+    ensures { result ≡ refused (unless_kept rule.U1 (not (rules.falls old.now new.now))) }
+{
+    unless_kept(UpdateRule::U1, !falls(old, new))
+}
+
+/// Whether each checkpoint names the version after the old one, whose number is `old_id`, or a version that a checkpoint of the old one
+/// names; else UpdateRefused(U2).
+pub fn check_names(
+    alloc: Global,
+    old_id: u64,
+    old: &Manifest,
+    new: &Manifest,
+) -> Result<(), SlateDBError>
+    ensures { Gives result (refused (unless_kept rule.U2 (rules.names_known old_id old.now new.now))) }
+{
+    unless_kept(UpdateRule::U2, names_known(alloc, old_id, old, new)?)
+}
+
+/// Whether each entry of another database is an old one, by path and pin, with some of its tables in their order, and each table of an old
+/// entry that a view of the new manifest uses is still listed under that path and pin; else UpdateRefused(U3).
+pub fn check_entries(alloc: Global, old: &Manifest, new: &Manifest) -> Result<(), SlateDBError>
+    ensures { Gives result (refused (unless_kept rule.U3 (entries.entries_kept old.now new.now))) }
+{
+    unless_kept(UpdateRule::U3, entries_kept(alloc, old, new)?)
+}
+
+/// Whether each table of a sorted run was in a tree of the old manifest, or was made by the compactor whose right it is; else
+/// UpdateRefused(U5). Under the right that attaches another database any table may come.
+pub fn check_runs(
+    alloc: Global,
+    old: &Manifest,
+    new: &Manifest,
+    right: &Right,
+) -> Result<(), SlateDBError>
+    ensures { Gives result (refused (unless_kept rule.U5 (runs.runs_known old.now new.now right.now))) }
+{
+    unless_kept(UpdateRule::U5, runs_known(alloc, old, new, right)?)
+}
+
+/// Which manifests may follow which, by six rules, of which the first that is broken is answered: `check_numbers`, `check_names`,
+/// `check_entries`, `l0_ulid_cutoff`, `check_runs`, `check_prefixes`.
 #[derive(Clone, Copy, Debug)]
 pub struct ManifestRules;
 
@@ -56,15 +120,17 @@ impl Rules<Manifest> for ManifestRules {
 
     fn check(
         &self,
-        _alloc: Global,
+        alloc: Global,
         old_id: u64,
         old: &Manifest,
         new: &Manifest,
-        _right: &Right,
+        right: &Right,
     ) -> Result<(), SlateDBError> {
-        match refusal_of_update(old_id, old, new) {
-            None => Ok(()),
-            Some(rule) => Err(SlateDBError::UpdateRefused(rule)),
-        }
+        check_numbers(old, new)?;
+        check_names(alloc, old_id, old, new)?;
+        check_entries(alloc, old, new)?;
+        l0_ulid_cutoff(alloc, new, old)?;
+        check_runs(alloc, old, new, right)?;
+        check_prefixes(alloc, new)
     }
 }

@@ -1,5 +1,5 @@
 use Rattle.std.proofs.Common.{rules}
-use Rattle.slate_gc.specs.Named.{IsSetOf}
+use Rattle.slate_updates.specs.Named.{IsSetOf}
 use Rattle.slate_gc.specs.Picks.{is_unneeded, unneeded}
 use Rattle.slate_gc.proofs.Kept.{kept}
 use Rattle.slate_log.specs.LogPaths.{number_of}

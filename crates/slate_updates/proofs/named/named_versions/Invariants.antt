@@ -1,8 +1,8 @@
 use Rattle.std.proofs.Common.{drop}
 use Rattle.std.specs.BTreeSet.{contains}
 use Rattle.std.specs.Ordering.{nat_cmp}
-use Rattle.slate_gc.proofs.Named.{Left}
-use Rattle.slate_gc.proofs.candidates.named_versions.Given as goal
+use Rattle.slate_updates.proofs.NamedVersions.{Left}
+use Rattle.slate_updates.proofs.named.named_versions.Given as goal
 
 -- the set has the versions of the checkpoints so far, and what is left names the others
 abbrev pub invariant-loop-checkpoint : goal.invariant-loop-checkpoint

@@ -1,10 +1,13 @@
 -- A set takes the versions that checkpoints name one by one.
-use Rattle.std.specs.Prelude.{ℕ, ◌+◌, ◌<◌, ◌||◌, ◌==◌, cond, Bool, true, false, List, ◌∷◌, length}
+use Rattle.std.specs.Prelude.{ℕ, ◌+◌, ◌<◌, ◌||◌, ◌&&◌, ◌==◌, cond, Bool, true, false, List, [], ◌∷◌, length}
+use Rattle.std.specs.List.{list_all}
+use Rattle.std.specs.BTreeSet.{BTreeSet, contains}
 use Rattle.std.specs.Ordering.{nat_cmp, is_eq}
 use Rattle.std.proofs.Common.{◌≡◌, refl, sym, ◌∙◌, ap, arith, drop, get_or}
 use Rattle.std.proofs.lemmas.Bool.Decides.{nat_tests}
 use Rattle.std.proofs.lemmas.List.{at_drop_more}
 use Rattle.slate_updates.specs.Checkpoints.{is_named}
+use Rattle.slate_updates.specs.Named.{IsSetOf}
 use Rattle.slate_model.specs.declared.checkpoint.Checkpoint.{Checkpoint}
 
 -- what the set has, or one of the checkpoints that are left names
@@ -27,3 +30,11 @@ one_more has new cs all i c lt at made left n =
     let rest = is_named n (drop (i + 1) cs) in
     let here : is_named n (drop i cs) ≡ ((c.manifest_id == n) || rest) = at_drop_more (is_named n) cs i c lt ∙ ap (λ (x : Checkpoint). is_named n (x ∷ drop (i + 1) cs)) (sym at) in
     ap (λ (b : Bool). b || rest) (made n ∙ ap (λ (b : Bool). cond b true (has n)) (same c.manifest_id n)) ∙ turned (c.manifest_id == n) (has n) rest ∙ ap (λ (b : Bool). has n || b) (sym here) ∙ left n
+
+-- what a set of them answers for checkpoints
+pub all_known : (named : BTreeSet ℕ) (old : List Checkpoint) (n : ℕ) (cs : List Checkpoint) → IsSetOf named old
+    → list_all (λ c. c.manifest_id == n || contains nat_cmp named c.manifest_id) cs ≡ list_all (λ c. c.manifest_id == n || is_named c.manifest_id old) cs
+all_known named old n [] is = refl
+all_known named old n (c ∷ cs) is =
+    ap (λ (b : Bool). (c.manifest_id == n || b) && list_all (λ x. x.manifest_id == n || contains nat_cmp named x.manifest_id) cs) (is c.manifest_id)
+    ∙ ap (λ (b : Bool). (c.manifest_id == n || is_named c.manifest_id old) && b) (all_known named old n cs is)
