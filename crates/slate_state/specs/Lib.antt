@@ -3,3 +3,4 @@ pub mod Manifests
 pub mod CheckedDelete
 pub mod Named
 pub mod Referenced
+pub mod Holding

@@ -2,6 +2,7 @@
 #![tactic(auto)]
 
 
+mod changes;
 mod checked_delete;
 mod checked_delete_phase;
 mod manifest_machines;
@@ -10,6 +11,7 @@ mod manifest_store;
 mod names;
 mod number_queue;
 mod referenced_phase;
+mod stored_manifest;
 
 pub use checked_delete_phase::CheckedDeletePhase;
 pub use manifest_machines::{
@@ -21,4 +23,5 @@ pub use manifest_store::ManifestStore;
 pub use names::{ManifestNames, VersionNames};
 pub use number_queue::NumberQueue;
 pub use referenced_phase::ReferencedPhase;
+pub use stored_manifest::StoredManifest;
 pub use slate_updates::{ManifestEpochs, ManifestRules, l0_ulid_cutoff};
