@@ -1,3 +1,4 @@
+mod ChangeFaults
 mod CheckedFaults
 mod NoFaults
 mod ReferencedFaults
