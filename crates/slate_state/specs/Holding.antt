@@ -7,20 +7,26 @@ use Rattle.slate_layout.specs.declared.codec.ManifestCodec.{ManifestCodec}
 use Rattle.slate_log.specs.Change.{renewed}
 use Rattle.slate_log.specs.Fence.{fence, unless}
 use Rattle.slate_log.specs.declared.commit_phase.CommitPhase.{CommitPhase}
+use Rattle.slate_log.specs.declared.log_kind.LogKind.TheVariants as logs
 use Rattle.slate_log.specs.declared.right.Right.{Right}
 use Rattle.slate_log.specs.declared.sequenced.Sequenced.{Sequenced}
 use Rattle.slate_model.specs.declared.checkpoint.Checkpoint.{Checkpoint}
+use Rattle.slate_model.specs.Manifests.{initial_manifest}
+use Rattle.slate_model.specs.declared.manifest_core.ManifestCore.{ManifestCore}
 use Rattle.slate_model.specs.declared.manifest.Manifest.{Manifest}
 use Rattle.slate_store.specs.Calls.{Told}
 use Rattle.slate_txn.specs.Apply.{Applies, Ways, ways_of}
 use Rattle.slate_txn.specs.Changing.{Making}
 use Rattle.slate_txn.specs.FencedApplying.{fenced_made}
 use Rattle.slate_txn.specs.FencedHolder.{FencedHolder}
+use Rattle.slate_txn.specs.Creating.{Creates}
+use Rattle.slate_txn.specs.Fence.{FencedBy, raising}
+use Rattle.slate_txn.specs.Loading.{LoadRan, loaded, try_loaded}
 use Rattle.slate_txn.specs.Holder.{Holder}
 use Rattle.slate_updates.specs.Changes.{made, right_of}
 use Rattle.slate_updates.specs.Checkpoints.{checkpoint_at}
 use Rattle.slate_updates.specs.Rules.{manifest_refusal}
-use Rattle.slate_updates.specs.Writers.{epoch_of}
+use Rattle.slate_updates.specs.Writers.{epoch_of, with_epoch}
 use Rattle.slate_updates.specs.declared.epochs.ManifestEpochs.{ManifestEpochs}
 use Rattle.slate_updates.specs.declared.manifest_change.ManifestChange.{ManifestChange}
 use Rattle.slate_updates.specs.declared.rules.ManifestRules.{ManifestRules}
@@ -75,3 +81,27 @@ pub record FencedCheckpointed (id : List ℕ) (change : ManifestChange) (moment 
 -- what a function makes is never a fault of the store
 abbrev pub NeverFaults : Making Manifest → Type 0
 NeverFaults changed = (id : ℕ) (m : Manifest) → changed id m ≢ Err StoreFault
+
+-- the log of a database's manifests, with its rules
+pub record LogOf (db : List ℕ) : Type 0 where
+  pub log : Sequenced Manifest ManifestCodec
+  pub rules : ManifestRules
+  pub at : log.db ≡ db
+  pub kind : log.log ≡ logs.Manifest
+
+-- a database was created: its first manifest was committed as version 1
+abbrev pub CreatesDb : List ℕ → ManifestCore → ℤ → Told → Told → Result ManifestHolder SlateDBError → Type 0
+CreatesDb db core moment old new result = (of : LogOf db) × Creates manifest_encoded moment old new of.log of.rules (initial_manifest core) result
+
+-- the latest version of a database's manifests was read, and is held
+abbrev pub LoadsDb : List ℕ → ℕ → Told → Told → Result ManifestHolder SlateDBError → Type 0
+LoadsDb db tries old new result = (of : LogOf db) × LoadRan manifest_decoded tries old new of.log (loaded of.log of.rules) result
+
+-- the same, where there is one
+abbrev pub TryLoadsDb : List ℕ → ℕ → Told → Told → Result (Option ManifestHolder) SlateDBError → Type 0
+TryLoadsDb db tries old new result = (of : LogOf db) × LoadRan manifest_decoded tries old new of.log (try_loaded of.log of.rules) result
+
+-- a holder became the fenced one of a kind: it committed the next epoch of that kind
+abbrev pub FencesDb : ManifestEpochs → ℤ → ℕ → Told → Told → ManifestHolder → Result FencedManifest SlateDBError → Type 0
+FencesDb kind moment tries old new holder result =
+    FencedBy epoch_of (raising manifest_decoded manifest_encoded manifest_rules epoch_of with_epoch kind) moment tries old new holder kind result

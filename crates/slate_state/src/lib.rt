@@ -5,15 +5,19 @@
 mod changes;
 mod checked_delete;
 mod checked_delete_phase;
+mod fenceable_checkpoints;
+mod fenceable_manifest;
 mod manifest_machines;
 mod manifest_map;
 mod manifest_store;
 mod names;
 mod number_queue;
 mod referenced_phase;
+mod stored_checkpoints;
 mod stored_manifest;
 
 pub use checked_delete_phase::CheckedDeletePhase;
+pub use fenceable_manifest::FenceableManifest;
 pub use manifest_machines::{
     AdvanceBoundaryMachine, DeleteManifestMachine, DeleteUncheckedMachine, LatestManifestMachine, ListManifestsMachine,
     ReadManifestMachine, ReferencedManifestsMachine, TryLatestManifestMachine, TryReadManifestMachine,
@@ -24,4 +28,5 @@ pub use names::{ManifestNames, VersionNames};
 pub use number_queue::NumberQueue;
 pub use referenced_phase::ReferencedPhase;
 pub use stored_manifest::StoredManifest;
+pub use slate_txn::DirtyObject;
 pub use slate_updates::{ManifestEpochs, ManifestRules, l0_ulid_cutoff};
