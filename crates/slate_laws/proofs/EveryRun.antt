@@ -18,6 +18,7 @@ use Rattle.slate_laws.proofs.AfterEvents.{none_come, after_inv, course_inv, cour
 use Rattle.slate_laws.proofs.GoingOn.{run_world, run_split}
 use Rattle.slate_laws.proofs.Epochs.{chain_fenced}
 use Rattle.slate_laws.proofs.Exact.{exact_passes}
+use Rattle.slate_laws.proofs.Rising.{never_falls, name_known}
 use Rattle.slate_laws.proofs.Removals.{good_run, one_entry, removals_counted}
 use Rattle.slate_laws.proofs.Rows.{rows_run}
 use Rattle.slate_laws.proofs.Runs.{Inv}
@@ -63,6 +64,8 @@ module _ (specs : List DbSpec) (accepted : IsAccepted specs) (events : List Even
         safe = run_safe;
         each_log = λ k db has. log_lawful v.world (chains_at_end specs events) (course_inv specs events accepted good) k db has;
         fenced = λ db has. chain_fenced (chains_at_end specs events logs.Manifest db) ((course_inv specs events accepted good).logs logs.Manifest db has).chain;
+        rising = λ db has. never_falls (chains_at_end specs events logs.Manifest db) ((course_inv specs events accepted good).logs logs.Manifest db has).chain;
+        names = λ db has. name_known (chains_at_end specs events logs.Manifest db) ((course_inv specs events accepted good).logs logs.Manifest db has).chain;
       }
 
 -- no boundary falls between two moments

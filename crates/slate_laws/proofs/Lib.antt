@@ -28,6 +28,7 @@ mod Opening
 mod Deletes
 mod Exact
 mod Safety
+mod Rising
 mod EveryRun
 mod Listed
 mod Changes

@@ -13,6 +13,7 @@ use Rattle.slate_protocol.specs.Chains.{top, IsChain, bound_in, AgreesAt}
 use Rattle.slate_protocol.specs.Fenced.{IsFenced}
 use Rattle.slate_protocol.specs.Logs.{Chain, Chains, log_of, chains_of, opening_chains, world_after}
 use Rattle.slate_protocol.specs.Passes.{ExactPasses}
+use Rattle.slate_protocol.specs.Rising.{NeverFalls, NameKnown}
 use Rattle.slate_protocol.specs.Runs.{Course, opening, run}
 use Rattle.slate_protocol.specs.Safe.{gone, IsSafe}
 use Rattle.slate_protocol.specs.Specs.{is_named_spec, cause_of_specs, opening_world}
@@ -83,6 +84,10 @@ pub record LawfulAt (specs : List DbSpec) (events : List Event) : Type 0 where
   pub each_log : (k : LogKind) (db : List ℕ) → HasDb (course_after specs events).world db → IsLawfulLog (course_after specs events).world k db (chains_at_end specs events k db)
   -- no writer committed below the writer epoch of an earlier version
   pub fenced : (db : List ℕ) → HasDb (course_after specs events).world db → IsFenced (chains_at_end specs events logs.Manifest db)
+  -- along each chain of manifests no epoch, no floor and no last file without replay falls
+  pub rising : (db : List ℕ) → HasDb (course_after specs events).world db → NeverFalls (chains_at_end specs events logs.Manifest db)
+  -- and each number that a manifest names is its own, or is named by the one before, all the way down
+  pub names : (db : List ℕ) → HasDb (course_after specs events).world db → NameKnown (chains_at_end specs events logs.Manifest db)
 
 -- what holds of a run of events, at each moment up to the first bad one
 pub record Lawful (specs : List DbSpec) (events : List Event) : Type 0 where

@@ -17,5 +17,6 @@ pub mod Reach
 pub mod Safe
 pub mod Holding
 pub mod Fenced
+pub mod Rising
 pub mod Lawful
 pub mod Done

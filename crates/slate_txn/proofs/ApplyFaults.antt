@@ -1,10 +1,9 @@
 -- An apply ends in a fault only where the store faults.
 use Rattle.std.specs.Prelude.{◌≡◌, ◌≢◌, ◌+◌, ◌==◌, ℕ, Bool, true, false, List, Option, Some, None, Result, Ok, Err, if◌then◌else◌, refl}
-use Rattle.std.proofs.Common.{◌⊎◌, inl, inr, ap, sym, subst, ◌∙◌}
-use Rattle.slate_ids.specs.Answers.{is_conflict, is_memory, Gives}
+use Rattle.std.proofs.Common.{◌⊎◌, inl, inr, ap, sym, subst}
+use Rattle.slate_ids.specs.Answers.{is_conflict}
 use Rattle.slate_ids.specs.Limits.{last_number}
-use Rattle.slate_store.specs.Calls.{Told, IsAnswerTo}
-use Rattle.slate_log.specs.Due.{FaultOf}
+use Rattle.slate_store.specs.Calls.{IsAnswerTo}
 use Rattle.slate_ids.specs.declared.error.SlateDBError.{SlateDBError}
 use Rattle.slate_ids.specs.declared.error.SlateDBError.TheVariants.{StoreFault, Exhausted, LatestTransactionalObjectVersionMissing}
 use Rattle.slate_store.specs.Machines.{Goes, Stay, End, IsEnd}
@@ -27,7 +26,7 @@ use Rattle.slate_log.specs.declared.read_phase.ReadPhase.TheVariants.{Listing, G
 use Rattle.slate_log.specs.declared.right.Right.{Right}
 
 -- a commit that is made is due
-abbrev Due : {T : Type 0} → Result (Option (CommitPhase T)) SlateDBError → Type 0
+abbrev pub Due : {T : Type 0} → Result (Option (CommitPhase T)) SlateDBError → Type 0
 Due (Ok (Some commit)) = commit_due commit ≡ true
 Due (Ok None) = Unit {0}
 Due (Err e) = Unit {0}
@@ -44,7 +43,7 @@ due_if : {T : Type 0} (b : Bool) (id : ℕ) (e : Option SlateDBError) (n : ℕ) 
 due_if true id e n value bytes = tt
 due_if false id e n value bytes = due_checked e n value bytes
 
-due_wanted : {T : Type 0} (refusal : ℕ → T → T → Right → Option SlateDBError) (encoded : T → Result (List ℕ) SlateDBError) (right : Right) (id : ℕ) (value : T) (new : Result (Option T) SlateDBError)
+pub due_wanted : {T : Type 0} (refusal : ℕ → T → T → Right → Option SlateDBError) (encoded : T → Result (List ℕ) SlateDBError) (right : Right) (id : ℕ) (value : T) (new : Result (Option T) SlateDBError)
     → Due (wanted (λ v. prepared refusal encoded id value v right) new)
 due_wanted refusal encoded right id value (Err e) = tt
 due_wanted refusal encoded right id value (Ok None) = tt
@@ -53,7 +52,7 @@ due_wanted refusal encoded right id value (Ok (Some v)) = due_if (id == last_num
 due_renews : {T C R : Type 0} (ways : Ways T C R) (holder : Holder T C R) (id : ℕ) (value : T) → Due (renews ways holder id value)
 due_renews ways holder id value = due_wanted (ways.refusal holder.rules) (ways.encoded holder.sequenced.codec) ways.right id value (ways.changed id value)
 
-fine_begun : {T C R : Type 0} (phase : ApplyPhase T) (holder : Holder T C R) (r : Result (Option (CommitPhase T)) SlateDBError) → r ≢ Err StoreFault → Due r → Fine state_due (begun phase holder r)
+pub fine_begun : {T C R : Type 0} (phase : ApplyPhase T) (holder : Holder T C R) (r : Result (Option (CommitPhase T)) SlateDBError) → r ≢ Err StoreFault → Due r → Fine state_due (begun phase holder r)
 fine_begun phase holder (Err e) good due = fine_err state_due (phase, holder) e (λ same. good (ap (λ (k : SlateDBError). Err k) same))
 fine_begun phase holder (Ok None) good due = fine_ok state_due (phase, holder) tt
 fine_begun phase holder (Ok (Some commit)) good due = fine_stay state_due (Committing commit, holder) due
@@ -91,7 +90,7 @@ sound_read : {T C R : Type 0} (ways : Ways T C R) (free : FaultFree ways) (holde
 sound_read ways free holder read answer (inl f) = inl (f.0, subst (λ (a : StoreAnswer). IsEnd (apply_goes ways (Reading read, holder) a)) (sym f.0) (read_ends ways holder read))
 sound_read ways free holder read answer (inr fine) = inr (fine_read ways free holder (read_goes holder.sequenced.log (ways.decoded holder.sequenced.codec) read answer) fine)
 
-sound_commit : {T C R : Type 0} (ways : Ways T C R) (holder : Holder T C R) (commit : CommitPhase T) (answer : StoreAnswer) → ((answer ≡ Fault) × IsEnd (commit_goes commit answer)) ⊎ Fine commit_due (commit_goes commit answer)
+pub sound_commit : {T C R : Type 0} (ways : Ways T C R) (holder : Holder T C R) (commit : CommitPhase T) (answer : StoreAnswer) → ((answer ≡ Fault) × IsEnd (commit_goes commit answer)) ⊎ Fine commit_due (commit_goes commit answer)
     → ((answer ≡ Fault) × IsEnd (apply_goes ways (Committing commit, holder) answer)) ⊎ Fine state_due (apply_goes ways (Committing commit, holder) answer)
 sound_commit ways holder commit answer (inl f) = inl (f.0, subst (λ (a : StoreAnswer). IsEnd (apply_goes ways (Committing commit, holder) a)) (sym f.0) (commit_ends ways holder commit))
 sound_commit ways holder commit answer (inr fine) = inr (fine_commit holder (commit_goes commit answer) fine)
@@ -108,10 +107,3 @@ by_phase ways free (Committing commit) holder answer due kind =
 -- an apply ends in a fault only where the store faults
 pub apply_faults : {T C R : Type 0} (ways : Ways T C R) → FaultFree ways → OnlyFaults state_due apply_asks (apply_goes ways)
 apply_faults ways free = record { sound = λ state answer. by_phase ways free state.0 state.1 answer }
-
--- a refusal before any call is no fault
-pub refused_rose : {T C R X : Type 0} (ways : Ways T C R) (holder : Holder T C R) (id : ℕ) (value : T) (e : SlateDBError) (old new : Told) → Gives (Err e) (renews ways holder id value) → FaultFree ways → FaultOf {R = X} old new (Err e)
-refused_rose ways holder id value e old new (inl same) free = λ fault.
-    let is : e ≡ StoreFault = cc in absurd (free.renewal holder id value (same ∙ ap (λ (k : SlateDBError). Err k) is))
-refused_rose ways holder id value e old new (inr out) free = λ fault.
-    let is : e ≡ StoreFault = cc in let no_memory : is_memory e ≡ false = ap is_memory is in absurd (let both : false ≡ true = sym no_memory ∙ out in cc)

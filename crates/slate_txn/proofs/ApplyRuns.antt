@@ -1,12 +1,8 @@
 -- Laws of apply that its proofs take.
-use Rattle.std.specs.Prelude.{◌≡◌, ℕ, ℤ, true, false, Option, Some, Result, Ok, refl}
-use Rattle.std.proofs.Common.{inl, inr, ap, sym, subst, ◌∙◌}
-use Rattle.slate_ids.specs.Answers.{Gives, OrMemory}
-use Rattle.slate_ids.specs.declared.error.SlateDBError.{SlateDBError}
-use Rattle.slate_store.specs.Calls.{Told}
+use Rattle.std.specs.Prelude.{◌≡◌, true, refl}
 use Rattle.slate_store.specs.declared.step.Step.{Step}
 use Rattle.slate_store.specs.declared.step.Step.TheVariants.{Again, Done}
-use Rattle.slate_txn.specs.Apply.{Ways, Applied, ApplyBegan, ApplyStopped, Begins, apply_asks, is_reading_phase}
+use Rattle.slate_txn.specs.Apply.{apply_asks, is_reading_phase}
 use Rattle.slate_log.specs.CommitPhase.{commit_due, is_putting}
 use Rattle.slate_log.specs.Due.{WhereOut}
 use Rattle.slate_txn.specs.Holder.{Holder}
@@ -30,12 +26,3 @@ apply_reads (Committing commit) holder h = absurd cc
 pub where_reads : {T C R X : Type 0} (phase : ApplyPhase T) (holder : Holder T C R) (step : Step X) → WhereOut step (is_reading_phase phase ≡ true) → WhereOut step (is_reading (apply_asks (phase, holder)) ≡ true)
 where_reads phase holder Again h = tt
 where_reads phase holder (Done r) h = λ out. apply_reads phase holder (h out)
-
--- a commit that began and ran is an apply
-pub applies : {T C R : Type 0} (ways : Ways T C R) (moment : ℤ) (tries : ℕ) (old new : Told) (commit : CommitPhase T) (found : Option (CommitPhase T)) (start : Result (Option (CommitPhase T)) SlateDBError) (from to : Holder T C R) (result : Result (Unit {0}) SlateDBError)
-    → found ≡ Some commit → Gives (Ok found) start → OrMemory result (ApplyBegan ways moment tries old new commit from to) (Applied ways moment tries old new commit from to result)
-    → OrMemory result (ApplyStopped ways moment tries old new start from to) (Begins ways moment tries old new start from to result)
-applies ways moment tries old new commit found start from to result is (inr out) ran = absurd (let both : false ≡ true = out in cc)
-applies ways moment tries old new commit found start from to result is (inl e) (inl done) =
-    inl (subst (λ (s : Result (Option (CommitPhase _)) SlateDBError). Begins ways moment tries old new s from to result) (sym (e ∙ ap (λ (o : Option (CommitPhase _)). Ok o) is)) done)
-applies ways moment tries old new commit found start from to result is (inl e) (inr m) = inr (m.0, inr (commit, e ∙ ap (λ (o : Option (CommitPhase _)). Ok o) is, m.1))

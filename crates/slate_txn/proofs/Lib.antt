@@ -4,8 +4,11 @@ mod Updates
 mod Standing
 mod Loads
 mod Inits
+mod Moves
+mod AppliesBy
 mod ApplyRuns
 mod ApplyFaults
+mod MovesFaults
 mod Fences
 mod Refreshes
 mod FencedRefreshes

@@ -1,6 +1,6 @@
 -- Running out of memory leaves a load as it was; a load is one that may find none, and refuses none.
-use Rattle.std.specs.Prelude.{◌≡◌, ℕ, ℤ, List, Option, Some, None, Result, Ok, Err, false, true, refl}
-use Rattle.std.proofs.Common.{inl, inr, ap, subst, ◌∙◌}
+use Rattle.std.specs.Prelude.{◌≡◌, ℕ, ℤ, List, Option, Result, Ok, Err, false, true, refl}
+use Rattle.std.proofs.Common.{inl, inr, ap}
 use Rattle.slate_ids.specs.Answers.{ran_out}
 use Rattle.slate_ids.specs.declared.error.SlateDBError.{SlateDBError}
 use Rattle.slate_ids.specs.declared.error.SlateDBError.TheVariants.{OutOfMemory}

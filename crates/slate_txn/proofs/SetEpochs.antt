@@ -1,5 +1,6 @@
 -- A holder that was made with a given epoch holds it.
 use Rattle.std.proofs.Common.{◌≡◌, ◌<◌, ℤ, ℕ, Bool, true, false, List, Option, Some, None, Result, Ok, Err, if◌then◌else◌, ap, sym, subst, ◌∙◌, refl}
+use denote.Ref.{Bor}
 use Rattle.std.specs.Prelude.{◌+◌, ◌==◌, nat_lt, IfOk}
 use Rattle.std.proofs.lemmas.Bool.{ltb-true}
 use Rattle.slate_ids.specs.Limits.{last_number}
@@ -10,13 +11,15 @@ use Rattle.slate_log.specs.Change.{wanted, some_commit}
 use Rattle.slate_log.specs.CommitPhase.{prepared, checked_commit, encoded_commit}
 use Rattle.slate_log.specs.Fence.{unless, fence}
 use Rattle.slate_log.specs.declared.right.Right.{Right}
-use Rattle.slate_txn.proofs.FencedApplies.{applies_fence}
+use Rattle.slate_txn.proofs.AppliesBy.{applies_more, computes_fenced}
+use Rattle.slate_txn.proofs.FencedApplies.{applies_fence, unfenced_made}
 use Rattle.slate_txn.proofs.PutValues.{PutsFirst, AlwaysPuts, HoldsSuch, applies_puts}
-use Rattle.slate_txn.specs.Apply.{Ways, ways_of}
-use Rattle.slate_txn.specs.FencedApplying.{FenceFree}
+use Rattle.slate_txn.specs.Apply.{ways_of}
+use Rattle.slate_txn.specs.ApplyMoves.{ways_by, AppliesBy}
+use Rattle.slate_txn.specs.Changing.{ComputesWith, MayWith}
+use Rattle.slate_txn.specs.FencedApplying.{FenceFree, fenced_made}
 use Rattle.slate_txn.specs.Fence.{FencedBelow, FencedBy, fenced_of, setting}
 use Rattle.slate_txn.specs.FencedHolder.{FencedHolder}
-use Rattle.slate_txn.specs.Fencing.{FencedOnly}
 use Rattle.slate_txn.specs.Holder.{Holder}
 use Rattle.slate_txn.specs.Raise.{this_epoch}
 
@@ -65,11 +68,16 @@ reply_of epoch epochs to (Ok u) e same = absurd cc
 reply_of epoch epochs to (Err k) e same = let is : k ≡ e = cc in ap (λ (x : SlateDBError). Err x) is
 
 -- Fenced is answered only with this epoch and a greater one
-pub set_below : {T C R E : Type 0} (decoded : C → List ℕ → Result T SlateDBError) (encoded : C → T → Result (List ℕ) SlateDBError) (refusal : R → ℕ → T → T → Right → Option SlateDBError) (epoch : E → T → ℕ) (with_epoch : E → T → ℕ → T) (epochs : E) (own : ℕ) (right : Right)
-    (moment : ℤ) (tries : ℕ) (old new : Told) (holder : Holder T C R) (result : Result (FencedHolder T C R E) SlateDBError)
-    → FenceFree (ways_of decoded encoded refusal (this_epoch (with_epoch epochs) own) right) → FencedBy epoch (setting decoded encoded refusal epoch with_epoch epochs own right) moment tries old new holder epochs result → FencedBelow own result
-set_below decoded encoded refusal epoch with_epoch epochs own right moment tries old new holder result free by = λ m n same.
-    let only = applies_fence (ways_of decoded encoded refusal (this_epoch (with_epoch epochs) own) right) epoch epochs own free moment tries old new holder by.to by.reply by.applies in
-    let read = epoch epochs by.to.object in
-    let is = only m n (reply_of epoch epochs by.to by.reply (Fenced m n) (by.same ∙ same)) in
-    below_if (nat_lt own read) own read m n (λ less. ltb-true own read less) is
+pub set_below : {C T R E : Type 0} (answers : Bor C → ℕ → Bor T → Result (Option T) SlateDBError → Type 0) (decoded : C → List ℕ → Result T SlateDBError) (encoded : C → T → Result (List ℕ) SlateDBError) (refusal : R → ℕ → T → T → Right → Option SlateDBError) (epoch : E → T → ℕ) (with_epoch : E → T → ℕ → T) (epochs : E) (own : ℕ) (right : Right)
+    (moment : ℤ) (tries : ℕ) (old new : Told) (from to : Holder T C R) (reply : Result (Unit {0}) SlateDBError) (result : Result (FencedHolder T C R E) SlateDBError)
+    → ComputesWith answers (fenced_made epoch epochs own (this_epoch (with_epoch epochs) own)) → FenceFree (ways_of decoded encoded refusal (this_epoch (with_epoch epochs) own) right)
+    → AppliesBy (ways_by decoded encoded refusal (MayWith answers) right) moment tries old new from to reply → result ≡ fenced_of epoch epochs to reply → FencedBelow own result
+set_below answers decoded encoded refusal epoch with_epoch epochs own right moment tries old new from to reply result computes free applies is = λ m n same.
+    let made = this_epoch (with_epoch epochs) own in
+    let ways = ways_by decoded encoded refusal (λ id value r. made id value ≡ r) right in
+    let unfenced = unfenced_made ways made (λ id value r given enough. given) free in
+    let behind = applies_more (ways_by decoded encoded refusal (MayWith answers) right) _ (computes_fenced answers epoch epochs own made computes) moment tries old new from to reply applies in
+    let only = applies_fence ways epoch epochs own unfenced moment tries old new from to reply behind in
+    let read = epoch epochs to.object in
+    let fenced = only m n (reply_of epoch epochs to reply (Fenced m n) (sym is ∙ same)) in
+    below_if (nat_lt own read) own read m n (λ less. ltb-true own read less) fenced

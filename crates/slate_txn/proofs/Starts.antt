@@ -1,5 +1,5 @@
 -- From a commit to a call that begins with it.
-use Rattle.std.specs.Prelude.{◌≡◌, ℕ, ℤ, List, true, false, Result, Ok, Err}
+use Rattle.std.specs.Prelude.{◌≡◌, ℕ, ℤ, List, true, false, Result, Ok}
 use Rattle.std.proofs.Common.{inl, inr, sym, subst, ap, ◌∙◌}
 use Rattle.slate_ids.specs.Answers.{Gives, OrMemory, ran_out}
 use Rattle.slate_ids.specs.declared.error.SlateDBError.{SlateDBError}

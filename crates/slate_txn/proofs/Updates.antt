@@ -1,6 +1,6 @@
 -- From a commit to an update.
 use Rattle.std.specs.Prelude.{◌≡◌, ℕ, ℤ, true, false, Result, Ok, Err, refl}
-use Rattle.std.proofs.Common.{inl, inr, sym, subst, ap, ◌∙◌}
+use Rattle.std.proofs.Common.{inl, inr, sym, subst, ap}
 use Rattle.slate_ids.specs.Answers.{Gives, OrMemory, ran_out}
 use Rattle.slate_store.specs.declared.store_call.StoreCall.{StoreCall}
 use Rattle.slate_ids.specs.declared.error.SlateDBError.{SlateDBError}

@@ -7,6 +7,8 @@ pub mod Standing
 pub mod Loading
 pub mod Apply
 pub mod Changing
+pub mod Moves
+pub mod ApplyMoves
 pub mod FencedHolder
 pub mod Fencing
 pub mod Fence

@@ -1,12 +1,14 @@
 //! Committing what a function makes of the version held, after a conflict too.
-ghost use Rattle.std.specs.Prelude.{◌≡◌, ◌<◌, IfOk, IfSome, true};
-ghost use Rattle.slate_ids.specs.Answers.{Gives, OrMemory};
+ghost use Rattle.std.specs.Prelude.{◌≡◌, ◌<◌, ◌⊎◌, IfOk, IfSome, true};
+ghost use Rattle.slate_ids.specs.Answers.{Gives, OrMemory, ran_out};
 ghost use Rattle.slate_store.specs.Machines.{Steps, GoesOn, IsAgain};
 ghost use Rattle.slate_log.specs.CommitPhase.{is_putting};
 ghost use Rattle.slate_log.specs.Due.{StillDue, WhereOut, FaultOf, FaultRose};
-ghost use Rattle.slate_txn.specs.Changing.{ComputesWith, Making};
+ghost use Rattle.slate_txn.specs.Changing.{ComputesWith, Making, MayWith};
+ghost use Rattle.slate_txn.specs.ApplyMoves.{ways_by, ApplyMoves, RenewedBy, AppliedBy, ApplyBeganBy, AppliesBy, NeverFaults};
+ghost use Rattle.slate_txn.specs.Moves.{GoesOnBy, StepsBy};
 ghost use Rattle.slate_txn.specs.Apply.{apply_goes, apply_asks, apply_due, is_start, is_reading_phase};
-ghost use Rattle.slate_txn.specs.Apply.{ways_of, ApplyFalls, Applied, ApplyBegan, Applies, FaultFree};
+ghost use Rattle.slate_txn.specs.Apply.{ways_of, ApplyFalls, Applies, FaultFree};
 ghost use Rattle.slate_log.specs.Change.{renewed};
 
 use crate::stored::Stored;
@@ -42,10 +44,14 @@ fn renew<
     requires callable { F.IsAlwaysCallable change.now }
     ensures commit { (made : Making T) → ComputesWith (F.post change.now) made
         → Gives result (renewed made (R.refusal rules.now) (C.encoded codec.now) right.now id value.now) }
+    ensures moves { (ran_out result ≡ true) ⊎ RenewedBy (MayWith (F.post change.now))
+        (R.refusal rules.now) (C.encoded codec.now) right.now id value.now result }
     ensures putting { IfOk result (λ commit. IfSome commit (λ c. is_putting c ≡ true)) }
 {
-    let changed = change(codec, id, value)?;
-    prepare_change(alloc, codec, rules, id, value, changed, right)
+    match change(codec, id, value) {
+        Err(e) => Err(e),
+        Ok(changed) => prepare_change(alloc, codec, rules, id, value, changed, right),
+    }
 }
 
 impl<T: Drop> ApplyPhase<T> {
@@ -99,6 +105,9 @@ impl<T: Drop> ApplyPhase<T> {
         requires callable { F.IsAlwaysCallable change.now }
         ensures goes { (made : Making T) → ComputesWith (F.post change.now) made
             → GoesOn (apply_goes (ways_of C.decoded C.encoded R.refusal made right.now)
+            (self.old, holder.old) answer.now) (self.old, holder.old) (self.new, holder.new) result }
+        ensures moves { GoesOnBy (ApplyMoves
+            (ways_by C.decoded C.encoded R.refusal (MayWith (F.post change.now)) right.now)
             (self.old, holder.old) answer.now) (self.old, holder.old) (self.new, holder.new) result }
         ensures falls { IsAgain result → ApplyFalls self.old self.new }
         ensures due { StillDue result (apply_due self.new) }
@@ -182,6 +191,10 @@ impl<T: Drop> ApplyPhase<T> {
             → Steps (S.told store.old) (S.told store.new) (apply_asks (self.old, holder.old)) moment
             (apply_goes (ways_of C.decoded C.encoded R.refusal made right.now) (self.old, holder.old))
             (self.old, holder.old) (self.new, holder.new) result }
+        ensures moves { StepsBy (S.told store.old) (S.told store.new) (apply_asks (self.old, holder.old))
+            moment (ApplyMoves
+            (ways_by C.decoded C.encoded R.refusal (MayWith (F.post change.now)) right.now)
+            (self.old, holder.old)) (self.old, holder.old) (self.new, holder.new) result }
         ensures falls { IsAgain result → ApplyFalls self.old self.new }
         ensures due { StillDue result (apply_due self.new) }
         ensures fault { (made : Making T) → ComputesWith (F.post change.now) made
@@ -213,13 +226,13 @@ impl<T: Drop, C: ObjectCodec<T> + Drop, R: Rules<T> + Drop> Stored<T, C, R> {
         requires callable { F.IsAlwaysCallable change.now }
         requires some { 0 < tries }
         requires putting { is_putting commit ≡ true }
-        ensures apply { (made : Making T) → ComputesWith (F.post change.now) made → OrMemory result
-            (ApplyBegan (ways_of C.decoded C.encoded R.refusal made right.now) moment tries
-            (S.told store.old) (S.told store.new) commit self.old self.new)
-            (Applied (ways_of C.decoded C.encoded R.refusal made right.now) moment tries
-            (S.told store.old) (S.told store.new) commit self.old self.new result) }
-        ensures fault { (made : Making T) → ComputesWith (F.post change.now) made
-            → FaultFree (ways_of C.decoded C.encoded R.refusal made right.now)
+        ensures moves { OrMemory result
+            (ApplyBeganBy (ways_by C.decoded C.encoded R.refusal (MayWith (F.post change.now)) right.now)
+            moment tries (S.told store.old) (S.told store.new) commit self.old self.new)
+            (AppliedBy (ways_by C.decoded C.encoded R.refusal (MayWith (F.post change.now)) right.now)
+            moment tries (S.told store.old) (S.told store.new) commit self.old self.new result) }
+        ensures never { NeverFaults
+            (ways_by C.decoded C.encoded R.refusal (MayWith (F.post change.now)) right.now)
             → FaultOf (S.told store.old) (S.told store.new) result }
     {
         let mut phase = ApplyPhase::Committing(commit);
@@ -249,6 +262,9 @@ impl<T: Drop, C: ObjectCodec<T> + Drop, R: Rules<T> + Drop> Stored<T, C, R> {
         ensures commit { (made : Making T) → ComputesWith (F.post change.now) made
             → Gives result (renewed made (R.refusal self.now.rules) (C.encoded self.now.sequenced.codec)
             right.now self.now.id self.now.object) }
+        ensures moves { (ran_out result ≡ true) ⊎ RenewedBy (MayWith (F.post change.now))
+            (R.refusal self.now.rules) (C.encoded self.now.sequenced.codec) right.now
+            self.now.id self.now.object result }
         ensures putting { IfOk result (λ commit. IfSome commit (λ c. is_putting c ≡ true)) }
     {
         renew(
@@ -279,6 +295,12 @@ impl<T: Drop, C: ObjectCodec<T> + Drop, R: Rules<T> + Drop> Stored<T, C, R> {
         ensures apply { (made : Making T) → ComputesWith (F.post change.now) made
             → Applies (ways_of C.decoded C.encoded R.refusal made right.now) moment tries
             (S.told store.old) (S.told store.new) self.old self.new result }
+        ensures moves { AppliesBy
+            (ways_by C.decoded C.encoded R.refusal (MayWith (F.post change.now)) right.now)
+            moment tries (S.told store.old) (S.told store.new) self.old self.new result }
+        ensures never { NeverFaults
+            (ways_by C.decoded C.encoded R.refusal (MayWith (F.post change.now)) right.now)
+            → FaultOf (S.told store.old) (S.told store.new) result }
         ensures fault { (made : Making T) → ComputesWith (F.post change.now) made
             → FaultFree (ways_of C.decoded C.encoded R.refusal made right.now)
             → FaultOf (S.told store.old) (S.told store.new) result }

@@ -1,10 +1,11 @@
 //! Committing what a function makes of the version that a fenced holder holds.
 ghost use Rattle.std.specs.Prelude.{◌≡◌, ◌<◌, IfOk, true};
 ghost use Rattle.slate_log.specs.Due.{FaultOf};
-ghost use Rattle.slate_txn.specs.Changing.{Computes, Making};
+ghost use Rattle.slate_txn.specs.Changing.{Computes, Making, May};
+ghost use Rattle.slate_txn.specs.ApplyMoves.{ways_by, AppliesBy, MaybeBy, NeverFaults};
 ghost use Rattle.slate_txn.specs.Apply.{Applies, FaultFree, ways_of};
 ghost use Rattle.slate_log.specs.Change.{renewed};
-ghost use Rattle.slate_txn.specs.FencedApplying.{fenced_made, FenceFree};
+ghost use Rattle.slate_txn.specs.FencedApplying.{fenced_made, FencedMay, FenceFree, Unfenced};
 ghost use Rattle.slate_log.specs.Fence.{unless};
 ghost use Rattle.slate_txn.specs.Fencing.{held_fence, FencedOnly};
 ghost use Rattle.slate_txn.specs.Updating.{maybe_of, update_open};
@@ -41,11 +42,19 @@ impl<T: Drop, C: ObjectCodec<T> + Drop, R: Rules<T> + Drop, E: Epochs<T> + Drop>
             (ways_of C.decoded C.encoded R.refusal
             (fenced_made E.epoch self.old.epochs self.old.epoch made) right.now)
             moment tries (S.told store.old) (S.told store.new) self.old.holder self.new.holder result }
+        ensures moves { AppliesBy (ways_by C.decoded C.encoded R.refusal
+            (FencedMay E.epoch self.old.epochs self.old.epoch (May (F.post f))) right.now)
+            moment tries (S.told store.old) (S.told store.new) self.old.holder self.new.holder result }
+        ensures never { NeverFaults (ways_by C.decoded C.encoded R.refusal
+            (FencedMay E.epoch self.old.epochs self.old.epoch (May (F.post f))) right.now)
+            → FaultOf (S.told store.old) (S.told store.new) result }
         ensures own { self.new ≡ record self.old { holder = self.new.holder } }
         ensures fault { (made : Making T) → Computes (F.post f) made → FaultFree
             (ways_of C.decoded C.encoded R.refusal
             (fenced_made E.epoch self.old.epochs self.old.epoch made) right.now)
             → FaultOf (S.told store.old) (S.told store.new) result }
+        ensures unfenced { Unfenced (ways_by C.decoded C.encoded R.refusal (May (F.post f)) right.now)
+            → FencedOnly (held_fence E.epoch self.new) result }
         ensures fenced { (made : Making T) → Computes (F.post f) made
             → FenceFree (ways_of C.decoded C.encoded R.refusal made right.now)
             → FencedOnly (held_fence E.epoch self.new) result }
@@ -74,11 +83,17 @@ impl<T: Drop, C: ObjectCodec<T> + Drop, R: Rules<T> + Drop, E: Epochs<T> + Drop>
             → IfOk result (λ machine. machine ≡ maybe_of (unless (held_fence E.epoch self.now)
             (renewed made (R.refusal self.now.holder.rules) (C.encoded self.now.holder.sequenced.codec)
             right.now self.now.holder.id self.now.holder.object))) }
+        ensures commits { IfOk result (λ machine. MaybeBy
+            (FencedMay E.epoch self.now.epochs self.now.epoch (May (F.post f)))
+            (R.refusal self.now.holder.rules) (C.encoded self.now.holder.sequenced.codec) right.now
+            self.now.holder.id self.now.holder.object machine) }
     {
-        let update = match self.fence_held() {
-            Some(e) => UpdateMachine::Refused(e),
-            None => self.stored.start_maybe_apply(alloc, f, right)?,
-        };
-        Ok(FencedUpdateMachine::new(update))
+        match self.fence_held() {
+            Some(e) => Ok(FencedUpdateMachine::new(UpdateMachine::Refused(e))),
+            None => {
+                let update = self.stored.start_maybe_apply(alloc, f, right)?;
+                Ok(FencedUpdateMachine::new(update))
+            }
+        }
     }
 }

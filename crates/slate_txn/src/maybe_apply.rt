@@ -1,7 +1,8 @@
 //! Committing what a function makes of the version held.
 ghost use Rattle.std.specs.Prelude.{◌≡◌, ◌<◌, IfOk, true};
 ghost use Rattle.slate_log.specs.Due.{FaultOf};
-ghost use Rattle.slate_txn.specs.Changing.{Computes, Making};
+ghost use Rattle.slate_txn.specs.Changing.{Computes, Making, May};
+ghost use Rattle.slate_txn.specs.ApplyMoves.{ways_by, AppliesBy, MaybeBy, NeverFaults};
 ghost use Rattle.slate_txn.specs.Apply.{Applies, FaultFree, ways_of};
 ghost use Rattle.slate_log.specs.Change.{renewed};
 ghost use Rattle.slate_txn.specs.Updating.{maybe_of, update_open};
@@ -32,6 +33,10 @@ impl<T: Drop, C: ObjectCodec<T> + Drop, R: Rules<T> + Drop> Stored<T, C, R> {
         ensures apply { (made : Making T) → Computes (F.post f) made
             → Applies (ways_of C.decoded C.encoded R.refusal made right.now) moment tries
             (S.told store.old) (S.told store.new) self.old self.new result }
+        ensures moves { AppliesBy (ways_by C.decoded C.encoded R.refusal (May (F.post f)) right.now)
+            moment tries (S.told store.old) (S.told store.new) self.old self.new result }
+        ensures never { NeverFaults (ways_by C.decoded C.encoded R.refusal (May (F.post f)) right.now)
+            → FaultOf (S.told store.old) (S.told store.new) result }
         ensures fault { (made : Making T) → Computes (F.post f) made
             → FaultFree (ways_of C.decoded C.encoded R.refusal made right.now)
             → FaultOf (S.told store.old) (S.told store.new) result }
@@ -54,6 +59,8 @@ impl<T: Drop, C: ObjectCodec<T> + Drop, R: Rules<T> + Drop> Stored<T, C, R> {
             → IfOk result (λ machine. machine ≡ maybe_of
             (renewed made (R.refusal self.now.rules) (C.encoded self.now.sequenced.codec) right.now
             self.now.id self.now.object)) }
+        ensures commits { IfOk result (λ machine. MaybeBy (May (F.post f)) (R.refusal self.now.rules)
+            (C.encoded self.now.sequenced.codec) right.now self.now.id self.now.object machine) }
     {
         let change = |_codec: &C, id: u64, value: &T| f(id, value);
         match self.renew_held(alloc, &change, right) {

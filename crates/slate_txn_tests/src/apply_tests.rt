@@ -8,6 +8,7 @@ use slate_log::Right;
 use slate_store::{MemoryStore, Step, StoreAnswer};
 use slate_txn::{ApplyPhase, UpdateMachine};
 use std::alloc::Global;
+use std::cell::Cell;
 use std::process::Abort;
 
 type Made = Result<Option<Value>, SlateDBError>;
@@ -184,4 +185,29 @@ fn a_phase_reads_again_after_a_conflict(rt: HostRuntime) {
     read_again(&rt, alloc, &mut store, &mut holder, &mut phase);
     commit_again(&rt, alloc, &mut store, &mut holder, &mut phase);
     assert!(rt; holder.id() == 3 && *holder.object() == (0, 7));
+}
+
+/// A commit of the value plus one by a function that makes a value the first time, and none after that.
+fn add_once(alloc: Global, holder: &mut Holder, store: &mut MemoryStore) -> u8 {
+    let is_first = Cell::new(true);
+    let once = |id: u64, value: &Value| {
+        if is_first.replace(false) {
+            plus_one(id, value)
+        } else {
+            none(id, value)
+        }
+    };
+    code(holder.maybe_apply(alloc, store, once, &Right::Plain, 8, 2))
+}
+
+#[test]
+fn commits_what_a_function_answers_then(rt: HostRuntime) {
+    let alloc = rt.alloc();
+    let mut store = store_with(&rt, alloc, &[(1, [0, 5])], None);
+    let mut one = load(&rt, alloc, &mut store);
+    let mut two = load(&rt, alloc, &mut store);
+    assert!(rt; add_once(alloc, &mut one, &mut store) == 0);
+    assert!(rt; add_once(alloc, &mut two, &mut store) == 0);
+    assert!(rt; two.id() == 2 && *two.object() == (0, 6));
+    assert!(rt; latest(&rt, alloc, &mut store) == (2, (0, 6)));
 }

@@ -239,3 +239,97 @@ fn updates_by_steps(rt: HostRuntime) {
     );
     assert!(rt; holds(&holder, 1, 4, (1, 10)));
 }
+
+/// What became of a fence with an epoch.
+#[derive(Clone, Copy, Debug, PartialEq)]
+enum Became {
+    /// The holder holds this version.
+    Holds(u64, Value),
+    /// A greater epoch was read.
+    IsFenced(u64, u64),
+    /// The number of another refusal.
+    IsRefused(u8),
+}
+
+/// What becomes of a fence of this holder with this epoch, in so many tries.
+fn set_epoch(
+    rt: &impl Abort,
+    alloc: Global,
+    holder: Holder,
+    epoch: u64,
+    store: &mut MemoryStore,
+    tries: u32,
+) -> Became {
+    assert!(rt; 0 < tries);
+    match Fenced::init_with_epoch(alloc, holder, First, epoch, store, 8, tries) {
+        Ok(fenced) => {
+            assert!(rt; fenced.local_epoch() == epoch);
+            Became::Holds(fenced.id(), *fenced.object())
+        }
+        Err(SlateDBError::Fenced { own, read }) => Became::IsFenced(own, read),
+        Err(e) => Became::IsRefused(e.code()),
+    }
+}
+
+/// Over a version of epoch 3: the epoch of a fence, and what becomes of it.
+const EPOCHS: [(u64, Became); 4] = [
+    (2, Became::IsFenced(2, 3)),
+    (3, Became::Holds(2, (3, 5))),
+    (9, Became::Holds(2, (9, 5))),
+    (256, Became::IsRefused(13)),
+];
+
+/// What becomes of a fence with this epoch over a version of epoch 3.
+fn set_over(rt: &impl Abort, alloc: Global, epoch: u64) -> Became {
+    let mut store = store_with(rt, alloc, &[(1, [3, 5])], None);
+    let holder = load(rt, alloc, &mut store);
+    set_epoch(rt, alloc, holder, epoch, &mut store, 1)
+}
+
+#[test]
+fn a_fence_commits_its_epoch(rt: HostRuntime) {
+    for (epoch, became) in &EPOCHS {
+        assert!(rt; set_over(&rt, rt.alloc(), *epoch) == *became, "at {epoch}");
+    }
+}
+
+/// After a fence with epoch 4 over a version of epoch 3: the epoch of another one, its tries, and what becomes of it.
+const AFTER_CONFLICT: [(u64, u32, Became); 4] = [
+    (4, 1, Became::IsRefused(21)),
+    (3, 2, Became::IsFenced(3, 4)),
+    (4, 2, Became::Holds(3, (4, 5))),
+    (5, 2, Became::Holds(3, (5, 5))),
+];
+
+/// What becomes of the other one.
+fn set_after(rt: &impl Abort, alloc: Global, epoch: u64, tries: u32) -> Became {
+    let mut store = store_with(rt, alloc, &[(1, [3, 5])], None);
+    let one = load(rt, alloc, &mut store);
+    let other = load(rt, alloc, &mut store);
+    assert!(rt; set_epoch(rt, alloc, one, 4, &mut store, 1) == Became::Holds(2, (4, 5)));
+    set_epoch(rt, alloc, other, epoch, &mut store, tries)
+}
+
+#[test]
+fn a_fence_with_an_epoch_reads_again_after_a_conflict(rt: HostRuntime) {
+    for (epoch, tries, became) in &AFTER_CONFLICT {
+        assert!(rt;
+            set_after(&rt, rt.alloc(), *epoch, *tries) == *became,
+            "at {epoch}, {tries}"
+        );
+    }
+}
+
+#[test]
+fn fences_with_an_epoch_by_steps(rt: HostRuntime) {
+    let alloc = rt.alloc();
+    let mut store = store_with(&rt, alloc, &[(1, [3, 5])], None);
+    let older = load(&rt, alloc, &mut store);
+    let older = Fenced::start_init_with_epoch(alloc, older, First, 2).expect(&rt, "memory");
+    assert!(rt; !older.due());
+    let stored = load(&rt, alloc, &mut store);
+    let mut init = Fenced::start_init_with_epoch(alloc, stored, First, 7).expect(&rt, "memory");
+    assert!(rt; goes_on(init_step(&rt, alloc, &mut store, &mut init)));
+    let holder = ended(&rt, init_step(&rt, alloc, &mut store, &mut init));
+    assert!(rt; holds(&holder, 7, 2, (7, 5)));
+}

@@ -6,6 +6,8 @@ mod apply_tests;
 #[cfg(test)]
 mod boundary_tests;
 #[cfg(test)]
+mod create_tests;
+#[cfg(test)]
 mod fenced_tests;
 #[cfg(test)]
 mod holder_tests;

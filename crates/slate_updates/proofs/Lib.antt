@@ -5,3 +5,5 @@ mod Nested
 pub mod Lawful
 pub mod PrefixesApart
 pub mod Unchanged
+mod Placings
+mod Freshening

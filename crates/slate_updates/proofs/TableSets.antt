@@ -20,7 +20,7 @@ Left has rest all = (id : SsTableId) → (has id || is_among rest id) ≡ is_amo
 same_number : (a b : ℕ) → is_eq (nat_cmp a b) ≡ (b == a)
 same_number a b = grind (arith, nat_tests)
 
-same : (a b : SsTableId) → is_eq (table_cmp a b) ≡ same_table b a
+pub same : (a b : SsTableId) → is_eq (table_cmp a b) ≡ same_table b a
 same (Wal a) (Wal b) = same_number a b
 same (Wal a) (Compacted b) = refl
 same (Compacted a) (Wal b) = refl

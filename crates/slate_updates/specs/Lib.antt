@@ -8,4 +8,5 @@ pub mod Prefixes
 pub mod Rules
 pub mod RuleLaws
 pub mod Writers
+pub mod Flushes
 pub mod Changes

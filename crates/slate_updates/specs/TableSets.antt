@@ -1,5 +1,5 @@
 -- Tables by their ids, in lists and in ordered sets.
-use Rattle.std.specs.Prelude.{◌≡◌, Bool, List}
+use Rattle.std.specs.Prelude.{◌≡◌, Bool, not, List, ◌∷◌}
 use Rattle.std.specs.List.{list_any}
 use Rattle.std.specs.BTreeSet.{BTreeSet, contains}
 use Rattle.std.specs.declared.cmp.Ordering.{Ordering}
@@ -22,3 +22,7 @@ has_table set id = contains table_cmp set id
 -- the set has exactly these tables
 abbrev pub IsTableSet : BTreeSet SsTableId → List SsTableId → Type 0
 IsTableSet set ids = (id : SsTableId) → has_table set id ≡ is_among ids id
+
+-- a table was noted in a set: it was new where the set had it not, and the set has it then besides all that it had
+abbrev pub Notes : BTreeSet SsTableId → BTreeSet SsTableId → SsTableId → Bool → Type 0
+Notes old new id added = (known : List SsTableId) → IsTableSet old known → (added ≡ not (is_among known id)) × IsTableSet new (id ∷ known)

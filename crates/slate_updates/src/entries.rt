@@ -136,6 +136,9 @@ fn all_used_stay(alloc: Global, old: &[ExternalDb], new: &Manifest) -> Result<bo
     ensures { IfOk result (λ stay.
         stay ≡ list_all (entries.used_stay (tables_of new.now.core) new.now.external_dbs) old.now) }
 {
+    if old.is_empty() {
+        return Ok(true);
+    }
     let ids = all_tables(alloc, &new.core)?;
     let used = set_of(alloc, ids.as_slice())?;
     for entry in old {

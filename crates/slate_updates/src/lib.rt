@@ -4,12 +4,14 @@
 mod checkpoints;
 mod entries;
 mod epochs;
+mod flush_batch;
 mod flushed_tables;
 mod flushing;
 mod laws;
 mod lookups;
 mod manifest_change;
 mod named;
+mod placing;
 mod prefixes;
 mod rules;
 mod run_tables;
@@ -19,6 +21,7 @@ pub use checkpoints::{
     delete_checkpoint, expire_checkpoints, refresh_checkpoint, replace_checkpoint, write_checkpoint,
 };
 pub use epochs::{ManifestEpochs, raise_writer};
+pub use flush_batch::{FlushBatch, FlushedTable, flush_tables};
 pub use flushed_tables::l0_ulid_cutoff;
 pub use flushing::flush;
 pub use laws::{

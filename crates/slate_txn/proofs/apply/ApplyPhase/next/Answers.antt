@@ -2,6 +2,7 @@ use Rattle.std.proofs.Common.{w64}
 use Rattle.std.proofs.lemmas.Int.{to_z-of_z}
 use Rattle.slate_txn.proofs.ApplyFaults.{apply_faults}
 use Rattle.slate_txn.proofs.ApplyRuns.{where_reads}
+use Rattle.slate_txn.proofs.Moves.{steps_by}
 use Rattle.slate_log.proofs.Faults.{step_rose}
 use Rattle.slate_log.proofs.Steps.{steps_where}
 use Rattle.slate_txn.proofs.apply.ApplyPhase.next.Goals as goal
@@ -18,3 +19,8 @@ returns-in-Ok-perform-clause-fault g c = λ made computes free.
     let calls = rw (to_z-of_z w64 c.args.moment c.ranges.moment) at c.in-Ok-perform.ensures in
     let steps = steps_where _ _ _ _ _ c.in-Ok.ensures calls c.goes_on.result (c.goes_on.ensures.goes made computes) (where_reads c.args.self.now c.args.holder.now c.goes_on.result c.goes_on.ensures.reading) in
     step_rose old new c.args.moment (c.args.self.now, c.args.holder.now) (c.goes_on.new.self, c.goes_on.new.holder) c.goes_on.result (apply_faults _ free) c.requires.due steps
+
+pub returns-in-Ok-perform-clause-moves : goal.returns-in-Ok-perform-clause-moves
+returns-in-Ok-perform-clause-moves g c =
+    let calls = rw (to_z-of_z w64 c.args.moment c.ranges.moment) at c.in-Ok-perform.ensures in
+    steps_by _ _ _ _ _ c.in-Ok.ensures calls c.goes_on.result c.goes_on.ensures.moves (where_reads c.args.self.now c.args.holder.now c.goes_on.result c.goes_on.ensures.reading)

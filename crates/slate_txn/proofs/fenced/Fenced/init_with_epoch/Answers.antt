@@ -29,5 +29,5 @@ pub returns-clause-fenced : goal.returns-clause-fenced
 returns-clause-fenced g c = λ free.
     let old = g.S.ObjectStore.told c.args.store.now in
     let new = g.S.ObjectStore.told c.apply-reply.new.store in
-    set_below g.C.ObjectCodec.decoded g.C.ObjectCodec.encoded g.R.Rules.refusal g.E.Epochs.epoch g.E.Epochs.with_epoch c.args.epochs c.args.epoch Plain c.args.moment c.args.tries old new c.args.stored c.fenced_after.result
-    free (returns-clause-set g c)
+    set_below _ g.C.ObjectCodec.decoded g.C.ObjectCodec.encoded g.R.Rules.refusal g.E.Epochs.epoch g.E.Epochs.with_epoch c.args.epochs c.args.epoch Plain _ c.args.tries old new c.args.stored c.apply-reply.new.self c.apply-reply.result c.fenced_after.result
+    (λ codec id value reply answers. search (rules, answers)) free c.apply-reply.ensures.moves c.fenced_after.ensures

@@ -1,0 +1,15 @@
+mod Turns
+mod Entries
+mod Tops
+mod LatestReads
+mod Places
+mod CommitWalks
+mod Renewals
+mod ApplyWalks
+mod UpdateWalks
+mod Leavings
+mod BoundaryWalks
+mod HolderReads
+mod Inside
+mod OneCalls
+mod FirstVersions

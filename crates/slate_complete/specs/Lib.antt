@@ -1,0 +1,11 @@
+pub mod Serving
+pub mod Ready
+pub mod Reading
+pub mod Committing
+pub mod Changing
+pub mod Applying
+pub mod Advancing
+pub mod Deleting
+pub mod Updating
+pub mod Outside
+pub mod Creating

@@ -1,0 +1,29 @@
+//! What a plain call answers over a store that serves it well: laws of the definitions of the log and the holders, with no
+//! code of the product. Each law is what a function without work ensures.
+#![tactic(auto)]
+
+mod advances;
+mod applies;
+mod beginnings;
+mod commits;
+mod creations;
+mod deletes;
+mod fences;
+mod holder_reads;
+mod moves;
+mod once_calls;
+mod reads;
+mod updates;
+
+pub use advances::advance_ends;
+pub use applies::apply_ends;
+pub use beginnings::first_ready;
+pub use commits::commit_ends;
+pub use creations::create_ends;
+pub use deletes::delete_ends;
+pub use fences::fence_ends;
+pub use holder_reads::{load_ends, refresh_ends};
+pub use moves::{fenced_moves_end, moves_end};
+pub use once_calls::once_ends;
+pub use reads::read_ends;
+pub use updates::update_ends;

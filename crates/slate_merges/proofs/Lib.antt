@@ -1,0 +1,5 @@
+pub mod Ascents
+mod Fronts
+mod WriterTurns
+mod CompactorTurns
+mod ByPrefix

@@ -1,0 +1,4 @@
+pub mod Merging
+pub mod SegmentMerging
+pub mod ManifestMerging
+pub mod SideBySide

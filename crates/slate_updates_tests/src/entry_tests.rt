@@ -1,0 +1,134 @@
+//! Entries of other databases: none is new, none gains a table, and none loses one in use.
+
+use crate::test_values::With::{Entry, Run, Segment, Table};
+use crate::test_values::{With, broken, manifest_of};
+use slate_log::Right;
+use std::alloc::Global;
+use std::process::Abort;
+
+/// What the old manifest has, what the new one has, and whether it passes.
+const ENTRIES: [(&[With], &[With], bool); 18] = [
+    (
+        &[Entry("src", Some(9), 1, &[5, 6])],
+        &[Entry("src", Some(9), 1, &[5, 6])],
+        true,
+    ),
+    // the checkpoint that it was made from counts for nothing
+    (
+        &[Entry("src", Some(9), 1, &[5, 6])],
+        &[Entry("src", Some(9), 2, &[5, 6])],
+        true,
+    ),
+    // some of its tables, in their order
+    (
+        &[Entry("src", Some(9), 1, &[5, 6, 7])],
+        &[Entry("src", Some(9), 1, &[5, 7])],
+        true,
+    ),
+    (
+        &[Entry("src", Some(9), 1, &[5, 6, 7])],
+        &[Entry("src", Some(9), 1, &[])],
+        true,
+    ),
+    (&[Entry("src", Some(9), 1, &[5, 6])], &[], true),
+    (
+        &[Entry("src", Some(9), 1, &[5, 6])],
+        &[Entry("src", Some(9), 1, &[6, 5])],
+        false,
+    ),
+    (
+        &[Entry("src", Some(9), 1, &[5, 6])],
+        &[Entry("src", Some(9), 1, &[5, 5])],
+        false,
+    ),
+    (
+        &[Entry("src", Some(9), 1, &[5, 6])],
+        &[Entry("src", Some(9), 1, &[5, 6, 7])],
+        false,
+    ),
+    // another path, another pin, no pin
+    (
+        &[Entry("src", Some(9), 1, &[5])],
+        &[Entry("dst", Some(9), 1, &[5])],
+        false,
+    ),
+    (
+        &[Entry("src", Some(9), 1, &[5])],
+        &[Entry("src", Some(8), 1, &[5])],
+        false,
+    ),
+    (
+        &[Entry("src", Some(9), 1, &[5])],
+        &[Entry("src", None, 1, &[5])],
+        false,
+    ),
+    (
+        &[Entry("src", None, 1, &[5])],
+        &[Entry("src", None, 1, &[5])],
+        true,
+    ),
+    // tables in use stay, in the root, in a run, in a segment
+    (
+        &[Table(5, 0), Entry("src", None, 1, &[5, 6])],
+        &[Table(5, 0), Entry("src", None, 1, &[5])],
+        true,
+    ),
+    (
+        &[Table(5, 0), Entry("src", None, 1, &[5, 6])],
+        &[Table(5, 0), Entry("src", None, 1, &[6])],
+        false,
+    ),
+    (&[Run(5), Entry("src", None, 1, &[5, 6])], &[Run(5)], false),
+    (
+        &[Segment("a", &[5]), Entry("src", None, 1, &[5, 6])],
+        &[Segment("a", &[5]), Entry("src", None, 1, &[])],
+        false,
+    ),
+    // of two entries of one path and pin any will do, but none takes over the other's tables
+    (
+        &[
+            Run(7),
+            Entry("src", None, 1, &[5, 6]),
+            Entry("src", None, 1, &[7]),
+        ],
+        &[
+            Run(7),
+            Entry("src", None, 1, &[7]),
+            Entry("src", None, 1, &[6]),
+        ],
+        true,
+    ),
+    (
+        &[
+            Run(7),
+            Entry("src", None, 1, &[5, 6]),
+            Entry("src", None, 1, &[7]),
+        ],
+        &[Run(7), Entry("src", None, 1, &[6, 7])],
+        false,
+    ),
+];
+
+/// The rule that is broken under a right.
+fn broken_with(rt: &impl Abort, alloc: Global, old: &[With], new: &[With], right: &Right) -> u8 {
+    let old = manifest_of(rt, alloc, &[old]);
+    let new = manifest_of(rt, alloc, &[new]);
+    broken(alloc, &old, &new, right)
+}
+
+#[test]
+fn entries_are_kept(rt: HostRuntime) {
+    for (old, new, passes) in &ENTRIES {
+        let rule = if *passes { 0 } else { 3 };
+        assert!(rt;
+            broken_with(&rt, rt.alloc(), old, new, &Right::Plain) == rule,
+            "{old:?}, then {new:?}"
+        );
+    }
+}
+
+#[test]
+fn an_entry_is_as_new_under_the_right_to_attach(rt: HostRuntime) {
+    let new = [Entry("src", None, 1, &[5])];
+    assert!(rt; broken_with(&rt, rt.alloc(), &[], &new, &Right::Attach) == 3);
+}
