@@ -1,5 +1,5 @@
 -- The machines of checkpoint calls: the answer is known at the start, since a machine makes one try.
-use Rattle.std.specs.Prelude.{◌≡◌, ℕ, ℤ, List, Option, Some, None, Result, Ok, Err, ok_or}
+use Rattle.std.specs.Prelude.{ℕ, ℤ, List, Option, Some, None, Result, Ok, Err, ok_or}
 use Rattle.slate_ids.specs.declared.error.SlateDBError.{SlateDBError}
 use Rattle.slate_ids.specs.declared.error.SlateDBError.TheVariants.{CheckpointMissing}
 use Rattle.slate_layout.specs.Codec.{encoded}

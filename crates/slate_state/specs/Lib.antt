@@ -4,3 +4,4 @@ pub mod CheckedDelete
 pub mod Named
 pub mod Referenced
 pub mod Holding
+pub mod CheckpointMachines

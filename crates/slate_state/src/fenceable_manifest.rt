@@ -116,6 +116,13 @@ impl FenceableManifest {
         (self.fenced.id(), self.fenced.object())
     }
 
+    // The number of the version held.
+    pub(crate) fn number(&self) -> u64
+        ensures { result ≡ self.now.holder.id }
+    {
+        self.fenced.id()
+    }
+
     // The manifest held.
     pub(crate) fn held(&self) -> &Manifest
         ensures { result.now ≡ self.now.holder.object }

@@ -121,6 +121,13 @@ impl StoredManifest {
         hold(Stored::load(alloc, store, log, ManifestRules, tries))
     }
 
+    // The number of the version held.
+    pub(crate) fn number(&self) -> u64
+        ensures { result ≡ self.now.id }
+    {
+        self.stored.id()
+    }
+
     // The manifest held.
     pub(crate) fn held(&self) -> &Manifest
         ensures { result.now ≡ self.now.object }
