@@ -31,7 +31,10 @@ fn shows(rt: &HostRuntime, db: DbPath) -> Result<(), SlateDBError> {
 
     let versions = ManifestStore::new(db).list_manifests(alloc, &mut store, ALL)?;
     for version in versions.as_slice() {
-        let _ = println!(rt; "version {} was written at {}", version.0, version.1.last_modified);
+        let _ = println!(rt;
+            "version {} was written at {}",
+            version.0, version.1.last_modified
+        );
     }
     Ok(())
 }

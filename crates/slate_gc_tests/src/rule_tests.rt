@@ -3,7 +3,7 @@
 use slate_ids::{CheckpointId, Epochs, SlateDBError, UpdateRule};
 use slate_log::{Right, Rules};
 use slate_model::{Checkpoint, Manifest, ManifestCore};
-use slate_updates::{ManifestRules, ManifestEpochs, flush, raise_writer};
+use slate_updates::{ManifestEpochs, ManifestRules, flush, raise_writer};
 use std::alloc::Global;
 use std::process::Abort;
 

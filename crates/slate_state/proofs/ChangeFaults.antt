@@ -4,7 +4,7 @@ use Rattle.std.proofs.Common.{ap, sym, ◌∙◌}
 use Rattle.slate_encodable.specs.Unencodable.{early_field, late_field}
 use Rattle.slate_ids.specs.Limits.{last_number}
 use Rattle.slate_ids.specs.declared.error.SlateDBError.{SlateDBError}
-use Rattle.slate_ids.specs.declared.error.SlateDBError.TheVariants.{CheckpointMissing, Corrupt, Exhausted, Fenced, InvalidDBState, StoreFault, Unencodable}
+use Rattle.slate_ids.specs.declared.error.SlateDBError.TheVariants.{CheckpointMissing, Corrupt, Exhausted, Fenced, InvalidDBState, StoreFault, TransactionalObjectVersionExists, Unencodable}
 use Rattle.slate_ids.specs.declared.error.StateCause.TheVariants.{NotInitialised}
 use Rattle.slate_ids.specs.declared.error.FieldName.{FieldName}
 use Rattle.slate_ids.specs.declared.error.FormatName.TheVariants as format
@@ -24,7 +24,9 @@ use Rattle.slate_parts.specs.InfoCodec.{unless_field}
 use Rattle.slate_txn.specs.Apply.{FaultFree, renews}
 use Rattle.slate_txn.specs.Changing.{Making}
 use Rattle.slate_txn.specs.FencedApplying.{fenced_made}
-use Rattle.slate_txn.specs.Holder.{Holder}
+use Rattle.slate_txn.specs.Creating.{first_commit}
+use Rattle.slate_txn.specs.Updating.{started}
+use Rattle.slate_txn.specs.declared.stored.DirtyObject.{DirtyObject}
 use Rattle.slate_updates.specs.Changes.{made, floored}
 use Rattle.slate_updates.specs.Checkpoints.{written, replaced, refreshed, deleted, unexpired, pushed, version_to_name, number_after, source_version, checkpoint_at}
 use Rattle.slate_updates.specs.RuleLaws.{IsOfRules, is_of_rules}
@@ -35,7 +37,8 @@ use Rattle.slate_updates.specs.declared.epochs.ManifestEpochs.TheVariants.{Write
 use Rattle.slate_updates.specs.declared.manifest_change.ManifestChange.{ManifestChange}
 use Rattle.slate_updates.specs.declared.manifest_change.ManifestChange.TheVariants.{RaiseWriter, Flush, WriteCheckpoint, ReplaceCheckpoint, RefreshCheckpoint, DeleteCheckpoint, DropExpired}
 use Rattle.slate_updates.proofs.Lawful.{causes}
-use Rattle.slate_state.specs.Holding.{ManifestHolder, NeverFaults, manifest_ways}
+use Rattle.slate_state.specs.Holding.{ManifestHolder, NeverFaults, manifest_rules, manifest_ways}
+use Rattle.slate_state.specs.Manifests.{manifest_encoded}
 use Rattle.slate_state.proofs.NoFaults.{decoding_fine}
 
 -- an answer that is no fault
@@ -98,6 +101,14 @@ wanted_fine right n old (Ok (Some new)) h = some_fine _ (prepared_fine right n o
 -- a holder of a manifest is free of faults where what it commits is
 pub ways_fine : (changed : Making Manifest) (right : Right) → NeverFaults changed → FaultFree (manifest_ways changed right)
 ways_fine changed right fine = record { decodes = λ codec. decoding_fine; renewal = λ holder id value. wanted_fine right id value (changed id value) (fine id value) }
+
+-- an update that was started
+pub started_fine : (holder : ManifestHolder) (dirty : DirtyObject Manifest) (right : Right) → started manifest_rules manifest_encoded holder dirty right ≢ Err StoreFault
+started_fine holder dirty right = either (dirty.id == holder.id) _ (Err (TransactionalObjectVersionExists dirty.id None)) (prepared_fine right holder.id holder.object dirty.value) (λ same. absurd cc)
+
+-- the commit of a first version
+pub first_fine : (m : Manifest) → first_commit encoded m ≢ Err StoreFault
+first_fine m = bytes_fine 1 m (encoded m) (encoding_fine m)
 
 -- ---- the changes
 

@@ -15,7 +15,6 @@ use slate_store::{ObjectStore, Step, StoreAnswer, StoreCall, perform};
 use std::alloc::Global;
 use std::mem;
 
-
 /// Where a checked delete stands.
 #[derive(Debug, Drop)]
 pub enum CheckedDeletePhase<T> {

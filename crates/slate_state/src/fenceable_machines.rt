@@ -8,8 +8,8 @@ ghost use Rattle.slate_txn.specs.Updating.{update_due, update_open};
 ghost use Rattle.slate_updates.specs.declared.manifest_change.ManifestChange.TheVariants.{WriteCheckpoint, ReplaceCheckpoint, RefreshCheckpoint, DeleteCheckpoint};
 
 use crate::changes::{copy_options, make};
-use crate::foreseen::{answer_step, foresee};
 use crate::fenceable_manifest::FenceableManifest;
+use crate::foreseen::{answer_step, foresee};
 use slate_ids::{CheckpointId, Millis, OutOfMemory};
 use slate_log::Right;
 use slate_model::{Checkpoint, CheckpointOptions, Manifest};

@@ -183,7 +183,10 @@ impl FenceableManifest {
     /// Commits what `f` makes of the number and the manifest held, as a holder without a fence does. Where the epoch of the version
     /// held, or of one that is read after a conflict, is above the own one, the answer is `Fenced` and nothing is committed. The
     /// own epoch stays.
-    pub fn maybe_apply_update<F: Fn(u64, &Manifest) -> Result<Option<Manifest>, SlateDBError>, S: ObjectStore>(
+    pub fn maybe_apply_update<
+        F: Fn(u64, &Manifest) -> Result<Option<Manifest>, SlateDBError>,
+        S: ObjectStore,
+    >(
         &mut self,
         alloc: Global,
         store: &mut S,

@@ -196,7 +196,10 @@ impl ReadManifestMachine {
         ensures fault { FaultRose (S.told store.old) (S.told store.new) result }
     {
         let phase = self.phase;
-        present_at_step(phase, self.phase.next(alloc, manifests.log(), store, moment))
+        present_at_step(
+            phase,
+            self.phase.next(alloc, manifests.log(), store, moment),
+        )
     }
 }
 
@@ -332,7 +335,8 @@ impl DeleteManifestMachine {
         ensures due { StillDue result (checked_due self.new.phase) }
         ensures fault { FaultRose (S.told store.old) (S.told store.new) result }
     {
-        self.phase.next(alloc, manifests.log(), &ManifestNames, store, moment)
+        self.phase
+            .next(alloc, manifests.log(), &ManifestNames, store, moment)
     }
 }
 

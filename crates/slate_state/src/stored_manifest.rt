@@ -227,7 +227,10 @@ impl StoredManifest {
     /// Commits what `f` makes of the number and the manifest held. Where it makes none, nothing is committed, and its refusal is
     /// the answer. After a conflict the latest version is read and held, and what `f` makes of that is committed: so often as
     /// there are tries, then `Contended`. The holder holds what was put or read last.
-    pub fn maybe_apply_update<F: Fn(u64, &Manifest) -> Result<Option<Manifest>, SlateDBError>, S: ObjectStore>(
+    pub fn maybe_apply_update<
+        F: Fn(u64, &Manifest) -> Result<Option<Manifest>, SlateDBError>,
+        S: ObjectStore,
+    >(
         &mut self,
         alloc: Global,
         store: &mut S,

@@ -17,8 +17,12 @@ fn a_checkpoint_is_written_once(rt: HostRuntime) {
     let second = holder
         .write_checkpoint(alloc, &mut store, 20, 1, id(1), &options)
         .expect(&rt, "memory");
-    assert!(rt; first.manifest_id == 2 && first.create_time == 10 && first.expire_time == Some(1010));
-    assert!(rt; second.manifest_id == 2 && second.create_time == 10 && second.expire_time == Some(1010));
+    assert!(rt;
+        first.manifest_id == 2 && first.create_time == 10 && first.expire_time == Some(1010)
+    );
+    assert!(rt;
+        second.manifest_id == 2 && second.create_time == 10 && second.expire_time == Some(1010)
+    );
     assert!(rt; latest(&rt, alloc, &mut store) == 2);
 }
 
@@ -34,7 +38,9 @@ fn a_checkpoint_of_a_source(rt: HostRuntime) {
         .write_checkpoint(alloc, &mut store, 20, 1, id(2), &from_source(Some(1)))
         .expect(&rt, "memory");
     assert!(rt; copied.manifest_id == 2);
-    assert!(rt; code(holder.write_checkpoint(alloc, &mut store, 20, 1, id(3), &from_source(Some(9)))) == 5);
+    assert!(rt;
+        code(holder.write_checkpoint(alloc, &mut store, 20, 1, id(3), &from_source(Some(9)))) == 5
+    );
 }
 
 #[test]
@@ -64,7 +70,9 @@ fn a_conflict_is_read_again(rt: HostRuntime) {
     let mut stale = created(&rt, alloc, &mut store);
     let mut other = loaded(&rt, alloc, &mut store);
     again(&rt, alloc, &mut store, &mut other);
-    assert!(rt; code(stale.write_checkpoint(alloc, &mut store, 10, 1, id(1), &from_source(None))) == 21);
+    assert!(rt;
+        code(stale.write_checkpoint(alloc, &mut store, 10, 1, id(1), &from_source(None))) == 21
+    );
     let written = stale
         .write_checkpoint(alloc, &mut store, 10, 2, id(1), &from_source(None))
         .expect(&rt, "memory");

@@ -24,10 +24,14 @@ fn a_newer_writer_fences_an_older_one(rt: HostRuntime) {
     let alloc = rt.alloc();
     let mut store = empty(alloc);
     let first = created(&rt, alloc, &mut store);
-    let mut old = FenceableManifest::init_writer(alloc, first, &mut store, 7, 1).expect(&rt, "memory");
+    let mut old = FenceableManifest::init_writer(alloc, first, &mut store, 7, 1).expect(
+        &rt, "memory",
+    );
     let mut new = writer(&rt, alloc, &mut store);
     assert!(rt; old.local_epoch() == 1 && new.local_epoch() == 2);
-    assert!(rt; code(old.write_checkpoint(alloc, &mut store, 9, 2, id(1), &from_source(None))) == 2);
+    assert!(rt;
+        code(old.write_checkpoint(alloc, &mut store, 9, 2, id(1), &from_source(None))) == 2
+    );
     assert!(rt; code(old.refresh(alloc, &mut store, 1)) == 2);
     let written = new
         .write_checkpoint(alloc, &mut store, 9, 1, id(1), &from_source(None))
@@ -40,13 +44,27 @@ fn a_compactor_and_a_writer_do_not_fence_each_other(rt: HostRuntime) {
     let alloc = rt.alloc();
     let mut store = empty(alloc);
     let first = created(&rt, alloc, &mut store);
-    let mut writes = FenceableManifest::init_writer(alloc, first, &mut store, 7, 1).expect(&rt, "memory");
+    let mut writes = FenceableManifest::init_writer(alloc, first, &mut store, 7, 1).expect(
+        &rt, "memory",
+    );
     let mut compacts = compactor(&rt, alloc, &mut store);
     assert!(rt; writes.local_epoch() == 1 && compacts.local_epoch() == 1);
-    assert!(rt; code(writes.write_checkpoint(alloc, &mut store, 9, 2, id(1), &from_source(None))) == 0);
+    assert!(rt;
+        code(writes.write_checkpoint(alloc, &mut store, 9, 2, id(1), &from_source(None))) == 0
+    );
     assert!(rt; code(compacts.refresh(alloc, &mut store, 1)) == 0);
     assert!(rt; code(compacts.refresh_checkpoint(alloc, &mut store, 10, 1, id(1), 5000)) == 0);
-    assert!(rt; code(compacts.replace_checkpoint(alloc, &mut store, 10, 1, id(1), id(2), &from_source(None))) == 0);
+    assert!(rt;
+        code(compacts.replace_checkpoint(
+            alloc,
+            &mut store,
+            10,
+            1,
+            id(1),
+            id(2),
+            &from_source(None)
+        )) == 0
+    );
     assert!(rt; code(compacts.delete_checkpoint(alloc, &mut store, 10, 1, id(2))) == 0);
     let dirty = compacts.prepare_dirty(alloc).expect(&rt, "memory");
     assert!(rt; code(compacts.update(alloc, &mut store, dirty, &Right::Plain, 11)) == 0);

@@ -61,10 +61,18 @@ fn a_log_without_a_version(rt: HostRuntime) {
     let alloc = rt.alloc();
     let mut store = empty(alloc);
     let log = manifests(&rt);
-    assert!(rt; log.try_read_latest_manifest(alloc, &mut store, 1).expect(&rt, "memory").is_none());
+    assert!(rt;
+        log.try_read_latest_manifest(alloc, &mut store, 1)
+            .expect(&rt, "memory")
+            .is_none()
+    );
     assert!(rt; code(log.read_latest_manifest(alloc, &mut store, 1)) == 3);
     assert!(rt; code(log.delete_manifest(alloc, &mut store, 1, 1)) == 3);
-    assert!(rt; StoredManifest::try_load(alloc, &mut store, db(&rt), 1).expect(&rt, "memory").is_none());
+    assert!(rt;
+        StoredManifest::try_load(alloc, &mut store, db(&rt), 1)
+            .expect(&rt, "memory")
+            .is_none()
+    );
     assert!(rt; code(StoredManifest::load(alloc, &mut store, db(&rt), 1)) == 3);
 }
 
@@ -73,8 +81,16 @@ fn a_number_that_is_not_there(rt: HostRuntime) {
     let alloc = rt.alloc();
     let mut store = versions(&rt, alloc, 2, 0);
     let log = manifests(&rt);
-    assert!(rt; log.try_read_manifest(alloc, &mut store, 9).expect(&rt, "memory").is_none());
-    assert!(rt; log.try_read_manifest(alloc, &mut store, 2).expect(&rt, "memory").is_some());
+    assert!(rt;
+        log.try_read_manifest(alloc, &mut store, 9)
+            .expect(&rt, "memory")
+            .is_none()
+    );
+    assert!(rt;
+        log.try_read_manifest(alloc, &mut store, 2)
+            .expect(&rt, "memory")
+            .is_some()
+    );
     assert!(rt; named(log.read_manifest(alloc, &mut store, 9)) == 9);
     assert!(rt; code(log.read_manifest(alloc, &mut store, 1)) == 0);
     log.delete_manifest_unchecked(alloc, &mut store, 1)
@@ -115,7 +131,9 @@ fn what_checkpoints_name_is_read(rt: HostRuntime) {
     manifests(&rt)
         .delete_manifest_unchecked(alloc, &mut store, 1)
         .expect(&rt, "memory");
-    assert!(rt; named(manifests(&rt).read_referenced_manifests(alloc, &mut store, 2, &manifest)) == 1);
+    assert!(rt;
+        named(manifests(&rt).read_referenced_manifests(alloc, &mut store, 2, &manifest)) == 1
+    );
 }
 
 #[test]

@@ -62,7 +62,9 @@ pub(crate) fn empty(alloc: Global) -> MemoryStore {
 
 /// A holder of version 1 of a new database.
 pub(crate) fn created(rt: &impl Abort, alloc: Global, store: &mut MemoryStore) -> StoredManifest {
-    StoredManifest::create_new_db(alloc, store, db(rt), ManifestCore::new(alloc), 5).expect(rt, "memory")
+    StoredManifest::create_new_db(alloc, store, db(rt), ManifestCore::new(alloc), 5).expect(
+        rt, "memory",
+    )
 }
 
 /// A holder of the latest version.
