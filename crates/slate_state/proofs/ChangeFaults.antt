@@ -38,8 +38,8 @@ use Rattle.slate_updates.specs.declared.manifest_change.ManifestChange.{Manifest
 use Rattle.slate_updates.specs.declared.manifest_change.ManifestChange.TheVariants.{RaiseWriter, Flush, WriteCheckpoint, ReplaceCheckpoint, RefreshCheckpoint, DeleteCheckpoint, DropExpired}
 use Rattle.slate_updates.proofs.Lawful.{causes}
 use Rattle.slate_state.specs.Holding.{ManifestHolder, NeverFaults, manifest_rules, manifest_ways}
-use Rattle.slate_state.specs.Manifests.{manifest_encoded}
-use Rattle.slate_state.proofs.NoFaults.{decoding_fine}
+use Rattle.slate_manifest_store.specs.Manifests.{manifest_encoded}
+use Rattle.slate_manifest_store.proofs.NoFaults.{decoding_fine}
 
 -- an answer that is no fault
 abbrev Fine : {X : Type 0} → Result X SlateDBError → Type 0

@@ -30,7 +30,7 @@ use Rattle.slate_updates.specs.Writers.{epoch_of, with_epoch}
 use Rattle.slate_updates.specs.declared.epochs.ManifestEpochs.{ManifestEpochs}
 use Rattle.slate_updates.specs.declared.manifest_change.ManifestChange.{ManifestChange}
 use Rattle.slate_updates.specs.declared.rules.ManifestRules.{ManifestRules}
-use Rattle.slate_state.specs.Manifests.{manifest_decoded, manifest_encoded}
+use Rattle.slate_manifest_store.specs.Manifests.{manifest_decoded, manifest_encoded}
 
 -- a holder of a manifest
 abbrev pub ManifestHolder : Type 0

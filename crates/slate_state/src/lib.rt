@@ -1,36 +1,27 @@
-//! The manifests of a database: its log of versions, and the holders of a version.
+//! Holders of a database's manifest; with its store, its rules and its merges, which are passed on.
 #![tactic(auto)]
 
 mod changes;
-mod checked_delete;
-mod checked_delete_phase;
 mod fenceable_checkpoints;
 mod fenceable_machines;
 mod fenceable_manifest;
 mod foreseen;
-mod manifest_machines;
-mod manifest_map;
-mod manifest_store;
-mod names;
-mod number_queue;
-mod referenced_phase;
 mod stored_checkpoints;
 mod stored_machines;
 mod stored_manifest;
 
-pub use checked_delete_phase::CheckedDeletePhase;
 pub use fenceable_machines::{FencedCheckpointMachine, FencedDeleteCheckpointMachine};
 pub use fenceable_manifest::FenceableManifest;
-pub use manifest_machines::{
+pub use slate_manifest_store::{
     AdvanceBoundaryMachine, DeleteManifestMachine, DeleteUncheckedMachine, LatestManifestMachine,
-    ListManifestsMachine, ReadManifestMachine, ReferencedManifestsMachine,
-    TryLatestManifestMachine, TryReadManifestMachine,
+    ListManifestsMachine, ManifestMap, ManifestNames, ManifestStore, NumberQueue,
+    ReadManifestMachine, ReferencedManifestsMachine, ReferencedPhase, TryLatestManifestMachine,
+    TryReadManifestMachine,
 };
-pub use manifest_map::ManifestMap;
-pub use manifest_store::ManifestStore;
-pub use names::{ManifestNames, VersionNames};
-pub use number_queue::NumberQueue;
-pub use referenced_phase::ReferencedPhase;
+pub use slate_merges::{
+    TreeMerge, merge_remote_manifest, merge_segments_from_compactor, merge_segments_from_writer,
+    merge_writer_and_compactor,
+};
 pub use slate_txn::DirtyObject;
 pub use slate_updates::{ManifestEpochs, ManifestRules, l0_ulid_cutoff};
 pub use stored_machines::{CheckpointMachine, DeleteCheckpointMachine};

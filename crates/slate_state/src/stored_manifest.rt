@@ -5,7 +5,7 @@ ghost use Rattle.slate_log.specs.Due.{FaultOf};
 ghost use Rattle.slate_log.specs.declared.log_kind.LogKind.TheVariants as logs;
 ghost use Rattle.slate_model.specs.declared.manifest.Manifest.{Manifest as ManifestType};
 ghost use Rattle.slate_state.specs.Holding.{manifest_rules, manifest_ways, Changed, CreatesDb, LoadsDb, NeverFaults, TryLoadsDb};
-ghost use Rattle.slate_state.specs.Manifests.{manifest_decoded, manifest_encoded};
+ghost use Rattle.slate_manifest_store.specs.Manifests.{manifest_decoded, manifest_encoded};
 ghost use Rattle.slate_txn.specs.Apply.{Applies};
 ghost use Rattle.slate_txn.specs.Changing.{Computes, Making};
 ghost use Rattle.slate_txn.specs.Holder.{at_version};

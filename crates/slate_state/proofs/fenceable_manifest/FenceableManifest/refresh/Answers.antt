@@ -2,8 +2,8 @@ use Rattle.std.proofs.Common.{subst}
 use Rattle.slate_txn.specs.FencedRefreshing.{FencedRefreshed}
 use Rattle.slate_updates.specs.Writers.{epoch_of}
 use Rattle.slate_state.specs.Holding.{FencedManifest}
-use Rattle.slate_state.specs.Manifests.{manifest_decoded}
-use Rattle.slate_state.proofs.NoFaults.{decoding_fine}
+use Rattle.slate_manifest_store.specs.Manifests.{manifest_decoded}
+use Rattle.slate_manifest_store.proofs.NoFaults.{decoding_fine}
 use Rattle.slate_state.proofs.fenceable_manifest.FenceableManifest.refresh.Goals as goal
 
 pub returns-clause-refresh : goal.returns-clause-refresh

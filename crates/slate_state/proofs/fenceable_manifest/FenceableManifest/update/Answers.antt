@@ -4,7 +4,7 @@ use Rattle.slate_txn.specs.Fencing.{held_fence, UnlessFenced}
 use Rattle.slate_txn.specs.Updating.{Updates}
 use Rattle.slate_updates.specs.Writers.{epoch_of}
 use Rattle.slate_state.specs.Holding.{FencedManifest, manifest_rules}
-use Rattle.slate_state.specs.Manifests.{manifest_encoded}
+use Rattle.slate_manifest_store.specs.Manifests.{manifest_encoded}
 use Rattle.slate_state.proofs.ChangeFaults.{started_fine}
 use Rattle.slate_state.proofs.fenceable_manifest.FenceableManifest.update.Goals as goal
 

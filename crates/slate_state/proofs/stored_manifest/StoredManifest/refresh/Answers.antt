@@ -1,8 +1,8 @@
 use Rattle.std.proofs.Common.{subst}
 use Rattle.slate_txn.specs.Refreshing.{Refreshes}
 use Rattle.slate_state.specs.Holding.{ManifestHolder}
-use Rattle.slate_state.specs.Manifests.{manifest_decoded}
-use Rattle.slate_state.proofs.NoFaults.{decoding_fine}
+use Rattle.slate_manifest_store.specs.Manifests.{manifest_decoded}
+use Rattle.slate_manifest_store.proofs.NoFaults.{decoding_fine}
 use Rattle.slate_state.proofs.stored_manifest.StoredManifest.refresh.Goals as goal
 
 pub returns-clause-refresh : goal.returns-clause-refresh

@@ -1,6 +1,6 @@
 use Rattle.std.proofs.Common.{sym, ◌∙◌}
 use Rattle.slate_state.specs.Holding.{LogOf}
-use Rattle.slate_state.proofs.NoFaults.{decoding_fine}
+use Rattle.slate_manifest_store.proofs.NoFaults.{decoding_fine}
 use Rattle.slate_state.proofs.stored_manifest.StoredManifest.try_load.Goals as goal
 
 pub returns-clause-load : goal.returns-clause-load

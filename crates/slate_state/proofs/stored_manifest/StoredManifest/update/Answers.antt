@@ -2,7 +2,7 @@ use Rattle.std.proofs.Common.{subst, w64}
 use Rattle.std.proofs.lemmas.Int.{to_z-of_z}
 use Rattle.slate_txn.specs.Updating.{Updates}
 use Rattle.slate_state.specs.Holding.{ManifestHolder, manifest_rules}
-use Rattle.slate_state.specs.Manifests.{manifest_encoded}
+use Rattle.slate_manifest_store.specs.Manifests.{manifest_encoded}
 use Rattle.slate_state.proofs.ChangeFaults.{started_fine}
 use Rattle.slate_state.proofs.stored_manifest.StoredManifest.update.Goals as goal
 

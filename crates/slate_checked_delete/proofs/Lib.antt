@@ -1,0 +1,2 @@
+mod CheckedFaults
+mod Wheres

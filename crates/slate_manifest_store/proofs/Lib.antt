@@ -1,0 +1,3 @@
+pub mod NoFaults
+mod ReferencedFaults
+mod Replies

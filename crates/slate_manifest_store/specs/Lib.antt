@@ -1,0 +1,4 @@
+pub mod Replies
+pub mod Manifests
+pub mod Named
+pub mod Referenced
