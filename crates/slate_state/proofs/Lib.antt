@@ -1,0 +1,6 @@
+mod ChangeFaults
+mod CheckedFaults
+mod NoFaults
+mod ReferencedFaults
+mod Replies
+mod Wheres

@@ -1,0 +1,11 @@
+use Rattle.std.proofs.Common.{sym, ◌∙◌}
+use Rattle.slate_state.proofs.NoFaults.{decoding_fine}
+use Rattle.slate_state.proofs.stored_manifest.StoredManifest.load.Goals as goal
+
+pub returns-clause-load : goal.returns-clause-load
+returns-clause-load g c =
+    let of = record { log = c.manifests-log.result; rules = c.load.args.rules; at = c.manifests-log.ensures.db; kind = c.manifests-log.ensures.log } in
+    (of, rw (sym c.hold.ensures) at c.load.ensures.load)
+
+pub returns-clause-fault : goal.returns-clause-fault
+returns-clause-fault g c = λ same. c.load.ensures.fault decoding_fine (sym c.hold.ensures ∙ same)

@@ -1,0 +1,11 @@
+use Rattle.std.proofs.Common.{sym, ◌∙◌}
+use Rattle.slate_state.proofs.NoFaults.{decoding_fine}
+use Rattle.slate_state.proofs.stored_manifest.StoredManifest.try_load.Goals as goal
+
+pub returns-clause-load : goal.returns-clause-load
+returns-clause-load g c =
+    let of = record { log = c.manifests-log.result; rules = c.try_load.args.rules; at = c.manifests-log.ensures.db; kind = c.manifests-log.ensures.log } in
+    (of, rw (sym c.hold_some.ensures) at c.try_load.ensures.load)
+
+pub returns-clause-fault : goal.returns-clause-fault
+returns-clause-fault g c = λ same. c.try_load.ensures.fault decoding_fine (sym c.hold_some.ensures ∙ same)

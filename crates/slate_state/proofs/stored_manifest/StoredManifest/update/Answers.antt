@@ -1,0 +1,16 @@
+use Rattle.std.proofs.Common.{subst, w64}
+use Rattle.std.proofs.lemmas.Int.{to_z-of_z}
+use Rattle.slate_txn.specs.Updating.{Updates}
+use Rattle.slate_state.specs.Holding.{ManifestHolder, manifest_rules}
+use Rattle.slate_state.specs.Manifests.{manifest_encoded}
+use Rattle.slate_state.proofs.ChangeFaults.{started_fine}
+use Rattle.slate_state.proofs.stored_manifest.StoredManifest.update.Goals as goal
+
+pub returns-clause-update : goal.returns-clause-update
+returns-clause-update g c =
+    let told = g.S.ObjectStore.told in
+    let here = rw (to_z-of_z w64 c.args.moment c.ranges.moment) at c.update.ensures.update in
+    subst (λ (h : ManifestHolder). Updates manifest_rules manifest_encoded c.args.moment (told c.args.store.now) (told c.update.new.store) h c.args.dirty c.args.right.now c.update.result) c.self.view_is here
+
+pub returns-clause-fault : goal.returns-clause-fault
+returns-clause-fault g c = c.update.ensures.fault (started_fine c.self.inside.stored c.args.dirty c.args.right.now)
