@@ -1,6 +1,6 @@
-mod Turns
+pub mod Turns
 mod Entries
-mod Tops
+pub mod Tops
 mod LatestReads
 mod Places
 mod CommitWalks
@@ -9,7 +9,7 @@ mod ApplyWalks
 mod UpdateWalks
 mod Asides
 mod OtherCalls
-mod Leavings
+pub mod Leavings
 mod BoundaryWalks
 mod HolderReads
 mod Inside

@@ -1,0 +1,7 @@
+//! What a plain call on manifests answers over a store that serves it well: laws of the definitions of stores and holders of
+//! manifests, with no code of the product. Each law is what a function without work ensures.
+#![tactic(auto)]
+
+mod checked_deletes;
+
+pub use checked_deletes::checked_delete_ends;
