@@ -1,1 +1,3 @@
 mod CheckedWalks
+mod NamedLists
+mod ReferencedWalks

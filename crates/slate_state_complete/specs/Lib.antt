@@ -1,1 +1,2 @@
 pub mod CheckedDeleting
+pub mod ReadingNamed

@@ -3,5 +3,7 @@
 #![tactic(auto)]
 
 mod checked_deletes;
+mod referenced_reads;
 
 pub use checked_deletes::checked_delete_ends;
+pub use referenced_reads::referenced_ends;
