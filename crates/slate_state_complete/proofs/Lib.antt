@@ -1,3 +1,4 @@
 mod CheckedWalks
 mod NamedLists
 mod ReferencedWalks
+mod Refusals

@@ -3,7 +3,9 @@
 #![tactic(auto)]
 
 mod checked_deletes;
+mod insides;
 mod referenced_reads;
 
 pub use checked_deletes::checked_delete_ends;
+pub use insides::manifests_inside;
 pub use referenced_reads::referenced_ends;

@@ -1,0 +1,20 @@
+use Rattle.slate_state_complete.proofs.Refusals.{decodes_inside, encodes_inside, rules_inside, change_ways, fenced_ways, raise_ways}
+use Rattle.slate_state_complete.proofs.insides.manifests_inside.Goals as goal
+
+pub returns-clause-decodes : goal.returns-clause-decodes
+returns-clause-decodes c = decodes_inside
+
+pub returns-clause-encodes : goal.returns-clause-encodes
+returns-clause-encodes c = encodes_inside
+
+pub returns-clause-allows : goal.returns-clause-allows
+returns-clause-allows c = rules_inside
+
+pub returns-clause-changes : goal.returns-clause-changes
+returns-clause-changes c = change_ways
+
+pub returns-clause-fenced : goal.returns-clause-fenced
+returns-clause-fenced c = fenced_ways
+
+pub returns-clause-raises : goal.returns-clause-raises
+returns-clause-raises c = raise_ways
