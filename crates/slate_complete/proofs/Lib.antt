@@ -1,17 +1,17 @@
 pub mod Turns
 mod Entries
 pub mod Tops
-mod LatestReads
+pub mod LatestReads
 mod Places
 mod CommitWalks
 mod Renewals
-mod ApplyWalks
-mod UpdateWalks
+pub mod ApplyWalks
+pub mod UpdateWalks
 mod Asides
 mod OtherCalls
 pub mod Leavings
 mod BoundaryWalks
-mod HolderReads
-mod Inside
+pub mod HolderReads
+pub mod Inside
 mod OneCalls
-mod FirstVersions
+pub mod FirstVersions

@@ -2,3 +2,4 @@ mod CheckedWalks
 mod NamedLists
 mod ReferencedWalks
 mod Refusals
+mod Commits

@@ -26,7 +26,6 @@ use Rattle.slate_model.specs.declared.manifest.Manifest.{Manifest}
 use Rattle.slate_parts.specs.InfoCodec.{unless_field}
 use Rattle.slate_parts.specs.Reading.{u16_in}
 use Rattle.slate_txn.specs.Changing.{Making}
-use Rattle.slate_txn.specs.Fence.{raising}
 use Rattle.slate_txn.specs.FencedApplying.{fenced_made}
 use Rattle.slate_updates.specs.Changes.{made, floored, right_of}
 use Rattle.slate_updates.specs.Checkpoints.{written, replaced, refreshed, deleted, unexpired, pushed, version_to_name, number_after, source_version, checkpoint_at}
@@ -42,6 +41,7 @@ use Rattle.slate_complete.specs.Changing.{may_of}
 use Rattle.slate_complete.specs.Outside.{is_outside, NotOutside, NeverOutside, RulesInside, WaysInside}
 use Rattle.slate_state.specs.Holding.{manifest_rules, manifest_ways}
 use Rattle.slate_state.specs.Manifests.{manifest_decoded, manifest_encoded}
+use Rattle.slate_state_complete.specs.ChangeWays.{change_ways, fenced_ways, raise_ways}
 
 -- a result that is no such refusal, by cases
 abbrev Inside : {X : Type 0} → Result X SlateDBError → Type 0
@@ -151,19 +151,22 @@ fenced_inside kind own changed inside n m = fence_inside (nat_lt own (epoch_of k
 
 -- ---- the ways of a holder
 
-ways_inside : (changed : Making Manifest) (right : Right) → MakesInside changed → WaysInside (may_of (manifest_ways changed right))
+pub ways_inside : (changed : Making Manifest) (right : Right) → ((n : ℕ) (m : Manifest) → NotOutside (changed n m)) → WaysInside (may_of (manifest_ways changed right))
 ways_inside changed right inside = record {
   decodes = decodes_inside;
   encodes = encodes_inside;
   allows = rules_inside;
-  changes = λ id value reply is. subst (λ (r : Result (Option Manifest) SlateDBError). NotOutside r) is (told (changed id value) (inside id value));
+  changes = λ id value reply is. subst (λ (r : Result (Option Manifest) SlateDBError). NotOutside r) is (inside id value);
 }
 
-pub change_ways : (change : ManifestChange) (moment : ℤ) → WaysInside (may_of (manifest_ways (made change moment) (right_of change)))
-change_ways change moment = ways_inside (made change moment) (right_of change) (change_inside change moment)
+made_inside : (changed : Making Manifest) (right : Right) → MakesInside changed → WaysInside (may_of (manifest_ways changed right))
+made_inside changed right inside = ways_inside changed right (λ n m. told (changed n m) (inside n m))
 
-pub fenced_ways : (kind : ManifestEpochs) (own : ℕ) (change : ManifestChange) (moment : ℤ) → WaysInside (may_of (manifest_ways (fenced_made epoch_of kind own (made change moment)) (right_of change)))
-fenced_ways kind own change moment = ways_inside (fenced_made epoch_of kind own (made change moment)) (right_of change) (fenced_inside kind own (made change moment) (change_inside change moment))
+pub changes_inside : (change : ManifestChange) (moment : ℤ) → WaysInside (change_ways change moment)
+changes_inside change moment = made_inside (made change moment) (right_of change) (change_inside change moment)
 
-pub raise_ways : (kind : ManifestEpochs) → WaysInside (may_of (raising manifest_decoded manifest_encoded manifest_rules epoch_of with_epoch kind))
-raise_ways kind = ways_inside (next_epoch (epoch_of kind) (with_epoch kind)) Plain (raise_inside kind)
+pub all_fenced_inside : (kind : ManifestEpochs) (own : ℕ) (change : ManifestChange) (moment : ℤ) → WaysInside (fenced_ways kind own change moment)
+all_fenced_inside kind own change moment = made_inside (fenced_made epoch_of kind own (made change moment)) (right_of change) (fenced_inside kind own (made change moment) (change_inside change moment))
+
+pub raises_inside : (kind : ManifestEpochs) → WaysInside (raise_ways kind)
+raises_inside kind = made_inside (next_epoch (epoch_of kind) (with_epoch kind)) Plain (raise_inside kind)

@@ -1,2 +1,4 @@
 pub mod CheckedDeleting
 pub mod ReadingNamed
+pub mod ChangeWays
+pub mod Checkpointing

@@ -2,10 +2,14 @@
 //! manifests, with no code of the product. Each law is what a function without work ensures.
 #![tactic(auto)]
 
+mod change_calls;
 mod checked_deletes;
+mod checkpoint_calls;
 mod insides;
 mod referenced_reads;
 
+pub use change_calls::{changes_end, fenced_changes_end};
 pub use checked_deletes::checked_delete_ends;
+pub use checkpoint_calls::{checkpoint_calls_end, fenced_checkpoint_calls_end};
 pub use insides::manifests_inside;
 pub use referenced_reads::referenced_ends;

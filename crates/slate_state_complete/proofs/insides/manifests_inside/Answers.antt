@@ -1,4 +1,4 @@
-use Rattle.slate_state_complete.proofs.Refusals.{decodes_inside, encodes_inside, rules_inside, change_ways, fenced_ways, raise_ways}
+use Rattle.slate_state_complete.proofs.Refusals.{decodes_inside, encodes_inside, rules_inside, ways_inside, changes_inside, all_fenced_inside, raises_inside}
 use Rattle.slate_state_complete.proofs.insides.manifests_inside.Goals as goal
 
 pub returns-clause-decodes : goal.returns-clause-decodes
@@ -11,10 +11,13 @@ pub returns-clause-allows : goal.returns-clause-allows
 returns-clause-allows c = rules_inside
 
 pub returns-clause-changes : goal.returns-clause-changes
-returns-clause-changes c = change_ways
+returns-clause-changes c = changes_inside
 
 pub returns-clause-fenced : goal.returns-clause-fenced
-returns-clause-fenced c = fenced_ways
+returns-clause-fenced c = all_fenced_inside
 
 pub returns-clause-raises : goal.returns-clause-raises
-returns-clause-raises c = raise_ways
+returns-clause-raises c = raises_inside
+
+pub returns-clause-ways : goal.returns-clause-ways
+returns-clause-ways c = ways_inside
