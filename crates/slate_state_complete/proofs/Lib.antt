@@ -3,3 +3,4 @@ mod NamedLists
 mod ReferencedWalks
 mod Refusals
 mod Commits
+mod DbCalls

@@ -2,3 +2,4 @@ pub mod CheckedDeleting
 pub mod ReadingNamed
 pub mod ChangeWays
 pub mod Checkpointing
+pub mod Databases

@@ -5,11 +5,17 @@
 mod change_calls;
 mod checked_deletes;
 mod checkpoint_calls;
+mod db_creations;
+mod db_fences;
+mod db_loads;
 mod insides;
 mod referenced_reads;
 
 pub use change_calls::{changes_end, fenced_changes_end};
 pub use checked_deletes::checked_delete_ends;
 pub use checkpoint_calls::{checkpoint_calls_end, fenced_checkpoint_calls_end};
+pub use db_creations::create_db_ends;
+pub use db_fences::fence_db_ends;
+pub use db_loads::{load_db_ends, try_load_db_ends};
 pub use insides::manifests_inside;
 pub use referenced_reads::referenced_ends;
