@@ -13,5 +13,5 @@ pub mod Leavings
 mod BoundaryWalks
 pub mod HolderReads
 pub mod Inside
-mod OneCalls
+pub mod OneCalls
 pub mod FirstVersions

@@ -4,3 +4,5 @@ mod ReferencedWalks
 mod Refusals
 mod Commits
 mod DbCalls
+mod ManifestReadings
+mod HolderCalls

@@ -3,3 +3,4 @@ pub mod ReadingNamed
 pub mod ChangeWays
 pub mod Checkpointing
 pub mod Databases
+pub mod FencedUpdates

@@ -9,6 +9,9 @@ mod db_creations;
 mod db_fences;
 mod db_loads;
 mod insides;
+mod manifest_reads;
+mod manifest_refreshes;
+mod manifest_updates;
 mod referenced_reads;
 
 pub use change_calls::{changes_end, fenced_changes_end};
@@ -18,4 +21,7 @@ pub use db_creations::create_db_ends;
 pub use db_fences::fence_db_ends;
 pub use db_loads::{load_db_ends, try_load_db_ends};
 pub use insides::manifests_inside;
+pub use manifest_reads::{read_latest_ends, read_version_ends, try_read_latest_ends};
+pub use manifest_refreshes::{fenced_refresh_ends, manifest_refresh_ends};
+pub use manifest_updates::{fenced_update_ends, manifest_update_ends};
 pub use referenced_reads::referenced_ends;
