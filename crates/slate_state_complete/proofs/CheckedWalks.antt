@@ -1,26 +1,27 @@
 -- A checked deletion over a store that serves it.
-use Rattle.std.proofs.Common.{◌≡◌, ℕ, ℤ, ◌+◌, ◌<◌, ◌≤◌, ◌^◌, pos, Bool, true, false, nat_le, if◌then◌else◌, List, Option, Some, None, IfSome, Result, Ok, Err, refl, sym, ap, ◌∙◌, subst, arith}
-use Rattle.std.specs.Prelude.{◌&&◌, ◌==◌, not}
+use Rattle.std.proofs.Common.{◌≡◌, ℕ, ◌<◌, ◌≤◌, ◌^◌, pos, Bool, true, false, nat_le, if◌then◌else◌, List, Option, Some, None, IfSome, Result, Ok, Err, refl, ap, ◌∙◌, subst, arith}
+use Rattle.std.specs.Prelude.{◌&&◌}
 use Rattle.std.proofs.lemmas.Bool.Decides.{nat_tests}
 use Rattle.slate_ids.specs.Ids.{is_db_path}
 use Rattle.slate_ids.specs.declared.error.SlateDBError.{SlateDBError}
 use Rattle.slate_ids.specs.declared.error.SlateDBError.TheVariants.{Corrupt, InvalidDeletion, LatestTransactionalObjectVersionMissing}
 use Rattle.slate_ids.specs.declared.error.FormatName.TheVariants.{Boundary as BoundaryFormat}
 use Rattle.slate_store.specs.Calls.{Told}
-use Rattle.slate_store.specs.Machines.{Goes, Stay, End}
+use Rattle.slate_store.specs.Machines.{Stay, End}
 use Rattle.slate_store.specs.Store.{Store, object_at, listed, removed}
 use Rattle.slate_store.specs.declared.object.StoredObject.{StoredObject}
 use Rattle.slate_store.specs.declared.store_answer.StoreAnswer.TheVariants.{Found, Got}
 use Rattle.slate_log.specs.Advance.{boundary_at}
 use Rattle.slate_log.specs.Boundary.{boundary_got}
 use Rattle.slate_log.specs.LogPaths.{folder, version_path, boundary_path}
-use Rattle.slate_log.specs.ReadPhase.{Reply, above_goes, boundary_goes, decoded_goes, got_goes, listed_goes}
+use Rattle.slate_log.specs.ReadPhase.{above_goes, boundary_goes, decoded_goes, got_goes, listed_goes}
 use Rattle.slate_log.specs.declared.log_kind.LogKind.{LogKind}
 use Rattle.slate_log.specs.declared.read_phase.ReadPhase.TheVariants as reads
 use Rattle.slate_log.specs.declared.sequenced.Sequenced.{Sequenced}
-use Rattle.slate_complete.specs.Outside.{is_outside, NotOutside, NeverOutside}
+use Rattle.slate_complete.specs.Outside.{NotOutside, NeverOutside}
 use Rattle.slate_complete.specs.Ready.{top_of, bytes_of, IsBelow, IsLatest, IsReady, LeavesReady}
 use Rattle.slate_complete.specs.Serving.{Serves}
+use Rattle.slate_complete.proofs.Inside.{same_error}
 use Rattle.slate_complete.proofs.Leavings.{deleted_ready}
 use Rattle.slate_complete.proofs.Tops.{top_object}
 use Rattle.slate_complete.proofs.Turns.{Rest, step, ended, before}
@@ -132,9 +133,6 @@ checked_ends decoded names sequenced n tries old new s result ran some serves re
     (top_of sequenced.db sequenced.log s) refl
 
 -- ---- no answer comes from outside
-
-same_error : {X : Type 0} (result : Result X SlateDBError) (a b : SlateDBError) → result ≡ Err a → result ≡ Err b → is_outside a ≡ false → is_outside b ≡ false
-same_error result a b e f h = let same : a ≡ b = cc in subst (λ (e : SlateDBError). is_outside e ≡ false) same h
 
 pub checked_inside : {T : Type 0} (decoded : List ℕ → Result T SlateDBError) (names : T → ℕ → Bool) (db : List ℕ) (log : LogKind) (s : Store) (new : Told) (n : ℕ) (result : Result (Unit {0}) SlateDBError)
     → NeverOutside decoded → CheckedAnswers decoded names db log s new n result → NotOutside result

@@ -1,5 +1,5 @@
 -- Commits of changes of a manifest, and what is answered after them.
-use Rattle.std.proofs.Common.{◌≡◌, ℕ, ℤ, ◌<◌, ◌^◌, ◌⊎◌, inl, inr, true, false, List, Option, Some, None, Result, Ok, Err, refl, sym, ap, ◌∙◌, subst}
+use Rattle.std.proofs.Common.{◌≡◌, ℕ, ℤ, ◌<◌, ◌^◌, ◌⊎◌, inl, inr, true, List, Option, Some, None, Result, Ok, Err, refl, subst}
 use Rattle.std.specs.Prelude.{ok_or}
 use Rattle.slate_ids.specs.Answers.{Gives, ran_out}
 use Rattle.slate_ids.specs.Ids.{is_db_path}
@@ -16,11 +16,11 @@ use Rattle.slate_updates.specs.declared.rules.ManifestRules.{ManifestRules}
 use Rattle.slate_complete.specs.Applying.{ApplyAnswers}
 use Rattle.slate_complete.specs.Changing.{may_of}
 use Rattle.slate_complete.specs.Outside.{NotOutside, WaysInside}
-use Rattle.slate_complete.specs.Ready.{top_of, IsReady, LeavesReady}
+use Rattle.slate_complete.specs.Ready.{IsReady, LeavesReady}
 use Rattle.slate_complete.specs.Serving.{Serves}
-use Rattle.slate_complete.proofs.ApplyWalks.{apply_ends, apply_latest}
+use Rattle.slate_complete.proofs.ApplyWalks.{apply_ends}
 use Rattle.slate_complete.proofs.Inside.{apply_inside, out_inside, same_error}
-use Rattle.slate_state.specs.Holding.{answer_of, standing, ManifestHolder}
+use Rattle.slate_state.specs.Holding.{answer_of, ManifestHolder}
 use Rattle.slate_state_complete.specs.Checkpointing.{CheckpointAnswers}
 
 module _ (ways : Ways Manifest ManifestCodec ManifestRules) (id : List ℕ) (s : Store) (new : Told) (from to : ManifestHolder) (result : Result Checkpoint SlateDBError) where

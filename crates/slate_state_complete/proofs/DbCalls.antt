@@ -1,5 +1,5 @@
 -- Creations, loads and fences of a database.
-use Rattle.std.proofs.Common.{◌≡◌, ℕ, ℤ, ◌<◌, ◌^◌, ◌⊎◌, inl, inr, Bool, true, false, List, Option, Some, None, Result, Ok, Err, refl, sym, ap, ◌∙◌, subst}
+use Rattle.std.proofs.Common.{◌≡◌, ℕ, ℤ, ◌<◌, ◌^◌, ◌⊎◌, inl, inr, Bool, true, false, List, Option, Some, None, Result, Ok, Err, refl, sym, ◌∙◌, subst}
 use Rattle.slate_ids.specs.Answers.{OrMemory, ran_out}
 use Rattle.slate_ids.specs.Ids.{is_db_path}
 use Rattle.slate_ids.specs.declared.error.SlateDBError.{SlateDBError}
@@ -24,7 +24,7 @@ use Rattle.slate_complete.specs.Applying.{ApplyAnswers}
 use Rattle.slate_complete.specs.Creating.{CreateAnswers}
 use Rattle.slate_complete.specs.Creating.CreateAnswers.{IsCreated, HasVersion, ByCodec, NoBoundary}
 use Rattle.slate_complete.specs.Outside.{is_outside, NotOutside}
-use Rattle.slate_complete.specs.Reading.{AnswersBy, ReadAnswers}
+use Rattle.slate_complete.specs.Reading.{AnswersBy}
 use Rattle.slate_complete.specs.Ready.{top_of, IsReady, LeavesReady}
 use Rattle.slate_complete.specs.Serving.{Serves}
 use Rattle.slate_complete.proofs.FirstVersions.{create_ends}

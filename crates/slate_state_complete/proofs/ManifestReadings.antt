@@ -1,5 +1,5 @@
 -- Reads of a manifest.
-use Rattle.std.proofs.Common.{◌≡◌, ℕ, ◌⊎◌, inl, inr, true, List, Option, Some, None, Result, Ok, Err, refl, subst}
+use Rattle.std.proofs.Common.{◌≡◌, ℕ, ◌⊎◌, inl, inr, true, Option, Some, None, Result, Ok, Err, refl, subst}
 use Rattle.std.specs.Prelude.{pos}
 use Rattle.slate_ids.specs.Answers.{ran_out}
 use Rattle.slate_ids.specs.declared.error.SlateDBError.{SlateDBError}

@@ -1,13 +1,13 @@
 -- A read of the versions that checkpoints name over a store that serves it.
-use Rattle.std.proofs.Common.{◌≡◌, ◌≢◌, ℕ, ℤ, ◌+◌, ◌⊎◌, inl, inr, pos, Bool, true, false, List, [], ◌∷◌, Option, Some, None, Result, Ok, Err, refl, sym, ap, ◌∙◌, subst, arith}
+use Rattle.std.proofs.Common.{◌≡◌, ℕ, ◌⊎◌, inl, inr, pos, Bool, true, false, List, [], ◌∷◌, Option, Some, None, Result, Ok, Err, refl, sym, ap, ◌∙◌, subst, arith}
 use Rattle.std.specs.Prelude.{◌&&◌, ◌||◌, ◌==◌, not}
 use Rattle.std.specs.BTreeMap.{insert_entry}
 use Rattle.std.specs.Ordering.{nat_cmp}
-use Rattle.slate_ids.specs.Answers.{is_memory, ran_out}
+use Rattle.slate_ids.specs.Answers.{ran_out}
 use Rattle.slate_ids.specs.declared.error.SlateDBError.{SlateDBError}
-use Rattle.slate_ids.specs.declared.error.SlateDBError.TheVariants.{ManifestMissing, OutOfMemory}
+use Rattle.slate_ids.specs.declared.error.SlateDBError.TheVariants.{ManifestMissing}
 use Rattle.slate_store.specs.Calls.{Told}
-use Rattle.slate_store.specs.Machines.{Goes, Stay, End}
+use Rattle.slate_store.specs.Machines.{Stay, End}
 use Rattle.slate_store.specs.Runs.{one_if}
 use Rattle.slate_store.specs.Store.{Store, object_at}
 use Rattle.slate_store.specs.declared.object.StoredObject.{StoredObject}
@@ -16,18 +16,18 @@ use Rattle.slate_log.specs.Commit.{never}
 use Rattle.slate_log.specs.LogPaths.{version_path}
 use Rattle.slate_log.specs.TryRead.{some_value, value_got}
 use Rattle.slate_log.specs.declared.log_kind.LogKind.TheVariants as logs
-use Rattle.slate_model.specs.declared.checkpoint.Checkpoint.{Checkpoint}
 use Rattle.slate_model.specs.declared.manifest.Manifest.{Manifest}
 use Rattle.slate_updates.specs.Checkpoints.{is_named}
-use Rattle.slate_complete.specs.Outside.{is_outside, NotOutside, NeverOutside}
+use Rattle.slate_complete.specs.Outside.{NotOutside, NeverOutside}
 use Rattle.slate_complete.specs.Ready.{bytes_of}
 use Rattle.slate_complete.specs.Serving.{Serves}
+use Rattle.slate_complete.proofs.Inside.{out_inside, same_error}
 use Rattle.slate_complete.proofs.Turns.{Rest, step, ended, before}
 use Rattle.slate_state.specs.Named.{named_numbers}
-use Rattle.slate_state.specs.Referenced.{Versions, ReferencedGoes, Referenced, ReadsAll, IfNone, first_number, number_goes, rest_goes, referenced_asks, referenced_goes, referenced_start}
+use Rattle.slate_state.specs.Referenced.{Versions, ReferencedGoes, Referenced, ReadsAll, number_goes, rest_goes, referenced_asks, referenced_goes}
 use Rattle.slate_state.specs.declared.referenced_phase.ReferencedPhase.{ReferencedPhase}
 use Rattle.slate_state.specs.declared.referenced_phase.ReferencedPhase.TheVariants.{Getting, Over}
-use Rattle.slate_state_complete.specs.ReadingNamed.{at_number, IsNamedBy, IsStored, AreNamed, ReferencedAnswers}
+use Rattle.slate_state_complete.specs.ReadingNamed.{at_number, IsNamedBy, IsStored, ReferencedAnswers}
 use Rattle.slate_state_complete.specs.ReadingNamed.ReferencedAnswers.{AreRead, IsMissing, Undecoded}
 use Rattle.slate_state_complete.proofs.NamedLists.{same_told, other_told, same_number, not_same, has_number, named_tell, found_put, found_else}
 
@@ -169,17 +169,6 @@ referenced_ends db decoded n m old new s result (inl ran) serves = reads_all db 
 referenced_ends db decoded n m old new s result (inr out) serves = inr out.0
 
 -- ---- no answer comes from outside
-
-same_error : {X : Type 0} (result : Result X SlateDBError) (a b : SlateDBError) → result ≡ Err a → result ≡ Err b → is_outside a ≡ false → is_outside b ≡ false
-same_error result a b e f h = let same : a ≡ b = cc in subst (λ (e : SlateDBError). is_outside e ≡ false) same h
-
-memory_inside : (e : SlateDBError) → is_memory e ≡ true → is_outside e ≡ false
-memory_inside OutOfMemory h = refl
-memory_inside _ h = absurd cc
-
-out_inside : {X : Type 0} (result : Result X SlateDBError) → ran_out result ≡ true → NotOutside result
-out_inside (Ok x) out e same = absurd cc
-out_inside (Err a) out e same = same_error (Err a) a e refl same (memory_inside a out)
 
 module _ (db : List ℕ) (decoded : List ℕ → Result Manifest SlateDBError) (n : ℕ) (m : Manifest) (new : Told) (s : Store) (result : Result Versions SlateDBError) (inside : NeverOutside decoded) where
   answer_inside : ReferencedAnswers db decoded s n m result → NotOutside result

@@ -1,17 +1,17 @@
 -- Neither the codec of manifests, nor the rules, nor a change that is handed in refuses as others or the store do.
 use Rattle.std.specs.Prelude.{◌≡◌, ◌+◌, ◌==◌, nat_lt, ℕ, ℤ, Bool, true, false, List, Option, Some, None, Result, Ok, Err, if◌then◌else◌, refl}
-use Rattle.std.proofs.Common.{subst, sym}
+use Rattle.std.proofs.Common.{subst}
 use Rattle.slate_encodable.specs.Unencodable.{early_field}
 use Rattle.slate_ids.specs.Limits.{last_number}
 use Rattle.slate_ids.specs.declared.error.SlateDBError.{SlateDBError}
-use Rattle.slate_ids.specs.declared.error.SlateDBError.TheVariants.{CheckpointMissing, Corrupt, Exhausted, Fenced, InvalidClockTick, InvalidDBState, InvalidSegmentPrefix, InvalidVersion, UpdateRefused}
+use Rattle.slate_ids.specs.declared.error.SlateDBError.TheVariants.{CheckpointMissing, Corrupt, Exhausted, Fenced, InvalidClockTick, InvalidDBState, InvalidSegmentPrefix, UpdateRefused}
 use Rattle.slate_ids.specs.declared.error.StateCause.TheVariants.{NotInitialised}
 use Rattle.slate_ids.specs.declared.error.FieldName.{FieldName}
 use Rattle.slate_ids.specs.declared.error.FormatName.TheVariants as format
 use Rattle.slate_layout.specs.Codec.{encoded, if_typed}
 use Rattle.slate_layout.specs.declared.codec.ManifestCodec.{ManifestCodec}
 use Rattle.slate_log.specs.Change.{next_epoch}
-use Rattle.slate_log.specs.Fence.{fence, unless}
+use Rattle.slate_log.specs.Fence.{unless}
 use Rattle.slate_log.specs.declared.right.Right.{Right}
 use Rattle.slate_log.specs.declared.right.Right.TheVariants.{Plain}
 use Rattle.slate_manifest_encoding.specs.Encoding.{encoded_manifest, encoded_with, unless_early}
@@ -30,7 +30,6 @@ use Rattle.slate_txn.specs.FencedApplying.{fenced_made}
 use Rattle.slate_updates.specs.Changes.{made, floored, right_of}
 use Rattle.slate_updates.specs.Checkpoints.{written, replaced, refreshed, deleted, unexpired, pushed, version_to_name, number_after, source_version, checkpoint_at}
 use Rattle.slate_updates.specs.RuleLaws.{IsOfRules, is_of_rules}
-use Rattle.slate_updates.specs.Rules.{manifest_refusal}
 use Rattle.slate_updates.specs.Writers.{epoch_of, flushed, with_epoch}
 use Rattle.slate_updates.specs.declared.epochs.ManifestEpochs.{ManifestEpochs}
 use Rattle.slate_updates.specs.declared.epochs.ManifestEpochs.TheVariants.{Writer}
@@ -142,12 +141,9 @@ change_inside (RefreshCheckpoint id lifetime) now n m = floored_inside m.core.fl
 change_inside (DeleteCheckpoint id) now n m = floored_inside m.core.floor (deleted id m) (either _ (Ok (Some _)) (Ok None) tt tt)
 change_inside DropExpired now n m = floored_inside m.core.floor (unexpired now m) (either _ (Ok (Some _)) (Ok None) tt tt)
 
-fence_inside : {X : Type 0} (b : Bool) (own read : ℕ) (r : Result X SlateDBError) → Inside r → Inside (unless (if b then Some (Fenced own read) else None) r)
-fence_inside true own read r h = refl
+fence_inside : {X : Type 0} (b : Bool) (own read : ℕ) (r : Result X SlateDBError) → NotOutside r → NotOutside (unless (if b then Some (Fenced own read) else None) r)
+fence_inside true own read r h = told (Err (Fenced own read)) refl
 fence_inside false own read r h = h
-
-fenced_inside : (kind : ManifestEpochs) (own : ℕ) (changed : Making Manifest) → MakesInside changed → MakesInside (fenced_made epoch_of kind own changed)
-fenced_inside kind own changed inside n m = fence_inside (nat_lt own (epoch_of kind m)) own (epoch_of kind m) (changed n m) (inside n m)
 
 -- ---- the ways of a holder
 
@@ -165,8 +161,11 @@ made_inside changed right inside = ways_inside changed right (λ n m. told (chan
 pub changes_inside : (change : ManifestChange) (moment : ℤ) → WaysInside (change_ways change moment)
 changes_inside change moment = made_inside (made change moment) (right_of change) (change_inside change moment)
 
+pub fences_inside : (kind : ManifestEpochs) (own : ℕ) (changed : Making Manifest) (right : Right) → ((n : ℕ) (m : Manifest) → NotOutside (changed n m)) → WaysInside (may_of (manifest_ways (fenced_made epoch_of kind own changed) right))
+fences_inside kind own changed right inside = ways_inside (fenced_made epoch_of kind own changed) right (λ n m. fence_inside (nat_lt own (epoch_of kind m)) own (epoch_of kind m) (changed n m) (inside n m))
+
 pub all_fenced_inside : (kind : ManifestEpochs) (own : ℕ) (change : ManifestChange) (moment : ℤ) → WaysInside (fenced_ways kind own change moment)
-all_fenced_inside kind own change moment = made_inside (fenced_made epoch_of kind own (made change moment)) (right_of change) (fenced_inside kind own (made change moment) (change_inside change moment))
+all_fenced_inside kind own change moment = fences_inside kind own (made change moment) (right_of change) (λ n m. told (made change moment n m) (change_inside change moment n m))
 
 pub raises_inside : (kind : ManifestEpochs) → WaysInside (raise_ways kind)
 raises_inside kind = made_inside (next_epoch (epoch_of kind) (with_epoch kind)) Plain (raise_inside kind)

@@ -4,6 +4,8 @@ ghost use Rattle.slate_layout.specs.declared.codec.ManifestCodec.{ManifestCodec}
 ghost use Rattle.slate_log.specs.declared.right.Right.{Right};
 ghost use Rattle.slate_model.specs.declared.manifest.Manifest.{Manifest};
 ghost use Rattle.slate_txn.specs.Changing.{Making};
+ghost use Rattle.slate_txn.specs.FencedApplying.{fenced_made};
+ghost use Rattle.slate_updates.specs.Writers.{epoch_of};
 ghost use Rattle.slate_updates.specs.declared.epochs.ManifestEpochs.{ManifestEpochs};
 ghost use Rattle.slate_updates.specs.declared.manifest_change.ManifestChange.{ManifestChange};
 ghost use Rattle.slate_complete.specs.Changing.{may_of};
@@ -21,6 +23,9 @@ pub fn manifests_inside()
     ensures allows { RulesInside manifest_rules }
     ensures ways { (changed : Making Manifest) (right : Right) → ((n : ℕ) (m : Manifest) → NotOutside (changed n m))
         → WaysInside (may_of (manifest_ways changed right)) }
+    ensures fences { (kind : ManifestEpochs) (own : ℕ) (changed : Making Manifest) (right : Right)
+        → ((n : ℕ) (m : Manifest) → NotOutside (changed n m))
+        → WaysInside (may_of (manifest_ways (fenced_made epoch_of kind own changed) right)) }
     ensures changes { (change : ManifestChange) (moment : ℤ) → WaysInside (change_ways change moment) }
     ensures fenced { (kind : ManifestEpochs) (own : ℕ) (change : ManifestChange) (moment : ℤ)
         → WaysInside (fenced_ways kind own change moment) }

@@ -1,5 +1,5 @@
 //! Updates of the manifest held.
-ghost use Rattle.std.specs.Prelude.{◌≡◌, ◌<◌, ◌^◌, ◌⊎◌, ℕ, ℤ, Some, Result, true};
+ghost use Rattle.std.specs.Prelude.{◌≡◌, ◌<◌, ◌^◌, ◌⊎◌, ℤ, Some, Result, true};
 ghost use Rattle.slate_ids.specs.Answers.{ran_out};
 ghost use Rattle.slate_ids.specs.Ids.{is_db_path};
 ghost use Rattle.slate_ids.specs.declared.error.SlateDBError.{SlateDBError as Refusal};

@@ -1,4 +1,4 @@
-use Rattle.slate_state_complete.proofs.Refusals.{decodes_inside, encodes_inside, rules_inside, ways_inside, changes_inside, all_fenced_inside, raises_inside}
+use Rattle.slate_state_complete.proofs.Refusals.{decodes_inside, encodes_inside, rules_inside, ways_inside, changes_inside, fences_inside, all_fenced_inside, raises_inside}
 use Rattle.slate_state_complete.proofs.insides.manifests_inside.Goals as goal
 
 pub returns-clause-decodes : goal.returns-clause-decodes
@@ -21,3 +21,6 @@ returns-clause-raises c = raises_inside
 
 pub returns-clause-ways : goal.returns-clause-ways
 returns-clause-ways c = ways_inside
+
+pub returns-clause-fences : goal.returns-clause-fences
+returns-clause-fences c = fences_inside
