@@ -34,13 +34,9 @@ use Rattle.slate_complete.proofs.LatestReads.{read_ends}
 use Rattle.slate_state.specs.Holding.{manifest_rules, CreatesDb, FencedManifest, FencesDb, LoadsDb, LogOf, ManifestHolder, TryLoadsDb}
 use Rattle.slate_state.specs.Manifests.{manifest_decoded, manifest_encoded}
 use Rattle.slate_state_complete.specs.ChangeWays.{raise_ways}
-use Rattle.slate_state_complete.specs.Databases.{IsFirstTaken}
+use Rattle.slate_state_complete.specs.Taken.{IsFirstTaken}
 use Rattle.slate_state_complete.proofs.Commits.{commit_inside}
-use Rattle.slate_state_complete.proofs.Refusals.{decodes_inside, encodes_inside, raises_inside}
-
--- a refusal that isn't from outside isn't one
-not_both : {X : Type 0} (r : Result X SlateDBError) (e : SlateDBError) → NotOutside r → r ≡ Err e → is_outside e ≡ true → ⊥
-not_both r e inside same outside = let told = inside e same in (let both : true ≡ false = sym outside ∙ told in absurd cc)
+use Rattle.slate_state_complete.proofs.Refusals.{decodes_inside, encodes_inside, not_both, raises_inside}
 
 -- ---- the log of a database
 

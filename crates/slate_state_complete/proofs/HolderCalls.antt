@@ -21,6 +21,7 @@ use Rattle.slate_complete.specs.Reading.{ReadAnswers}
 use Rattle.slate_complete.specs.Ready.{top_of, IsReady, LeavesReady}
 use Rattle.slate_complete.specs.Serving.{Serves}
 use Rattle.slate_complete.specs.Updating.{UpdateAnswers}
+use Rattle.slate_complete.specs.Updating.UpdateAnswers.{IsUpdated, IsOther as OtherMade, IsBehind as HeldBehind, ByNumber, ByRules, ByCodec, NoBoundary}
 use Rattle.slate_complete.proofs.HolderReads.{refresh_ends}
 use Rattle.slate_complete.proofs.Inside.{out_inside, read_inside, same_error, update_inside}
 use Rattle.slate_complete.proofs.UpdateWalks.{update_ends}
@@ -28,7 +29,9 @@ use Rattle.slate_state.specs.Holding.{manifest_rules, FencedManifest, ManifestHo
 use Rattle.slate_state.specs.Manifests.{manifest_decoded, manifest_encoded}
 use Rattle.slate_state_complete.specs.FencedUpdates.{FencedUpdateAnswers}
 use Rattle.slate_state_complete.specs.FencedUpdates.FencedUpdateAnswers.{IsFenced, IsUnfenced}
-use Rattle.slate_state_complete.proofs.Refusals.{decodes_inside, encodes_inside, rules_inside}
+use Rattle.slate_state_complete.specs.Taken.{IsNextTaken}
+use Rattle.slate_state_complete.specs.Taken.IsNextTaken.{IsOther, IsBehind}
+use Rattle.slate_state_complete.proofs.Refusals.{decodes_inside, encodes_inside, not_both, rules_inside}
 
 fence_told : (b : Bool) (own read : ℕ) (e : SlateDBError) → (if b then Some (Fenced own read) else None) ≡ Some e → is_outside e ≡ false
 fence_told true own read e same = let is : Fenced own read ≡ e = cc in subst (λ (e : SlateDBError). is_outside e ≡ false) is refl
@@ -43,6 +46,20 @@ module _ (moment : ℤ) (old new : Told) (s : Store) (holder : ManifestHolder) (
   pub update_stays : (UpdateAnswers manifest_rules manifest_encoded s new holder dirty right result × LeavesReady holder.sequenced.db holder.sequenced.log new) ⊎ (ran_out result ≡ true)
       → top_of holder.sequenced.db holder.sequenced.log s ≡ Some holder.id → dirty.id ≡ holder.id → NotOutside result
   update_stays ended latest own = update_inside manifest_rules manifest_encoded s new holder dirty right result latest own encodes_inside rules_inside ended
+
+  taken_by : UpdateAnswers manifest_rules manifest_encoded s new holder dirty right result → (e : SlateDBError) → result ≡ Err e → is_outside e ≡ true → IsNextTaken s holder dirty e
+  taken_by (IsUpdated bytes t number allowed at told stands is) e same outside = absurd cc
+  taken_by (OtherMade other is) e same outside = IsOther other cc
+  taken_by (HeldBehind top boundary at lt is) e same outside = IsBehind top boundary at lt cc
+  taken_by (ByNumber last is) e same outside = absurd (not_both result e (λ b other. same_error result _ b is other refl) same outside)
+  taken_by (ByRules a at is) e same outside = absurd (not_both result e (λ b other. same_error result a b is other (rules_inside holder.rules holder.id holder.object dirty.value right a at)) same outside)
+  taken_by (ByCodec a at is) e same outside = absurd (not_both result e (λ b other. same_error result a b is other (encodes_inside holder.sequenced.codec dirty.value a at)) same outside)
+  taken_by (NoBoundary none is) e same outside = absurd (not_both result e (λ b other. same_error result _ b is other refl) same outside)
+
+  pub update_taken : (UpdateAnswers manifest_rules manifest_encoded s new holder dirty right result × LeavesReady holder.sequenced.db holder.sequenced.log new) ⊎ (ran_out result ≡ true)
+      → (e : SlateDBError) → result ≡ Err e → is_outside e ≡ true → IsNextTaken s holder dirty e
+  update_taken (inl ended) e same outside = taken_by ended.0 e same outside
+  update_taken (inr out) e same outside = absurd (not_both result e (out_inside result out) same outside)
 
 module _ (moment : ℤ) (old new : Told) (s : Store) (fenced : FencedManifest) (dirty : DirtyObject Manifest) (right : Right) (result : Result (Unit {0}) SlateDBError)
     (ran : UnlessFenced (held_fence epoch_of fenced) old new result (Updates manifest_rules manifest_encoded moment old new fenced.holder dirty right result))
@@ -74,6 +91,18 @@ module _ (moment : ℤ) (old new : Told) (s : Store) (fenced : FencedManifest) (
 
     pub fenced_stays : NotOutside result
     fenced_stays = by_ends fenced_update
+
+  module _ (e : SlateDBError) (same : result ≡ Err e) (outside : is_outside e ≡ true) where
+    taken_answer : FencedUpdateAnswers s new fenced dirty right result × LeavesReady fenced.holder.sequenced.db fenced.holder.sequenced.log new → IsNextTaken s fenced.holder dirty e
+    taken_answer (IsFenced a at contents is, left) = absurd (not_both result e (λ b other. same_error result a b is other (held_inside fenced a at)) same outside)
+    taken_answer (IsUnfenced none answers, left) = update_taken moment old new s fenced.holder dirty right result (inl (answers, left)) e same outside
+
+    taken_ends : Answers → IsNextTaken s fenced.holder dirty e
+    taken_ends (inl ended) = taken_answer ended
+    taken_ends (inr out) = absurd (not_both result e (out_inside result out) same outside)
+
+    pub fenced_taken : IsNextTaken s fenced.holder dirty e
+    fenced_taken = taken_ends fenced_update
 
 -- ---- refreshes
 

@@ -1,6 +1,6 @@
 -- Neither the codec of manifests, nor the rules, nor a change that is handed in refuses as others or the store do.
 use Rattle.std.specs.Prelude.{◌≡◌, ◌+◌, ◌==◌, nat_lt, ℕ, ℤ, Bool, true, false, List, Option, Some, None, Result, Ok, Err, if◌then◌else◌, refl}
-use Rattle.std.proofs.Common.{subst}
+use Rattle.std.proofs.Common.{◌∙◌, subst, sym}
 use Rattle.slate_encodable.specs.Unencodable.{early_field}
 use Rattle.slate_ids.specs.Limits.{last_number}
 use Rattle.slate_ids.specs.declared.error.SlateDBError.{SlateDBError}
@@ -50,6 +50,10 @@ Inside (Err e) = is_outside e ≡ false
 told : {X : Type 0} (r : Result X SlateDBError) → Inside r → NotOutside r
 told (Ok x) h e same = absurd cc
 told (Err a) h e same = let is : a ≡ e = cc in subst (λ (e : SlateDBError). is_outside e ≡ false) is h
+
+-- a refusal that isn't from outside isn't one
+pub not_both : {X : Type 0} (r : Result X SlateDBError) (e : SlateDBError) → NotOutside r → r ≡ Err e → is_outside e ≡ true → ⊥
+not_both r e inside same outside = let told = inside e same in (let both : true ≡ false = sym outside ∙ told in absurd cc)
 
 either : {X : Type 0} (b : Bool) (x y : Result X SlateDBError) → Inside x → Inside y → Inside (if b then x else y)
 either true x y one other = one

@@ -2,5 +2,5 @@ pub mod CheckedDeleting
 pub mod ReadingNamed
 pub mod ChangeWays
 pub mod Checkpointing
-pub mod Databases
+pub mod Taken
 pub mod FencedUpdates

@@ -14,7 +14,7 @@ ghost use Rattle.slate_complete.specs.Ready.{top_of, IsReady, LeavesReady};
 ghost use Rattle.slate_complete.specs.Serving.{Serves};
 ghost use Rattle.slate_state.specs.Holding.{CreatesDb, LogOf, ManifestHolder};
 ghost use Rattle.slate_state.specs.Manifests.{manifest_encoded};
-ghost use Rattle.slate_state_complete.specs.Databases.{IsFirstTaken};
+ghost use Rattle.slate_state_complete.specs.Taken.{IsFirstTaken};
 
 /// Over a store that serves it, the first manifest of a database whose log is ready stands as version 1, or is refused since the log has
 /// a version, by the codec, or since the boundary is not a number. The log stays ready. Or memory ran out. The one refusal from outside is
