@@ -1,17 +1,17 @@
-mod Turns
+pub mod Turns
 mod Entries
-mod Tops
-mod LatestReads
+pub mod Tops
+pub mod LatestReads
 mod Places
 mod CommitWalks
 mod Renewals
-mod ApplyWalks
-mod UpdateWalks
+pub mod ApplyWalks
+pub mod UpdateWalks
 mod Asides
 mod OtherCalls
-mod Leavings
+pub mod Leavings
 mod BoundaryWalks
-mod HolderReads
-mod Inside
-mod OneCalls
-mod FirstVersions
+pub mod HolderReads
+pub mod Inside
+pub mod OneCalls
+pub mod FirstVersions

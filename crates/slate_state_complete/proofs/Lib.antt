@@ -1,0 +1,8 @@
+mod CheckedWalks
+mod NamedLists
+mod ReferencedWalks
+mod Refusals
+mod Commits
+mod DbCalls
+mod ManifestReadings
+mod HolderCalls
