@@ -41,7 +41,7 @@ impl Model for FenceableManifest {
 }
 
 // The holder around another.
-fn hold(
+pub(crate) fn hold(
     reply: Result<Fenced<Manifest, ManifestCodec, ManifestRules, ManifestEpochs>, SlateDBError>,
 ) -> Result<FenceableManifest, SlateDBError>
     ensures { result ≡ reply }
