@@ -15,7 +15,7 @@ ghost use Rattle.slate_txn.specs.Changing.{Computes, Making, May};
 ghost use Rattle.slate_txn.specs.FencedApplying.{FencedMay};
 ghost use Rattle.slate_txn.specs.FencedRefreshing.{fenced_refresh_goes};
 ghost use Rattle.slate_txn.specs.FencedUpdating.{FencedUpdateSteps};
-ghost use Rattle.slate_txn.specs.Fencing.{held_fence, NotFencedStep};
+ghost use Rattle.slate_txn.specs.Fencing.{held_fence, FencedStep, NotFencedStep};
 ghost use Rattle.slate_txn.specs.Initing.{init_due, init_open, InitKeeps, InitSteps};
 ghost use Rattle.slate_txn.specs.Refreshing.{refresh_asks};
 ghost use Rattle.slate_txn.specs.Updating.{maybe_of, started, update_due, update_of, update_open};
@@ -191,6 +191,7 @@ impl FencedRefreshManifestMachine {
         ensures due { StillDue result (read_due self.new.refresh) }
         ensures epoch { holder.new.epoch ≡ holder.old.epoch }
         ensures fault { FaultRose (S.told store.old) (S.told store.new) result }
+        ensures fenced { FencedStep (held_fence epoch_of holder.new) result }
     {
         self.refresh.next(alloc, &mut holder.fenced, store, moment)
     }
