@@ -7,6 +7,7 @@ mod fenceable_checkpoints;
 mod fenceable_machines;
 mod fenceable_manifest;
 mod foreseen;
+mod laws;
 mod stored_call_machines;
 mod stored_checkpoints;
 mod stored_machines;
@@ -17,6 +18,7 @@ pub use fenceable_call_machines::{
 };
 pub use fenceable_machines::{FencedCheckpointMachine, FencedDeleteCheckpointMachine};
 pub use fenceable_manifest::FenceableManifest;
+pub use laws::{checkpoint_stands_in_new, checkpoint_stands_in_old};
 pub use slate_manifest_store::{
     AdvanceBoundaryMachine, DeleteManifestMachine, DeleteUncheckedMachine, LatestManifestMachine,
     ListManifestsMachine, ManifestMap, ManifestNames, ManifestStore, NumberQueue,
