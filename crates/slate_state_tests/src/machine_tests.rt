@@ -1,6 +1,6 @@
 //! The machines of the holders' calls: their steps, and what they answer.
 
-use crate::test_states::{again, code, created, db, empty, from_source, id, latest, loaded};
+use crate::test_states::{again, code, created, db, empty, latest, loaded};
 use slate_ids::SlateDBError;
 use slate_log::Right;
 use slate_model::{Manifest, ManifestCore};
@@ -17,6 +17,14 @@ fn held(reply: Result<StoredManifest, SlateDBError>) -> u64 {
     match reply {
         Ok(holder) => holder.id(),
         Err(e) => 100 + u64::from(e.code()),
+    }
+}
+
+/// The number of the refusal at the end, or 0; 99 where it isn't the end.
+fn ended(step: Step<()>) -> u8 {
+    match step {
+        Step::Again => 99,
+        Step::Done(reply) => code(reply),
     }
 }
 
@@ -187,10 +195,11 @@ fn a_machine_updates(rt: HostRuntime) {
         .expect(&rt, "memory");
     assert!(rt; updates(alloc, &mut store, &mut holder, first) == (2, 0));
     assert!(rt; holder.id() == 2 && latest(&rt, alloc, &mut store) == 2);
-    let refused = holder
+    let mut refused = holder
         .start_update(alloc, stale, &Right::Plain)
         .expect(&rt, "memory");
-    assert!(rt; updates(alloc, &mut store, &mut holder, refused) == (0, 99));
+    assert!(rt; !refused.due());
+    assert!(rt; ended(refused.next(alloc, &mut holder, &mut store, 5)) == 1);
 }
 
 #[test]
@@ -199,10 +208,11 @@ fn a_machine_commits_what_is_made(rt: HostRuntime) {
     let mut store = empty(alloc);
     let mut holder = created(&rt, alloc, &mut store);
     let nothing = |_n: u64, _m: &Manifest| Ok(None);
-    let none = holder
+    let mut none = holder
         .start_maybe_apply_update(alloc, nothing, &Right::Plain)
         .expect(&rt, "memory");
-    assert!(rt; updates(alloc, &mut store, &mut holder, none) == (0, 99));
+    assert!(rt; !none.due());
+    assert!(rt; ended(none.next(alloc, &mut holder, &mut store, 5)) == 0);
     let first = |_n: u64, _m: &Manifest| {
         Ok(Some(Manifest::initial(alloc, ManifestCore::new(alloc))))
     };
