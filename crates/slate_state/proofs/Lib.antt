@@ -1,2 +1,3 @@
 mod ChangeFaults
 mod NotBegun
+mod CheckpointsStand

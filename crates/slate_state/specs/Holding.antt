@@ -16,11 +16,13 @@ use Rattle.slate_model.specs.declared.manifest_core.ManifestCore.{ManifestCore}
 use Rattle.slate_model.specs.declared.manifest.Manifest.{Manifest}
 use Rattle.slate_store.specs.Calls.{Told}
 use Rattle.slate_txn.specs.Apply.{Applies, Ways, ways_of}
+use Rattle.slate_txn.specs.ApplyMoves.{MayWays, ways_by}
 use Rattle.slate_txn.specs.Changing.{Making}
 use Rattle.slate_txn.specs.FencedApplying.{fenced_made}
 use Rattle.slate_txn.specs.FencedHolder.{FencedHolder}
 use Rattle.slate_txn.specs.Creating.{Creates}
 use Rattle.slate_txn.specs.Fence.{FencedBy, raising}
+use Rattle.slate_txn.specs.Fencing.{NotFenced}
 use Rattle.slate_txn.specs.Loading.{LoadRan, loaded, try_loaded}
 use Rattle.slate_txn.specs.Holder.{Holder}
 use Rattle.slate_updates.specs.Changes.{made, right_of}
@@ -81,6 +83,22 @@ pub record FencedCheckpointed (id : List ℕ) (change : ManifestChange) (moment 
 -- what a function makes is never a fault of the store
 abbrev pub NeverFaults : Making Manifest → Type 0
 NeverFaults changed = (id : ℕ) (m : Manifest) → changed id m ≢ Err StoreFault
+
+-- nor a fence
+abbrev pub NeverFences : Making Manifest → Type 0
+NeverFences changed = (id : ℕ) (m : Manifest) → NotFenced (changed id m)
+
+-- the ways of a holder that commits what a function may answer of a manifest, under a right
+abbrev pub manifest_ways_by : (ℕ → Manifest → Result (Option Manifest) SlateDBError → Type 0) → Right → MayWays Manifest ManifestCodec ManifestRules
+manifest_ways_by may right = ways_by manifest_decoded manifest_encoded manifest_rules may right
+
+-- what a function may answer of a manifest is never a fault of the store
+abbrev pub MayNotFault : (ℕ → Manifest → Result (Option Manifest) SlateDBError → Type 0) → Type 0
+MayNotFault may = (id : ℕ) (m : Manifest) (reply : Result (Option Manifest) SlateDBError) → may id m reply → reply ≢ Err StoreFault
+
+-- nor a fence
+abbrev pub MayNotFence : (ℕ → Manifest → Result (Option Manifest) SlateDBError → Type 0) → Type 0
+MayNotFence may = (id : ℕ) (m : Manifest) (reply : Result (Option Manifest) SlateDBError) → may id m reply → NotFenced reply
 
 -- the log of a database's manifests, with its rules
 pub record LogOf (db : List ℕ) : Type 0 where

@@ -1,2 +1,4 @@
 pub mod Holding
 pub mod CheckpointMachines
+pub mod CallMachines
+pub mod AboutCheckpoints

@@ -1,16 +1,20 @@
 //! A fenced holder of a manifest.
-ghost use Rattle.std.specs.Prelude.{◌≡◌, ◌<◌, ◌⊎◌, Some, Err, true, IfOk, IfErr, IfSome, OnOk, OnErr};
+ghost use Rattle.std.specs.Prelude.{◌≡◌, ◌<◌, ◌+◌, ◌⊎◌, Some, None, Err, true, false, IfOk, IfErr, IfSome, OnOk, OnErr};
 ghost use Rattle.slate_ids.specs.Answers.{is_memory};
 ghost use Rattle.slate_log.specs.Due.{FaultOf};
+ghost use Rattle.slate_log.specs.Fence.{unless};
 ghost use Rattle.slate_model.specs.declared.manifest.Manifest.{Manifest as ManifestType};
-ghost use Rattle.slate_state.specs.Holding.{manifest_rules, manifest_ways, FencedChanged, FencesDb, NeverFaults};
+ghost use Rattle.slate_state.specs.Holding.{manifest_rules, manifest_ways, manifest_ways_by, FencedChanged, FencesDb, MayNotFence, NeverFaults};
 ghost use Rattle.slate_manifest_store.specs.Manifests.{manifest_decoded, manifest_encoded};
 ghost use Rattle.slate_txn.specs.Apply.{Applies};
-ghost use Rattle.slate_txn.specs.Changing.{Computes, Making};
-ghost use Rattle.slate_txn.specs.FencedApplying.{fenced_made};
+ghost use Rattle.slate_txn.specs.ApplyMoves.{AppliesBy};
+ghost use Rattle.slate_txn.specs.Changing.{Computes, Making, May};
+ghost use Rattle.slate_txn.specs.FencedApplying.{fenced_made, FencedMay};
+ghost use Rattle.slate_txn.specs.FencedHolder.{fenced_version};
 ghost use Rattle.slate_txn.specs.FencedRefreshing.{FencedRefreshed};
-ghost use Rattle.slate_txn.specs.Fencing.{held_fence, UnlessFenced};
-ghost use Rattle.slate_txn.specs.Updating.{Updates};
+ghost use Rattle.slate_txn.specs.Fencing.{held_fence, FencedOnly, UnlessFenced};
+ghost use Rattle.slate_txn.specs.Standing.{may_stand, SameContents, UpdateStands};
+ghost use Rattle.slate_txn.specs.Updating.{started, Updates};
 ghost use Rattle.slate_updates.specs.Writers.{epoch_of};
 ghost use Rattle.slate_updates.specs.declared.epochs.ManifestEpochs.TheVariants as kinds;
 
@@ -41,7 +45,7 @@ impl Model for FenceableManifest {
 }
 
 // The holder around another.
-fn hold(
+pub(crate) fn hold(
     reply: Result<Fenced<Manifest, ManifestCodec, ManifestRules, ManifestEpochs>, SlateDBError>,
 ) -> Result<FenceableManifest, SlateDBError>
     ensures { result ≡ reply }
@@ -152,15 +156,18 @@ impl FenceableManifest {
         requires { 0 < tries }
         ensures refresh { FencedRefreshed manifest_decoded epoch_of tries (S.told store.old) (S.told store.new)
             self.old self.new result }
+        ensures ok { OnOk result (held_fence epoch_of self.new ≡ None) }
         ensures epoch { self.new.epoch ≡ self.old.epoch }
         ensures fault { FaultOf (S.told store.old) (S.told store.new) result }
+        ensures fenced { FencedOnly (held_fence epoch_of self.new) result }
     {
         self.fenced.refresh(alloc, store, tries)
     }
 
     /// Commits a dirty manifest, in one try, as the update of a holder without a fence does. Refused with `Fenced` before any call
-    /// where the epoch of the version held is above the own one. After a refusal the holder is unchanged. The own epoch
-    /// stays.
+    /// where the epoch of the version held is above the own one. After Ok the holder holds what was put, and after a refusal it is
+    /// unchanged. So are the store's contents, except that the put may stand where its answer was lost, where the boundary read
+    /// after it was at or above its number, or where the boundary couldn't be read. The own epoch stays.
     pub fn update<S: ObjectStore>(
         &mut self,
         alloc: Global,
@@ -173,9 +180,21 @@ impl FenceableManifest {
             (S.told store.old) (S.told store.new) result
             (Updates manifest_rules manifest_encoded moment (S.told store.old) (S.told store.new)
             self.old.holder dirty right.now result) }
+        ensures held { OnOk result (self.new ≡ fenced_version self.old (self.old.holder.id + 1) dirty.value) }
         ensures kept { OnErr result (self.new ≡ self.old) }
+        ensures before { IfErr (unless (held_fence epoch_of self.old)
+            (started manifest_rules manifest_encoded self.old.holder dirty right.now))
+            (λ e. S.told store.new ≡ S.told store.old) }
+        ensures put { OnOk result (UpdateStands self.old.holder moment (S.told store.old) (S.told store.new)
+            (started manifest_rules manifest_encoded self.old.holder dirty right.now)) }
+        ensures left { IfErr result (λ e. may_stand e ≡ false
+            → SameContents (S.told store.old) (S.told store.new)) }
+        ensures stands { OnErr result (SameContents (S.told store.old) (S.told store.new)
+            ⊎ UpdateStands self.old.holder moment (S.told store.old) (S.told store.new)
+            (started manifest_rules manifest_encoded self.old.holder dirty right.now)) }
         ensures epoch { self.new.epoch ≡ self.old.epoch }
         ensures fault { FaultOf (S.told store.old) (S.told store.new) result }
+        ensures fenced { FencedOnly (held_fence epoch_of self.old) result }
     {
         self.fenced.update(alloc, store, dirty, right, moment)
     }
@@ -200,9 +219,13 @@ impl FenceableManifest {
         ensures apply { (changed : Making ManifestType) → Computes (F.post f) changed
             → Applies (manifest_ways (fenced_made epoch_of self.old.epochs self.old.epoch changed) right.now) moment tries
             (S.told store.old) (S.told store.new) self.old.holder self.new.holder result }
+        ensures moves { AppliesBy (manifest_ways_by
+            (FencedMay epoch_of self.old.epochs self.old.epoch (May (F.post f))) right.now)
+            moment tries (S.told store.old) (S.told store.new) self.old.holder self.new.holder result }
         ensures own { self.new ≡ record self.old { holder = self.new.holder } }
         ensures fault { (changed : Making ManifestType) → Computes (F.post f) changed → NeverFaults changed
             → FaultOf (S.told store.old) (S.told store.new) result }
+        ensures fenced { MayNotFence (May (F.post f)) → FencedOnly (held_fence epoch_of self.new) result }
     {
         self.fenced
             .maybe_apply(alloc, store, f, right, moment, tries)
@@ -220,7 +243,9 @@ impl FenceableManifest {
         requires { 0 < tries }
         ensures change { FencedChanged change.now moment tries (S.told store.old) (S.told store.new)
             self.old self.new result }
+        ensures own { self.new ≡ record self.old { holder = self.new.holder } }
         ensures fault { FaultOf (S.told store.old) (S.told store.new) result }
+        ensures fenced { FencedOnly (held_fence epoch_of self.new) result }
     {
         let f = |n: u64, manifest: &Manifest| make(alloc, change, moment, n, manifest);
         self.fenced

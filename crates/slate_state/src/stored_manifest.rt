@@ -1,17 +1,18 @@
 //! A holder of a manifest.
-ghost use Rattle.std.specs.Prelude.{◌≡◌, ◌<◌, ◌+◌, true, false, IfOk, IfErr, OnOk, OnErr};
+ghost use Rattle.std.specs.Prelude.{◌≡◌, ◌<◌, ◌+◌, ◌⊎◌, true, false, IfOk, IfErr, OnOk, OnErr};
 ghost use Rattle.slate_ids.specs.Answers.{is_memory};
 ghost use Rattle.slate_log.specs.Due.{FaultOf};
 ghost use Rattle.slate_log.specs.declared.log_kind.LogKind.TheVariants as logs;
 ghost use Rattle.slate_model.specs.declared.manifest.Manifest.{Manifest as ManifestType};
-ghost use Rattle.slate_state.specs.Holding.{manifest_rules, manifest_ways, Changed, CreatesDb, LoadsDb, NeverFaults, TryLoadsDb};
+ghost use Rattle.slate_state.specs.Holding.{manifest_rules, manifest_ways, manifest_ways_by, Changed, CreatesDb, LoadsDb, MayNotFault, NeverFaults, TryLoadsDb};
 ghost use Rattle.slate_manifest_store.specs.Manifests.{manifest_decoded, manifest_encoded};
 ghost use Rattle.slate_txn.specs.Apply.{Applies};
-ghost use Rattle.slate_txn.specs.Changing.{Computes, Making};
+ghost use Rattle.slate_txn.specs.ApplyMoves.{AppliesBy};
+ghost use Rattle.slate_txn.specs.Changing.{Computes, Making, May};
 ghost use Rattle.slate_txn.specs.Holder.{at_version};
 ghost use Rattle.slate_txn.specs.Refreshing.{Refreshes};
-ghost use Rattle.slate_txn.specs.Standing.{may_stand, SameContents};
-ghost use Rattle.slate_txn.specs.Updating.{Updates};
+ghost use Rattle.slate_txn.specs.Standing.{may_stand, SameContents, UpdateStands};
+ghost use Rattle.slate_txn.specs.Updating.{started, Updates};
 
 use crate::changes::make;
 use slate_ids::{DbPath, Millis, SlateDBError};
@@ -217,8 +218,15 @@ impl StoredManifest {
             self.old dirty right.now result }
         ensures held { OnOk result (self.new ≡ at_version self.old (self.old.id + 1) dirty.value) }
         ensures kept { OnErr result (self.new ≡ self.old) }
+        ensures before { IfErr (started manifest_rules manifest_encoded self.old dirty right.now)
+            (λ e. S.told store.new ≡ S.told store.old) }
+        ensures put { OnOk result (UpdateStands self.old moment (S.told store.old) (S.told store.new)
+            (started manifest_rules manifest_encoded self.old dirty right.now)) }
         ensures left { IfErr result (λ e. may_stand e ≡ false
             → SameContents (S.told store.old) (S.told store.new)) }
+        ensures stands { OnErr result (SameContents (S.told store.old) (S.told store.new)
+            ⊎ UpdateStands self.old moment (S.told store.old) (S.told store.new)
+            (started manifest_rules manifest_encoded self.old dirty right.now)) }
         ensures fault { FaultOf (S.told store.old) (S.told store.new) result }
     {
         self.stored.update(alloc, store, dirty, right, moment)
@@ -226,7 +234,8 @@ impl StoredManifest {
 
     /// Commits what `f` makes of the number and the manifest held. Where it makes none, nothing is committed, and its refusal is
     /// the answer. After a conflict the latest version is read and held, and what `f` makes of that is committed: so often as
-    /// there are tries, then `Contended`. The holder holds what was put or read last.
+    /// there are tries, then `Contended`. `f` is asked anew of each version that is read, and may answer differently each time. The
+    /// holder holds what was put or read last.
     pub fn maybe_apply_update<
         F: Fn(u64, &Manifest) -> Result<Option<Manifest>, SlateDBError>,
         S: ObjectStore,
@@ -244,6 +253,9 @@ impl StoredManifest {
         ensures apply { (changed : Making ManifestType) → Computes (F.post f) changed
             → Applies (manifest_ways changed right.now) moment tries
             (S.told store.old) (S.told store.new) self.old self.new result }
+        ensures moves { AppliesBy (manifest_ways_by (May (F.post f)) right.now) moment tries
+            (S.told store.old) (S.told store.new) self.old self.new result }
+        ensures never { MayNotFault (May (F.post f)) → FaultOf (S.told store.old) (S.told store.new) result }
         ensures fault { (changed : Making ManifestType) → Computes (F.post f) changed → NeverFaults changed
             → FaultOf (S.told store.old) (S.told store.new) result }
     {

@@ -6,6 +6,8 @@ mod checkpoint_tests;
 #[cfg(test)]
 mod fencing_tests;
 #[cfg(test)]
+mod machine_tests;
+#[cfg(test)]
 mod store_tests;
 #[cfg(test)]
 mod test_states;

@@ -6,7 +6,7 @@ use Rattle.slate_txn.specs.FencedApplying.{fenced_made}
 use Rattle.slate_updates.specs.Changes.{made}
 use Rattle.slate_updates.specs.Writers.{epoch_of}
 use Rattle.slate_state.specs.Holding.{FencedManifest, manifest_ways}
-use Rattle.slate_state.proofs.ChangeFaults.{change_fine, fenced_fine, ways_fine}
+use Rattle.slate_state.proofs.ChangeFaults.{change_fine, change_free, fenced_fine, ways_fine, ways_free}
 use Rattle.slate_state.proofs.fenceable_manifest.FenceableManifest.commit_change.Goals as goal
 
 pub returns-clause-change : goal.returns-clause-change
@@ -25,3 +25,9 @@ returns-clause-fault g c =
     let moment = c.args.moment in
     let inside = c.self.inside.fenced in
     c.maybe_apply.ensures.fault (made change moment) (λ id value reply answers. search (rules, answers)) (ways_fine (fenced_made epoch_of inside.epochs inside.epoch (made change moment)) Plain (fenced_fine inside.epochs inside.epoch (made change moment) (change_fine change moment)))
+
+pub returns-clause-fenced : goal.returns-clause-fenced
+returns-clause-fenced g c =
+    let change = c.args.change.now in
+    let moment = c.args.moment in
+    c.maybe_apply.ensures.fenced (made change moment) (λ id value reply answers. search (rules, answers)) (ways_free (made change moment) Plain (change_free change moment))

@@ -3,7 +3,7 @@ use Rattle.slate_txn.specs.FencedRefreshing.{FencedRefreshed}
 use Rattle.slate_updates.specs.Writers.{epoch_of}
 use Rattle.slate_state.specs.Holding.{FencedManifest}
 use Rattle.slate_manifest_store.specs.Manifests.{manifest_decoded}
-use Rattle.slate_manifest_store.proofs.NoFaults.{decoding_fine}
+use Rattle.slate_manifest_store.proofs.NoFaults.{decoding_fine, decoding_free}
 use Rattle.slate_state.proofs.fenceable_manifest.FenceableManifest.refresh.Goals as goal
 
 pub returns-clause-refresh : goal.returns-clause-refresh
@@ -13,3 +13,6 @@ returns-clause-refresh g c =
 
 pub returns-clause-fault : goal.returns-clause-fault
 returns-clause-fault g c = c.refresh.ensures.fault decoding_fine
+
+pub returns-clause-fenced : goal.returns-clause-fenced
+returns-clause-fenced g c = c.refresh.ensures.fenced decoding_free

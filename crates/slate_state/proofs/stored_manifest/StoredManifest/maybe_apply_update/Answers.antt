@@ -2,7 +2,7 @@ use Rattle.std.proofs.Common.{subst, w64}
 use Rattle.std.proofs.lemmas.Int.{to_z-of_z}
 use Rattle.slate_txn.specs.Apply.{Applies}
 use Rattle.slate_state.specs.Holding.{ManifestHolder, manifest_ways}
-use Rattle.slate_state.proofs.ChangeFaults.{ways_fine}
+use Rattle.slate_state.proofs.ChangeFaults.{any_fine, ways_fine}
 use Rattle.slate_state.proofs.stored_manifest.StoredManifest.maybe_apply_update.Goals as goal
 
 pub returns-clause-apply : goal.returns-clause-apply
@@ -14,3 +14,9 @@ returns-clause-apply g c = λ changed computes.
 
 pub returns-clause-fault : goal.returns-clause-fault
 returns-clause-fault g c = λ changed computes fine. c.maybe_apply.ensures.fault changed computes (ways_fine changed c.args.right.now fine)
+
+pub returns-clause-moves : goal.returns-clause-moves
+returns-clause-moves g c = rw c.self.view_is at (rw (to_z-of_z w64 c.args.moment c.ranges.moment) at c.maybe_apply.ensures.moves)
+
+pub returns-clause-never : goal.returns-clause-never
+returns-clause-never g c = λ fine. c.maybe_apply.ensures.never (any_fine _ c.args.right.now fine)
