@@ -1,3 +1,4 @@
 pub mod NoFaults
 mod ReferencedFaults
 mod Replies
+mod NamedOnce

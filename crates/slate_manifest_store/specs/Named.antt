@@ -1,11 +1,20 @@
 -- The versions that a manifest's checkpoints name.
-use Rattle.std.specs.Prelude.{◌||◌, ◌==◌, ℕ, List, [], ◌∷◌, ◌++◌, if◌then◌else◌}
+use Rattle.std.specs.Prelude.{◌||◌, ◌&&◌, ◌==◌, ℕ, Bool, true, not, List, [], ◌∷◌, ◌++◌, if◌then◌else◌}
 use Rattle.std.specs.List.{list_any}
 use Rattle.slate_model.specs.declared.checkpoint.Checkpoint.{Checkpoint}
 
+-- whether a number is among others
+abbrev pub has_number : ℕ → List ℕ → Bool
+has_number n kept = list_any (λ k. k == n) kept
+
+-- whether each number is there once
+abbrev pub each_once : List ℕ → Bool
+each_once [] = true
+each_once (n ∷ ns) = not (has_number n ns) && each_once ns
+
 -- with a number that is named, unless it is the own one or is there
 abbrev pub with_name : ℕ → List ℕ → ℕ → List ℕ
-with_name own kept n = if (n == own) || list_any (λ k. k == n) kept then kept else kept ++ n ∷ []
+with_name own kept n = if (n == own) || has_number n kept then kept else kept ++ n ∷ []
 
 -- with those that checkpoints name
 abbrev pub named_from : ℕ → List ℕ → List Checkpoint → List ℕ

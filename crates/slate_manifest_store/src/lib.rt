@@ -1,6 +1,7 @@
 //! The log of a database's manifests, as a store of versions.
 #![tactic(auto)]
 
+mod laws;
 mod manifest_machines;
 mod manifest_map;
 mod manifest_names;
@@ -8,6 +9,7 @@ mod manifest_store;
 mod number_queue;
 mod referenced_phase;
 
+pub use laws::{named_numbers_are_named, named_numbers_come_once};
 pub use manifest_machines::{
     AdvanceBoundaryMachine, DeleteManifestMachine, DeleteUncheckedMachine, LatestManifestMachine,
     ListManifestsMachine, ReadManifestMachine, ReferencedManifestsMachine,

@@ -1,3 +1,4 @@
 mod ChangeFaults
 mod NotBegun
 mod CheckpointsStand
+mod AnswersFence

@@ -2,6 +2,8 @@
 ghost use Rattle.std.specs.Prelude.{◌≡◌, ◌<◌, Some};
 ghost use Rattle.slate_log.specs.Due.{FaultOf};
 ghost use Rattle.slate_state.specs.Holding.{FencedCheckpointed, FencedChanged};
+ghost use Rattle.slate_txn.specs.Fencing.{held_fence, FencedOnly};
+ghost use Rattle.slate_updates.specs.Writers.{epoch_of};
 ghost use Rattle.slate_updates.specs.declared.manifest_change.ManifestChange.TheVariants.{WriteCheckpoint, ReplaceCheckpoint, RefreshCheckpoint, DeleteCheckpoint};
 
 use crate::changes::{answer_of, copy_options};
@@ -14,6 +16,7 @@ use std::alloc::Global;
 
 impl FenceableManifest {
     // Commits a change at a moment, and answers the checkpoint of this id that stands then.
+    #[tactic(auto, using(crate::proofs::AnswersFence::answered_fence))]
     fn checkpointed<S: ObjectStore>(
         &mut self,
         alloc: Global,
@@ -26,7 +29,9 @@ impl FenceableManifest {
         requires { 0 < tries }
         ensures answer { FencedCheckpointed id.now change.now moment tries (S.told store.old) (S.told store.new)
             self.old self.new result }
+        ensures own { self.new ≡ record self.old { holder = self.new.holder } }
         ensures fault { FaultOf (S.told store.old) (S.told store.new) result }
+        ensures fenced { FencedOnly (held_fence epoch_of self.new) result }
     {
         let reply = self.commit_change(alloc, store, change, moment, tries);
         answer_of(alloc, id, self.held(), reply)
@@ -37,8 +42,9 @@ impl FenceableManifest {
     /// commit makes, and is refused with `InvalidDBState` where the manifest isn't initialised; with one it names the source's
     /// version, and is refused with `CheckpointMissing` of the source where that isn't there. It expires its lifetime after
     /// `moment`, both in milliseconds. After a conflict the latest version is read and held, and the checkpoint is added to
-    /// that: so often as there are tries, then `Contended`. A version whose epoch of the own kind is above the own one refuses with `Fenced`, and nothing is committed. The holder holds what was put or read last. Where memory runs out for the answer's copy alone, the
-    /// checkpoint stands.
+    /// that: so often as there are tries, then `Contended`. A version whose epoch of the own kind is above the own one refuses with
+    /// `Fenced`, and nothing is committed. The holder holds what was put or read last, and the own epoch stays. Where memory runs
+    /// out for the answer's copy alone, the checkpoint stands.
     pub fn write_checkpoint<S: ObjectStore>(
         &mut self,
         alloc: Global,
@@ -51,7 +57,9 @@ impl FenceableManifest {
         requires { 0 < tries }
         ensures answer { FencedCheckpointed id (WriteCheckpoint id options.now) moment tries
             (S.told store.old) (S.told store.new) self.old self.new result }
+        ensures own { self.new ≡ record self.old { holder = self.new.holder } }
         ensures fault { FaultOf (S.told store.old) (S.told store.new) result }
+        ensures fenced { FencedOnly (held_fence epoch_of self.new) result }
     {
         let options = copy_options(alloc, options)?;
         let change = ManifestChange::WriteCheckpoint { id, options };
@@ -73,7 +81,9 @@ impl FenceableManifest {
         requires { 0 < tries }
         ensures answer { FencedCheckpointed new (ReplaceCheckpoint old new options.now) moment tries
             (S.told store.old) (S.told store.new) self.old self.new result }
+        ensures own { self.new ≡ record self.old { holder = self.new.holder } }
         ensures fault { FaultOf (S.told store.old) (S.told store.new) result }
+        ensures fenced { FencedOnly (held_fence epoch_of self.new) result }
     {
         let options = copy_options(alloc, options)?;
         let change = ManifestChange::ReplaceCheckpoint {
@@ -98,7 +108,9 @@ impl FenceableManifest {
         requires { 0 < tries }
         ensures answer { FencedCheckpointed id (RefreshCheckpoint id (Some lifetime)) moment tries
             (S.told store.old) (S.told store.new) self.old self.new result }
+        ensures own { self.new ≡ record self.old { holder = self.new.holder } }
         ensures fault { FaultOf (S.told store.old) (S.told store.new) result }
+        ensures fenced { FencedOnly (held_fence epoch_of self.new) result }
     {
         let change = ManifestChange::RefreshCheckpoint {
             id,
@@ -120,7 +132,9 @@ impl FenceableManifest {
         requires { 0 < tries }
         ensures deleted { FencedChanged (DeleteCheckpoint id) moment tries
             (S.told store.old) (S.told store.new) self.old self.new result }
+        ensures own { self.new ≡ record self.old { holder = self.new.holder } }
         ensures fault { FaultOf (S.told store.old) (S.told store.new) result }
+        ensures fenced { FencedOnly (held_fence epoch_of self.new) result }
     {
         let change = ManifestChange::DeleteCheckpoint { id };
         self.commit_change(alloc, store, &change, moment, tries)
