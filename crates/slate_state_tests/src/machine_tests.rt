@@ -5,8 +5,9 @@ use slate_ids::SlateDBError;
 use slate_log::Right;
 use slate_model::{Manifest, ManifestCore};
 use slate_state::{
-    FenceableManifest, FencedRefreshManifestMachine, InitManifestMachine, RefreshManifestMachine,
-    StoredManifest, UpdateManifestMachine,
+    CreateDbMachine, FenceableManifest, FencedRefreshManifestMachine, InitManifestMachine,
+    LoadManifestMachine, RefreshManifestMachine, StoredManifest, TryLoadManifestMachine,
+    UpdateManifestMachine,
 };
 use slate_store::{MemoryStore, Step};
 use std::alloc::Global;
@@ -28,147 +29,152 @@ fn ended(step: Step<()>) -> u8 {
     }
 }
 
-/// Creates the database by the machine: its steps, and what is held then.
-fn creates(rt: &impl Abort, alloc: Global, store: &mut MemoryStore) -> (u64, u64) {
-    let core = ManifestCore::new(alloc);
-    let mut machine = StoredManifest::start_create_new_db(alloc, db(rt), core).expect(rt, "memory");
-    let mut count = 0u64;
-    while machine.due() {
-        count = count.wrapping_add(1);
-        match machine.next(alloc, store, 5) {
-            Step::Again => {}
-            Step::Done(reply) => return (count, held(reply)),
-        }
+/// A step of a creation: 0 where it goes on, else what is held, or 100 and the number of the refusal.
+fn create(
+    rt: &impl Abort,
+    alloc: Global,
+    store: &mut MemoryStore,
+    machine: &mut CreateDbMachine,
+) -> u64 {
+    assert!(rt; machine.due());
+    match machine.next(alloc, store, 5) {
+        Step::Again => 0,
+        Step::Done(reply) => held(reply),
     }
-    (count, 0)
 }
 
-/// Loads the latest manifest by the machine: its steps, and what is held then.
-fn loads(rt: &impl Abort, alloc: Global, store: &mut MemoryStore) -> (u64, u64) {
-    let mut machine = StoredManifest::start_load(db(rt));
-    let mut count = 0u64;
-    while machine.due() {
-        count = count.wrapping_add(1);
-        match machine.next(alloc, store, 5) {
-            Step::Again => {}
-            Step::Done(reply) => return (count, held(reply)),
-        }
+/// The same of a load.
+fn load(
+    rt: &impl Abort,
+    alloc: Global,
+    store: &mut MemoryStore,
+    machine: &mut LoadManifestMachine,
+) -> u64 {
+    assert!(rt; machine.due());
+    match machine.next(alloc, store, 5) {
+        Step::Again => 0,
+        Step::Done(reply) => held(reply),
     }
-    (count, 0)
 }
 
-/// Loads the latest manifest by the machine, where there is one: its steps, and what is held then, or 0.
-fn tries(rt: &impl Abort, alloc: Global, store: &mut MemoryStore) -> (u64, u64) {
-    let mut machine = StoredManifest::start_try_load(db(rt));
-    let mut count = 0u64;
-    while machine.due() {
-        count = count.wrapping_add(1);
-        match machine.next(alloc, store, 5) {
-            Step::Again => {}
-            Step::Done(reply) => match reply.expect(rt, "memory") {
-                Some(holder) => return (count, holder.id()),
-                None => return (count, 0),
-            },
-        }
+/// The same of a load where there is a version; 1000 where there is none.
+fn try_load(
+    rt: &impl Abort,
+    alloc: Global,
+    store: &mut MemoryStore,
+    machine: &mut TryLoadManifestMachine,
+) -> u64 {
+    assert!(rt; machine.due());
+    match machine.next(alloc, store, 5) {
+        Step::Again => 0,
+        Step::Done(reply) => match reply.expect(rt, "memory") {
+            Some(holder) => holder.id(),
+            None => 1000,
+        },
     }
-    (count, 9)
 }
 
-/// Ends the machine: its steps, and the number of its refusal.
-fn refreshes(
+/// A step of a refresh: the number of the refusal at the end, or 0; 99 where it isn't the end.
+fn refresh(
+    rt: &impl Abort,
     alloc: Global,
     store: &mut MemoryStore,
     holder: &mut StoredManifest,
-    machine: RefreshManifestMachine,
-) -> (u64, u8) {
-    let mut machine = machine;
-    let mut count = 0u64;
-    while machine.due() {
-        count = count.wrapping_add(1);
-        match machine.next(alloc, holder, store, 5) {
-            Step::Again => {}
-            Step::Done(reply) => return (count, code(reply)),
-        }
-    }
-    (count, 99)
+    machine: &mut RefreshManifestMachine,
+) -> u8 {
+    assert!(rt; machine.due());
+    ended(machine.next(alloc, holder, store, 5))
 }
 
 /// The same of an update.
-fn updates(
+fn update(
+    rt: &impl Abort,
     alloc: Global,
     store: &mut MemoryStore,
     holder: &mut StoredManifest,
-    machine: UpdateManifestMachine,
-) -> (u64, u8) {
-    let mut machine = machine;
-    let mut count = 0u64;
-    while machine.due() {
-        count = count.wrapping_add(1);
-        match machine.next(alloc, holder, store, 5) {
-            Step::Again => {}
-            Step::Done(reply) => return (count, code(reply)),
-        }
-    }
-    (count, 99)
+    machine: &mut UpdateManifestMachine,
+) -> u8 {
+    assert!(rt; machine.due());
+    ended(machine.next(alloc, holder, store, 5))
 }
 
 /// The same of a refresh of a fenced holder.
-fn refreshes_fenced(
+fn refresh_fenced(
+    rt: &impl Abort,
     alloc: Global,
     store: &mut MemoryStore,
     holder: &mut FenceableManifest,
-    machine: FencedRefreshManifestMachine,
-) -> (u64, u8) {
-    let mut machine = machine;
-    let mut count = 0u64;
-    while machine.due() {
-        count = count.wrapping_add(1);
-        match machine.next(alloc, holder, store, 5) {
-            Step::Again => {}
-            Step::Done(reply) => return (count, code(reply)),
-        }
-    }
-    (count, 99)
+    machine: &mut FencedRefreshManifestMachine,
+) -> u8 {
+    assert!(rt; machine.due());
+    ended(machine.next(alloc, holder, store, 5))
 }
 
-/// The fenced holder that the machine makes, after so many steps.
+/// A step of a fence: the fenced holder at its end.
+fn init(
+    rt: &impl Abort,
+    alloc: Global,
+    store: &mut MemoryStore,
+    machine: &mut InitManifestMachine,
+) -> Option<FenceableManifest> {
+    assert!(rt; machine.due());
+    match machine.next(alloc, store, 7) {
+        Step::Again => None,
+        Step::Done(reply) => Some(reply.expect(rt, "memory")),
+    }
+}
+
+/// The fenced holder that a machine of two steps makes.
 fn fenced(
     rt: &impl Abort,
     alloc: Global,
     store: &mut MemoryStore,
     machine: InitManifestMachine,
-) -> Option<(u64, FenceableManifest)> {
+) -> FenceableManifest {
     let mut machine = machine;
-    let mut count = 0u64;
-    while machine.due() {
-        count = count.wrapping_add(1);
-        match machine.next(alloc, store, 7) {
-            Step::Again => {}
-            Step::Done(reply) => return Some((count, reply.expect(rt, "memory"))),
-        }
-    }
-    None
+    assert!(rt; init(rt, alloc, store, &mut machine).is_none());
+    init(rt, alloc, store, &mut machine).expect(rt, "two steps")
 }
 
 #[test]
 fn a_machine_creates_once(rt: HostRuntime) {
     let alloc = rt.alloc();
     let mut store = empty(alloc);
-    assert!(rt; creates(&rt, alloc, &mut store) == (2, 1));
-    assert!(rt; creates(&rt, alloc, &mut store) == (1, 101));
+    let core = ManifestCore::new(alloc);
+    let mut first = StoredManifest::start_create_new_db(alloc, db(&rt), core).expect(&rt, "memory");
+    assert!(rt; create(&rt, alloc, &mut store, &mut first) == 0);
+    assert!(rt; create(&rt, alloc, &mut store, &mut first) == 1);
+    let core = ManifestCore::new(alloc);
+    let mut other = StoredManifest::start_create_new_db(alloc, db(&rt), core).expect(&rt, "memory");
+    assert!(rt; create(&rt, alloc, &mut store, &mut other) == 101);
     assert!(rt; latest(&rt, alloc, &mut store) == 1);
 }
 
 #[test]
-fn machines_load(rt: HostRuntime) {
+fn a_machine_loads_what_is_there(rt: HostRuntime) {
     let alloc = rt.alloc();
     let mut store = empty(alloc);
-    assert!(rt; tries(&rt, alloc, &mut store) == (1, 0));
-    assert!(rt; loads(&rt, alloc, &mut store) == (1, 103));
+    let mut early = StoredManifest::start_load(db(&rt));
+    assert!(rt; load(&rt, alloc, &mut store, &mut early) == 103);
     let mut holder = created(&rt, alloc, &mut store);
     again(&rt, alloc, &mut store, &mut holder);
-    assert!(rt; tries(&rt, alloc, &mut store) == (3, 2));
-    assert!(rt; loads(&rt, alloc, &mut store) == (3, 2));
+    let mut machine = StoredManifest::start_load(db(&rt));
+    assert!(rt; load(&rt, alloc, &mut store, &mut machine) == 0);
+    assert!(rt; load(&rt, alloc, &mut store, &mut machine) == 0);
+    assert!(rt; load(&rt, alloc, &mut store, &mut machine) == 2);
+}
+
+#[test]
+fn a_machine_tries_to_load(rt: HostRuntime) {
+    let alloc = rt.alloc();
+    let mut store = empty(alloc);
+    let mut early = StoredManifest::start_try_load(db(&rt));
+    assert!(rt; try_load(&rt, alloc, &mut store, &mut early) == 1000);
+    let _ = created(&rt, alloc, &mut store);
+    let mut machine = StoredManifest::start_try_load(db(&rt));
+    assert!(rt; try_load(&rt, alloc, &mut store, &mut machine) == 0);
+    assert!(rt; try_load(&rt, alloc, &mut store, &mut machine) == 0);
+    assert!(rt; try_load(&rt, alloc, &mut store, &mut machine) == 1);
 }
 
 #[test]
@@ -178,8 +184,10 @@ fn a_machine_refreshes(rt: HostRuntime) {
     let mut stale = created(&rt, alloc, &mut store);
     let mut other = loaded(&rt, alloc, &mut store);
     again(&rt, alloc, &mut store, &mut other);
-    let machine = stale.start_refresh();
-    assert!(rt; refreshes(alloc, &mut store, &mut stale, machine) == (3, 0));
+    let mut machine = stale.start_refresh();
+    assert!(rt; refresh(&rt, alloc, &mut store, &mut stale, &mut machine) == 99);
+    assert!(rt; refresh(&rt, alloc, &mut store, &mut stale, &mut machine) == 99);
+    assert!(rt; refresh(&rt, alloc, &mut store, &mut stale, &mut machine) == 0);
     assert!(rt; stale.id() == 2);
 }
 
@@ -190,11 +198,12 @@ fn a_machine_updates(rt: HostRuntime) {
     let mut holder = created(&rt, alloc, &mut store);
     let dirty = holder.prepare_dirty(alloc).expect(&rt, "memory");
     let stale = holder.prepare_dirty(alloc).expect(&rt, "memory");
-    let first = holder
+    let mut first = holder
         .start_update(alloc, dirty, &Right::Plain)
         .expect(&rt, "memory");
-    assert!(rt; updates(alloc, &mut store, &mut holder, first) == (2, 0));
-    assert!(rt; holder.id() == 2 && latest(&rt, alloc, &mut store) == 2);
+    assert!(rt; update(&rt, alloc, &mut store, &mut holder, &mut first) == 99);
+    assert!(rt; update(&rt, alloc, &mut store, &mut holder, &mut first) == 0);
+    assert!(rt; holder.id() == 2);
     let mut refused = holder
         .start_update(alloc, stale, &Right::Plain)
         .expect(&rt, "memory");
@@ -207,41 +216,59 @@ fn a_machine_commits_what_is_made(rt: HostRuntime) {
     let alloc = rt.alloc();
     let mut store = empty(alloc);
     let mut holder = created(&rt, alloc, &mut store);
+    let first = |_n: u64, _m: &Manifest| {
+        Ok(Some(Manifest::initial(alloc, ManifestCore::new(alloc))))
+    };
+    let mut some = holder
+        .start_maybe_apply_update(alloc, first, &Right::Plain)
+        .expect(&rt, "memory");
+    assert!(rt; update(&rt, alloc, &mut store, &mut holder, &mut some) == 99);
+    assert!(rt; update(&rt, alloc, &mut store, &mut holder, &mut some) == 0);
+    assert!(rt; holder.id() == 2);
+}
+
+#[test]
+fn a_machine_commits_nothing_where_none_is_made(rt: HostRuntime) {
+    let alloc = rt.alloc();
+    let mut store = empty(alloc);
+    let mut holder = created(&rt, alloc, &mut store);
     let nothing = |_n: u64, _m: &Manifest| Ok(None);
     let mut none = holder
         .start_maybe_apply_update(alloc, nothing, &Right::Plain)
         .expect(&rt, "memory");
     assert!(rt; !none.due());
     assert!(rt; ended(none.next(alloc, &mut holder, &mut store, 5)) == 0);
-    let first = |_n: u64, _m: &Manifest| {
-        Ok(Some(Manifest::initial(alloc, ManifestCore::new(alloc))))
-    };
-    let some = holder
-        .start_maybe_apply_update(alloc, first, &Right::Plain)
-        .expect(&rt, "memory");
-    assert!(rt; updates(alloc, &mut store, &mut holder, some) == (2, 0));
-    assert!(rt; holder.id() == 2 && latest(&rt, alloc, &mut store) == 2);
+    assert!(rt; latest(&rt, alloc, &mut store) == 1);
 }
 
 #[test]
-fn machines_fence(rt: HostRuntime) {
+fn machines_fence_by_kind(rt: HostRuntime) {
     let alloc = rt.alloc();
     let mut store = empty(alloc);
     let stored = created(&rt, alloc, &mut store);
     let machine = FenceableManifest::start_init_writer(alloc, stored).expect(&rt, "memory");
-    let (steps, mut old) = fenced(&rt, alloc, &mut store, machine).expect(&rt, "a call is due");
-    assert!(rt; steps == 2 && old.local_epoch() == 1 && old.manifest().0 == 2);
+    let writer = fenced(&rt, alloc, &mut store, machine);
+    assert!(rt; writer.local_epoch() == 1 && writer.manifest().0 == 2);
     let stored = loaded(&rt, alloc, &mut store);
     let machine = FenceableManifest::start_init_compactor(alloc, stored).expect(&rt, "memory");
-    let (_, compacts) = fenced(&rt, alloc, &mut store, machine).expect(&rt, "a call is due");
-    assert!(rt; compacts.local_epoch() == 1 && compacts.manifest().0 == 3);
-    let machine = old.start_refresh();
-    assert!(rt; refreshes_fenced(alloc, &mut store, &mut old, machine) == (3, 0));
+    let compactor = fenced(&rt, alloc, &mut store, machine);
+    assert!(rt; compactor.local_epoch() == 1 && compactor.manifest().0 == 3);
+}
+
+#[test]
+fn a_machine_refreshes_a_fenced_holder(rt: HostRuntime) {
+    let alloc = rt.alloc();
+    let mut store = empty(alloc);
+    let stored = created(&rt, alloc, &mut store);
+    let machine = FenceableManifest::start_init_writer(alloc, stored).expect(&rt, "memory");
+    let mut old = fenced(&rt, alloc, &mut store, machine);
     let stored = loaded(&rt, alloc, &mut store);
     let machine = FenceableManifest::start_init_writer(alloc, stored).expect(&rt, "memory");
-    let (_, new) = fenced(&rt, alloc, &mut store, machine).expect(&rt, "a call is due");
-    assert!(rt; new.local_epoch() == 2 && new.manifest().0 == 4);
-    let machine = old.start_refresh();
-    assert!(rt; refreshes_fenced(alloc, &mut store, &mut old, machine) == (3, 2));
-    assert!(rt; old.manifest().0 == 4 && code(old.prepare_dirty(alloc)) == 2);
+    let new = fenced(&rt, alloc, &mut store, machine);
+    assert!(rt; new.local_epoch() == 2);
+    let mut machine = old.start_refresh();
+    assert!(rt; refresh_fenced(&rt, alloc, &mut store, &mut old, &mut machine) == 99);
+    assert!(rt; refresh_fenced(&rt, alloc, &mut store, &mut old, &mut machine) == 99);
+    assert!(rt; refresh_fenced(&rt, alloc, &mut store, &mut old, &mut machine) == 2);
+    assert!(rt; old.manifest().0 == 3 && old.local_epoch() == 1);
 }
