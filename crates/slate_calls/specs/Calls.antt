@@ -1,12 +1,14 @@
 -- The call that an item with `start` stands for, by its name.
-use Rattle.std.specs.Prelude.{pos, false, [], ◌∷◌, Option, Some, None, codes, ⊤}
-use Rattle.serde_json.specs.Data.{Data, Items, no_items, item}
+use Rattle.std.specs.Prelude.{pos, false, [], ◌∷◌, Option, Some, codes}
+use Rattle.serde_json.specs.Data.{Data}
 use Rattle.serde_json.specs.Find.{as_str}
-use Rattle.slate_json.specs.Fields.{◌>>=◌, only, required, defaulted, optional, array_in, u64_in, bool_in, checkpoint_id_in}
+use Rattle.slate_json.specs.Fields.{◌>>=◌, only, required, defaulted, optional, list_in, u64_in, i64_in, bool_in, checkpoint_id_in}
+use Rattle.slate_json.specs.FlushedTables.{flush_table_in}
+use Rattle.slate_json.specs.WrittenIds.{id_in}
 use Rattle.slate_json.specs.Words.{pass_in, filter_in}
 use Rattle.slate_calls.specs.Names.{name_in}
 use Rattle.slate_events.specs.declared.call.Call.{Call}
-use Rattle.slate_events.specs.declared.call.Call.TheVariants.{OpenWriter, Flush, WriteCheckpoint, ReplaceCheckpoint, RefreshCheckpoint, DeleteCheckpoint, Pass}
+use Rattle.slate_events.specs.declared.call.Call.TheVariants.{OpenWriter, Upload, Flush, WriteCheckpoint, ReplaceCheckpoint, RefreshCheckpoint, DeleteCheckpoint, Pass}
 use Rattle.slate_gc.specs.declared.filter_word.FilterWord.TheVariants.{All}
 use Rattle.slate_calls.specs.declared.call_name.CallName.{CallName}
 use Rattle.slate_calls.specs.declared.call_name.CallName.TheVariants as name
@@ -17,21 +19,25 @@ open_writer_in d = do
   _ ← only (codes "start" ∷ codes "call" ∷ []) d
   Some OpenWriter
 
--- no item
-abbrev pub is_empty : Items → Option ⊤
-is_empty no_items = Some tt
-is_empty (item d ds) = None
+-- a new table, whose keys go from "a" to "z" where no others are given
+unfoldable pub upload_in : Data → Option Call
+upload_in d = do
+  _ ← only (codes "start" ∷ codes "call" ∷ codes "table" ∷ codes "first" ∷ codes "last" ∷ []) d
+  table ← required id_in (codes "table") d
+  first ← defaulted (codes "a") as_str (codes "first") d
+  last ← defaulted (codes "z") as_str (codes "last") d
+  Some (Upload table first last)
 
--- the tables of a flush: none
-abbrev pub no_tables_in : Data → Option ⊤
-no_tables_in d = array_in (codes "tables") d >>= is_empty
-
--- a flush without tables, at sequence number 0 and tick 0
+-- a flush of these tables; where they are absent the numbers of the log's files are those of a new manifest, sequence number and tick 0
 unfoldable pub flush_in : Data → Option Call
 flush_in d = do
-  _ ← only (codes "start" ∷ codes "call" ∷ codes "tables" ∷ []) d
-  _ ← no_tables_in d
-  Some (Flush 0 (pos 0))
+  _ ← only (codes "start" ∷ codes "call" ∷ codes "tables" ∷ codes "replay_after" ∷ codes "next_wal" ∷ codes "seq" ∷ codes "tick" ∷ []) d
+  tables ← required (list_in flush_table_in) (codes "tables") d
+  replay_after ← defaulted 0 u64_in (codes "replay_after") d
+  next_wal ← defaulted 1 u64_in (codes "next_wal") d
+  seq ← defaulted 0 u64_in (codes "seq") d
+  tick ← defaulted (pos 0) i64_in (codes "tick") d
+  Some (Flush tables replay_after next_wal seq tick)
 
 -- a new checkpoint; lifetimes are milliseconds
 unfoldable pub write_checkpoint_in : Data → Option Call
@@ -82,6 +88,7 @@ collector_pass_in d = do
 -- the call of this name, with its fields
 abbrev pub call_of : CallName → Data → Option Call
 call_of name.OpenWriter d = open_writer_in d
+call_of name.Upload d = upload_in d
 call_of name.Flush d = flush_in d
 call_of name.WriteCheckpoint d = write_checkpoint_in d
 call_of name.ReplaceCheckpoint d = replace_checkpoint_in d

@@ -10,6 +10,7 @@ use std::alloc::Global;
 #[derive(Clone, Copy, Debug, Drop, PartialEq, Eq)]
 pub(crate) enum CallName {
     OpenWriter,
+    Upload,
     Flush,
     WriteCheckpoint,
     ReplaceCheckpoint,
@@ -24,6 +25,7 @@ fn name_of(text: &str) -> Option<CallName>
 {
     match text {
         "open_writer" => Some(CallName::OpenWriter),
+        "upload" => Some(CallName::Upload),
         "flush" => Some(CallName::Flush),
         "write_checkpoint" => Some(CallName::WriteCheckpoint),
         "replace_checkpoint" => Some(CallName::ReplaceCheckpoint),

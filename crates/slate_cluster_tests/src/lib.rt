@@ -12,4 +12,6 @@ mod program_tests;
 #[cfg(test)]
 mod test_runs;
 #[cfg(test)]
+mod upload_tests;
+#[cfg(test)]
 mod writer_tests;

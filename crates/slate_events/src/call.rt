@@ -1,8 +1,11 @@
 //! Calls of parties.
 ghost use Rattle.std.specs.Prelude.{◌≡◌, IfOk};
+ghost use Rattle.slate_events.specs.declared.call.Call.TheVariants as calls;
 
+use crate::flush_table::FlushTable;
+use bytes::Bytes;
 use slate_gc::FilterWord;
-use slate_ids::{CheckpointId, GcMessage, Millis, OutOfMemory, Text};
+use slate_ids::{CheckpointId, GcMessage, Listed, Millis, OutOfMemory, Text, Ulid};
 use slate_model::Plain;
 use std::alloc::Global;
 
@@ -11,11 +14,22 @@ use std::alloc::Global;
 pub enum Call {
     /// Reads the latest manifest and commits its writer epoch plus one. The reply is that epoch.
     OpenWriter,
-    /// Reads the latest manifest and commits it with this sequence number and this clock tick, in milliseconds, of the
-    /// newest flushed table; the tracker takes the pair where it is in order. Refused with `Fenced` where the version read
-    /// has a writer epoch above the party's, and with `InvalidDBState` before the party's open succeeded. The reply is
-    /// `done`.
+    /// Puts the object of a new table, which has these first and last keys. Refused with `Unencodable` at the start where the last key
+    /// lies below the first one. From then on the party may flush the table. The reply is `done`.
+    Upload {
+        table: Ulid,
+        first: Bytes,
+        last: Bytes,
+    },
+    /// Reads the latest manifest and commits it with these tables, each in front of the tree of its prefix unless a tree has it already;
+    /// with the last file of the write-ahead log that needs no replay, the number of the next one, and the sequence number and clock tick,
+    /// in milliseconds, of the newest flushed table, whose pair the tracker takes where it is in order. Refused with `InvalidDBState` at
+    /// the start before the party's open succeeded, and then where it has not uploaded one of the tables; with `Fenced` where the version
+    /// read has a writer epoch above the party's; and by the rules on new versions. The reply is `done`.
     Flush {
+        tables: Listed<FlushTable>,
+        replay_after: u64,
+        next_wal: u64,
         seq: u64,
         tick: Millis,
     },
@@ -64,6 +78,17 @@ pub enum Call {
     },
 }
 
+// An upload of a table with these keys.
+fn upload(alloc: Global, table: Ulid, first: &Bytes, last: &Bytes) -> Result<Call, OutOfMemory>
+    ensures { IfOk result (λ call. call ≡ calls.Upload table first.now last.now) }
+{
+    Ok(Call::Upload {
+        table,
+        first: Plain::clone(first, alloc)?,
+        last: Plain::clone(last, alloc)?,
+    })
+}
+
 impl Call {
     /// An equal call.
     pub fn copy(&self, alloc: Global) -> Result<Call, OutOfMemory>
@@ -71,7 +96,17 @@ impl Call {
     {
         Ok(match self {
             Call::OpenWriter => Call::OpenWriter,
-            Call::Flush { seq, tick } => Call::Flush {
+            Call::Upload { table, first, last } => upload(alloc, *table, first, last)?,
+            Call::Flush {
+                tables,
+                replay_after,
+                next_wal,
+                seq,
+                tick,
+            } => Call::Flush {
+                tables: Plain::clone(tables, alloc)?,
+                replay_after: *replay_after,
+                next_wal: *next_wal,
                 seq: *seq,
                 tick: *tick,
             },

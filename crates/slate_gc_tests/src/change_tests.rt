@@ -1,10 +1,10 @@
 //! Changes of a manifest: their floors and their fences.
 
-use slate_ids::{CheckpointId, SlateDBError, Ulid};
+use slate_ids::{CheckpointId, Listed, SlateDBError, Ulid};
 use slate_layout::ManifestCodec;
 use slate_log::{CommitPhase, Right};
 use slate_model::{Checkpoint, CheckpointOptions, Manifest, ManifestCore};
-use slate_updates::ManifestChange;
+use slate_updates::{FlushBatch, ManifestChange};
 use std::alloc::Global;
 use std::process::Abort;
 
@@ -48,15 +48,25 @@ fn plain() -> CheckpointOptions {
     }
 }
 
-fn change(put: Put) -> ManifestChange {
+/// A flush of no table, at the number 6 and the tick 50.
+fn no_tables(alloc: Global) -> FlushBatch {
+    FlushBatch {
+        tables: Listed::new(alloc),
+        replay_after: 0,
+        next_wal: 1,
+        seq: 6,
+        tick: 50,
+    }
+}
+
+fn change(alloc: Global, put: Put) -> ManifestChange {
     let three = CheckpointId::from_u64(3);
     let nine = CheckpointId::from_u64(9);
     match put {
         Put::Raise => ManifestChange::RaiseWriter,
         Put::Flush(writer) => ManifestChange::Flush {
             writer,
-            seq: 6,
-            tick: 50,
+            batch: no_tables(alloc),
         },
         Put::Write => ManifestChange::WriteCheckpoint {
             id: nine,
@@ -107,7 +117,7 @@ fn floor_of(made: &Result<Option<Manifest>, SlateDBError>) -> Option<u64> {
 /// The floor of what a change makes of version 7.
 fn floor_after(rt: &impl Abort, alloc: Global, put: Put, floor: u64) -> Option<u64> {
     let manifest = marked(rt, alloc, floor);
-    floor_of(&change(put).make(alloc, 1000, 7, &manifest))
+    floor_of(&change(alloc, put).make(alloc, 1000, 7, &manifest))
 }
 
 #[test]
@@ -137,7 +147,7 @@ fn told(commit: &Result<Option<CommitPhase<Manifest>>, SlateDBError>) -> u8 {
 /// The number of the refusal of a change's commit after version 7.
 fn refusal_of(rt: &impl Abort, alloc: Global, put: Put) -> u8 {
     let manifest = marked(rt, alloc, 0);
-    told(&change(put).commit(alloc, &ManifestCodec, 1000, 7, &manifest))
+    told(&change(alloc, put).commit(alloc, &ManifestCodec, 1000, 7, &manifest))
 }
 
 #[test]
@@ -152,7 +162,9 @@ fn stale_writers_are_refused(rt: HostRuntime) {
 
 /// Whether a version with writer epoch 2 has no fence for a change.
 fn passes(rt: &impl Abort, alloc: Global, put: Put) -> bool {
-    change(put).refusal_at(&marked(rt, alloc, 0)).is_none()
+    change(alloc, put)
+        .refusal_at(&marked(rt, alloc, 0))
+        .is_none()
 }
 
 #[test]
@@ -164,5 +176,5 @@ fn flushes_alone_have_a_fence(rt: HostRuntime) {
 
 #[test]
 fn changes_have_the_plain_right(rt: HostRuntime) {
-    assert!(rt; matches!(change(Put::Write).right(), Right::Plain));
+    assert!(rt; matches!(change(rt.alloc(), Put::Write).right(), Right::Plain));
 }

@@ -1,9 +1,9 @@
 //! Epochs, flushes, and the rules on new versions.
 
-use slate_ids::{CheckpointId, Epochs, SlateDBError, UpdateRule};
+use slate_ids::{CheckpointId, Epochs, Listed, SlateDBError, UpdateRule};
 use slate_log::{Right, Rules};
 use slate_model::{Checkpoint, Manifest, ManifestCore};
-use slate_updates::{ManifestEpochs, ManifestRules, flush, raise_writer};
+use slate_updates::{FlushBatch, ManifestEpochs, ManifestRules, flush_tables, raise_writer};
 use std::alloc::Global;
 use std::process::Abort;
 
@@ -111,6 +111,17 @@ fn tracking(rt: &impl Abort, alloc: Global) -> Manifest {
     manifest
 }
 
+/// A flush of no table, at this number and this tick.
+fn no_tables(alloc: Global, seq: u64, tick: i64) -> FlushBatch {
+    FlushBatch {
+        tables: Listed::new(alloc),
+        replay_after: 0,
+        next_wal: 1,
+        seq,
+        tick,
+    }
+}
+
 /// Whether a manifest has these numbers of the newest flushed table, and so many pairs.
 fn has(manifest: &Manifest, seq: u64, tick: i64, pairs: usize) -> bool {
     manifest.core.last_l0_seq == seq
@@ -122,7 +133,8 @@ fn has(manifest: &Manifest, seq: u64, tick: i64, pairs: usize) -> bool {
 fn a_flush_puts_its_numbers(rt: HostRuntime) {
     let manifest = tracking(&rt, rt.alloc());
     for (seq, tick, pairs) in &FLUSHED {
-        let made = flush(rt.alloc(), *seq, *tick, &manifest).expect(&rt, "memory");
+        let batch = no_tables(rt.alloc(), *seq, *tick);
+        let made = flush_tables(rt.alloc(), batch, &manifest).expect(&rt, "memory");
         assert!(rt; has(&made, *seq, *tick, *pairs));
     }
 }

@@ -1,6 +1,6 @@
 //! The fields of a script, a table for each kind of object: a later field or object is a line here.
 
-use crate::fields::Holds::{Each, NoItems, Objects, One};
+use crate::fields::Holds::{Each, Objects, One};
 use crate::fields::Presence::{Needed, Optional};
 use crate::name::Name;
 use crate::plain::Plain;
@@ -12,8 +12,6 @@ pub(crate) enum Holds {
     One(Plain),
     /// An array of plain values.
     Each(Plain),
-    /// An array without items.
-    NoItems,
     /// An array of objects.
     Objects(Object),
 }
@@ -42,7 +40,9 @@ pub(crate) enum Object {
     Step,
     Stop,
     OpenWriter,
+    Upload,
     Flush,
+    FlushTable,
     WriteCheckpoint,
     ReplaceCheckpoint,
     RefreshCheckpoint,
@@ -114,10 +114,28 @@ static OPEN_WRITER: [Field; 2] = [
     Field(Name::Call, Needed, One(Plain::CallName)),
 ];
 
-static FLUSH: [Field; 3] = [
+static UPLOAD: [Field; 5] = [
     Field(Name::Start, Needed, One(Plain::Whole32)),
     Field(Name::Call, Needed, One(Plain::CallName)),
-    Field(Name::Tables, Needed, NoItems),
+    Field(Name::Table, Needed, One(Plain::Id)),
+    Field(Name::First, Optional, One(Plain::Text)),
+    Field(Name::Last, Optional, One(Plain::Text)),
+];
+
+static FLUSH: [Field; 7] = [
+    Field(Name::Start, Needed, One(Plain::Whole32)),
+    Field(Name::Call, Needed, One(Plain::CallName)),
+    Field(Name::Tables, Needed, Objects(Object::FlushTable)),
+    Field(Name::ReplayAfter, Optional, One(Plain::Whole64)),
+    Field(Name::NextWal, Optional, One(Plain::Whole64)),
+    Field(Name::Seq, Optional, One(Plain::Whole64)),
+    Field(Name::Tick, Optional, One(Plain::Moment)),
+];
+
+static FLUSH_TABLE: [Field; 3] = [
+    Field(Name::Table, Needed, One(Plain::Id)),
+    Field(Name::View, Needed, One(Plain::Id)),
+    Field(Name::Prefix, Optional, One(Plain::Text)),
 ];
 
 static WRITE_CHECKPOINT: [Field; 6] = [
@@ -175,7 +193,9 @@ impl Object {
             Object::Step => &STEP,
             Object::Stop => &STOP,
             Object::OpenWriter => &OPEN_WRITER,
+            Object::Upload => &UPLOAD,
             Object::Flush => &FLUSH,
+            Object::FlushTable => &FLUSH_TABLE,
             Object::WriteCheckpoint => &WRITE_CHECKPOINT,
             Object::ReplaceCheckpoint => &REPLACE_CHECKPOINT,
             Object::RefreshCheckpoint => &REFRESH_CHECKPOINT,
@@ -188,6 +208,7 @@ impl Object {
     pub(crate) fn of_call(name: &str) -> Option<Object> {
         match name {
             "open_writer" => Some(Object::OpenWriter),
+            "upload" => Some(Object::Upload),
             "flush" => Some(Object::Flush),
             "write_checkpoint" => Some(Object::WriteCheckpoint),
             "replace_checkpoint" => Some(Object::ReplaceCheckpoint),

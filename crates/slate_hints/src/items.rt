@@ -92,14 +92,6 @@ fn each_fault(
     Ok(None)
 }
 
-// What is wrong where an array without items has to stand.
-fn no_items_fault(spot: Spot, value: &Value) -> Option<Hint> {
-    match value.as_array() {
-        Some(items) if items.is_empty() => None,
-        _ => Some(Hint::at(spot, Fault::HasToBe("an array without items"))),
-    }
-}
-
 // What is wrong with what a field holds, beside objects.
 fn held_fault(
     alloc: Global,
@@ -110,7 +102,6 @@ fn held_fault(
     match field.2 {
         Holds::One(plain) => plain_fault(alloc, spot.at(field.0), plain, value),
         Holds::Each(plain) => each_fault(alloc, spot, field.0, plain, value),
-        Holds::NoItems => Ok(no_items_fault(spot.at(field.0), value)),
         Holds::Objects(_) => plain_fault(alloc, spot.at(field.0), Plain::List, value),
     }
 }

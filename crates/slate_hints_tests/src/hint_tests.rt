@@ -158,7 +158,7 @@ const DATABASES: [(&str, &str); 31] = [
 ];
 
 /// The last of three events, after one and 1000 of them, and what is wrong with it.
-const EVENTS: [(&str, &str); 24] = [
+const EVENTS: [(&str, &str); 34] = [
     (r#"[]"#, r#"events[2] has to be an object"#),
     (
         r#"{"go":1}"#,
@@ -190,8 +190,48 @@ const EVENTS: [(&str, &str); 24] = [
         r#"events[2] lacks the field "tables""#,
     ),
     (
+        r#"{"start":1,"call":"flush","tables":{}}"#,
+        r#"events[2].tables has to be an array"#,
+    ),
+    (
         r#"{"start":1,"call":"flush","tables":[1]}"#,
-        r#"events[2].tables has to be an array without items"#,
+        r#"events[2].tables[0] has to be an object"#,
+    ),
+    (
+        r#"{"start":1,"call":"flush","tables":[{"table":"1:1","view":"1:1"},{"table":"2:2"}]}"#,
+        r#"events[2].tables[1] lacks the field "view""#,
+    ),
+    (
+        r#"{"start":1,"call":"flush","tables":[{"table":"1:1","view":1}]}"#,
+        r#"events[2].tables[0].view has to be a text "ms:tail" of two whole numbers, the first below 2^48, the second below 2^80"#,
+    ),
+    (
+        r#"{"start":1,"call":"flush","tables":[{"table":"1:1","view":"1:1","last":"z"}]}"#,
+        r#"events[2].tables[0] has a field "last", which isn't known"#,
+    ),
+    (
+        r#"{"start":1,"call":"flush","tables":[{"table":"1:1","view":"1:1","prefix":0}]}"#,
+        r#"events[2].tables[0].prefix has to be a text"#,
+    ),
+    (
+        r#"{"start":1,"call":"flush","tables":[],"seq":-1}"#,
+        r#"events[2].seq has to be a whole number from 0 to 2^64 - 1"#,
+    ),
+    (
+        r#"{"start":1,"call":"flush","tables":[],"tick":"1"}"#,
+        r#"events[2].tick has to be a whole number from -2^63 to 2^63 - 1"#,
+    ),
+    (
+        r#"{"start":1,"call":"upload","first":"a"}"#,
+        r#"events[2] lacks the field "table""#,
+    ),
+    (
+        r#"{"start":1,"call":"upload","table":"1"}"#,
+        r#"events[2].table has to be a text "ms:tail" of two whole numbers, the first below 2^48, the second below 2^80"#,
+    ),
+    (
+        r#"{"start":1,"call":"upload","table":"1:1","last":2}"#,
+        r#"events[2].last has to be a text"#,
     ),
     (
         r#"{"start":1,"call":"write_checkpoint","id":1,"lifetime":-1}"#,

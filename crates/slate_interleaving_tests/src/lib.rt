@@ -19,3 +19,5 @@ mod test_clusters;
 mod test_lists;
 #[cfg(test)]
 mod test_runs;
+#[cfg(test)]
+mod upload_tests;

@@ -2,6 +2,7 @@
 
 use crate::test_clusters::{after, count, does, is_chain, steps};
 use slate_cluster::Cluster;
+use slate_ids::Listed;
 use slate_script::{Call, Event};
 use std::alloc::Global;
 use std::process::Abort;
@@ -129,7 +130,13 @@ fn the_second_put_of_a_number_is_refused(rt: HostRuntime) {
 
 // A writer starts a flush.
 fn flushes(rt: &impl Abort, alloc: Global, cluster: &mut Cluster, party: u32) {
-    let call = Call::Flush { seq: 0, tick: 0 };
+    let call = Call::Flush {
+        tables: Listed::new(alloc),
+        replay_after: 0,
+        next_wal: 1,
+        seq: 0,
+        tick: 0,
+    };
     let start = Event::start(alloc, party, call).expect(rt, "memory");
     does(rt, alloc, cluster, &[start]);
 }

@@ -4,6 +4,7 @@ use crate::test_clusters::db;
 use slate_ids::{ObjectPath, SlateDBError};
 use slate_layout::decode_manifest;
 use slate_log::decode_boundary;
+use slate_model::Manifest;
 use slate_script::{Entry, Reply};
 use slate_store::{Mark, MemoryStore, StoreAnswer, StoreCall};
 use std::alloc::Global;
@@ -36,6 +37,10 @@ pub(crate) struct Counts {
     pub passes: u64,
     /// Puts of numbers that were collected before, which the boundary answered.
     pub late_puts: u64,
+    /// Flushes that were refused for a table from before the floor.
+    pub late_tables: u64,
+    /// Tables of the greatest version.
+    pub tables: u64,
 }
 
 // What the trail tells, entry by entry.
@@ -101,8 +106,7 @@ fn keeps(versions: &[Version], reachable: &[u64]) -> bool {
 }
 
 // What is reachable from a greatest version: its number, and those that its checkpoints name.
-fn reachable_from(rt: &impl Abort, alloc: Global, number: u64, bytes: &[u8]) -> Vec<u64> {
-    let manifest = decode_manifest(alloc, bytes).expect(rt, "a manifest");
+fn reachable_from(rt: &impl Abort, alloc: Global, number: u64, manifest: &Manifest) -> Vec<u64> {
     let mut reachable = Vec::new(alloc);
     for checkpoint in manifest.core.checkpoints.as_slice() {
         reachable.push(checkpoint.manifest_id).expect(rt, "memory");
@@ -120,7 +124,9 @@ fn commit(rt: &impl Abort, alloc: Global, audit: &mut Audit, put: Option<usize>,
         removed: false,
     };
     audit.versions.push(version).expect(rt, "memory");
-    audit.reachable = reachable_from(rt, alloc, number, bytes);
+    let manifest = decode_manifest(alloc, bytes).expect(rt, "a manifest");
+    audit.reachable = reachable_from(rt, alloc, number, &manifest);
+    audit.counts.tables = manifest.core.views().count() as u64;
 }
 
 // A put has its effect: of the next number it commits, and of one that was committed and collected it is late.
@@ -208,9 +214,19 @@ fn deleted_by(reply: &Reply) -> u64 {
     }
 }
 
+fn is_late_table(reply: &Reply) -> bool {
+    match reply {
+        Reply::Refused(refusal) => matches!(refusal, SlateDBError::InvalidClockTick { .. }),
+        _ => false,
+    }
+}
+
 fn replied(rt: &impl Abort, audit: &mut Audit, party: u32, reply: &Reply) {
     if deleted_by(reply) > 0 {
         audit.counts.passes = audit.counts.passes.saturating_add(1);
+    }
+    if is_late_table(reply) {
+        audit.counts.late_tables = audit.counts.late_tables.saturating_add(1);
     }
     if let Some(number) = audit.late.remove(&party) {
         let bounded = answered_late(number, reply);
@@ -307,6 +323,8 @@ pub(crate) fn audited(
         counts: Counts {
             passes: 0,
             late_puts: 0,
+            late_tables: 0,
+            tables: 0,
         },
     };
     commit(rt, alloc, &mut audit, None, FIRST.as_slice());

@@ -1,9 +1,10 @@
-//! Lists of events that are drawn from a seed: writers, holders and collectors of one database.
+//! Lists of events that are drawn from a seed: writers with their uploads and flushes, holders and collectors of one database.
 ghost use Rattle.std.specs.Prelude.{◌<◌};
 
 use crate::test_clusters::db;
-use slate_ids::{CheckpointId, DbPath, GcMessage};
-use slate_script::{Call, Event, FilterWord, PartyKind};
+use bytes::Bytes;
+use slate_ids::{CheckpointId, DbPath, GcMessage, Listed, Ulid};
+use slate_script::{Call, Event, FilterWord, FlushTable, PartyKind};
 use slate_store::Mark;
 use std::alloc::Global;
 use std::process::Abort;
@@ -20,6 +21,10 @@ struct Draws {
     // The number of the next party, and that of the next checkpoint.
     next_party: u32,
     next_id: u64,
+    // The tail of the next table or view.
+    next_tail: u128,
+    // The table that the writer of each place uploaded last.
+    uploaded: [Option<Ulid>; 2],
     // The place whose party rests for a while.
     resting: usize,
     // The parties of the moment: two writers, two holders, two collectors.
@@ -46,9 +51,13 @@ impl Draws {
         self.below(times) == 0
     }
 
-    // One of the six places.
+    // One of the six places; half the time one of the two of writers.
     fn any_place(&mut self) -> usize {
-        self.below(6) as usize
+        if self.once_in(2) {
+            self.below(2) as usize
+        } else {
+            self.below(6) as usize
+        }
     }
 
     // A place, seldom that of the party that rests.
@@ -133,11 +142,73 @@ impl Draws {
         }
     }
 
-    fn writer_call(&mut self) -> Call {
-        if self.once_in(3) {
-            Call::OpenWriter
+    // An id of this many milliseconds that none was before.
+    fn new_ulid(&mut self, ms: u64) -> Ulid {
+        let tail = self.next_tail % (1 << 80);
+        self.next_tail = tail.saturating_add(1);
+        Ulid::from_parts(ms % (1 << 48), tail)
+    }
+
+    // A new table of this moment; every other one is from up to a minute before.
+    fn upload(&mut self, place: usize) -> Call {
+        let now = self.moment.max(0) as u64;
+        let ms = if self.once_in(2) {
+            now.saturating_sub(self.below(60_000))
         } else {
-            Call::Flush { seq: 0, tick: 0 }
+            now
+        };
+        let table = self.new_ulid(ms);
+        if let Some(uploaded) = self.uploaded.as_mut_slice().get_mut(place) {
+            *uploaded = Some(table);
+        }
+        Call::Upload {
+            table,
+            first: Bytes::from_static(b"a"),
+            last: Bytes::from_static(b"z"),
+        }
+    }
+
+    // The last table of a writer, in one of three trees.
+    fn flushed_table(&mut self, place: usize) -> Option<FlushTable> {
+        let table = match self.uploaded.as_slice().get(place) {
+            Some(Some(table)) => *table,
+            _ => return None,
+        };
+        let view = self.new_ulid(0);
+        let prefix = match self.below(3) {
+            0 => Bytes::from_static(b"p"),
+            1 => Bytes::from_static(b"q"),
+            _ => Bytes::new(),
+        };
+        Some(FlushTable {
+            table,
+            view,
+            prefix,
+        })
+    }
+
+    // A flush of the last table of a writer; one in four has none.
+    fn flush(&mut self, rt: &impl Abort, alloc: Global, place: usize) -> Call {
+        let mut tables = Listed::new(alloc);
+        if !self.once_in(4) {
+            if let Some(table) = self.flushed_table(place) {
+                tables.push(table).expect(rt, "memory");
+            }
+        }
+        Call::Flush {
+            tables,
+            replay_after: 0,
+            next_wal: 1,
+            seq: 0,
+            tick: 0,
+        }
+    }
+
+    fn writer_call(&mut self, rt: &impl Abort, alloc: Global, place: usize) -> Call {
+        match self.below(8) {
+            0 => Call::OpenWriter,
+            1 | 2 | 3 => self.upload(place),
+            _ => self.flush(rt, alloc, place),
         }
     }
 
@@ -159,10 +230,18 @@ impl Draws {
         }
     }
 
-    // A call that the kind of a place has.
-    fn call(&mut self, place: usize) -> Call {
+    // The first call of a place: a writer opens.
+    fn first_call(&mut self, rt: &impl Abort, alloc: Global, place: usize) -> Call {
         match place {
-            0 | 1 => self.writer_call(),
+            0 | 1 => Call::OpenWriter,
+            _ => self.call(rt, alloc, place),
+        }
+    }
+
+    // A call that the kind of a place has.
+    fn call(&mut self, rt: &impl Abort, alloc: Global, place: usize) -> Call {
+        match place {
+            0 | 1 => self.writer_call(rt, alloc, place),
             2 | 3 => self.holder_call(),
             _ => self.pass(),
         }
@@ -192,7 +271,12 @@ fn open(rt: &impl Abort, events: &mut Vec<Event>, draws: &mut Draws, db: DbPath,
 
 // The party at a place starts a call.
 fn start(rt: &impl Abort, events: &mut Vec<Event>, draws: &mut Draws, place: usize) {
-    let call = draws.call(place);
+    let call = draws.call(rt, *events.allocator(), place);
+    start_call(rt, events, draws, place, call);
+}
+
+// The party at a place starts this call.
+fn start_call(rt: &impl Abort, events: &mut Vec<Event>, draws: &Draws, place: usize, call: Call) {
     let party = draws.party_at(place);
     let start = Event::start(*events.allocator(), party, call).expect(rt, "memory");
     push(rt, events, start);
@@ -247,7 +331,7 @@ fn draw(rt: &impl Abort, events: &mut Vec<Event>, draws: &mut Draws, db: DbPath)
     steps(rt, events, draws, place, times);
 }
 
-/// The list of a seed. Two writers, two holders and two collectors come, each starts a call, and then it goes on as it is drawn: a
+/// The list of a seed. Two writers, two holders and two collectors come, each starts a call, the writers to open, and then it goes on as it is drawn: a
 /// start has some eight steps.
 pub(crate) fn generated(rt: &impl Abort, alloc: Global, seed: u64) -> Vec<Event> {
     let db = db(rt);
@@ -257,6 +341,8 @@ pub(crate) fn generated(rt: &impl Abort, alloc: Global, seed: u64) -> Vec<Event>
         moment: 1000,
         next_party: 0,
         next_id: 1,
+        next_tail: 1,
+        uploaded: [None; 2],
         resting: 0,
         parties: [0; 6],
     };
@@ -264,7 +350,8 @@ pub(crate) fn generated(rt: &impl Abort, alloc: Global, seed: u64) -> Vec<Event>
         open(rt, &mut events, &mut draws, db, place);
     }
     for place in 0..6 {
-        start(rt, &mut events, &mut draws, place);
+        let call = draws.first_call(rt, alloc, place);
+        start_call(rt, &mut events, &draws, place, call);
     }
     for _ in 0..DRAWS {
         draw(rt, &mut events, &mut draws, db);

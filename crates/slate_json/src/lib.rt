@@ -2,6 +2,7 @@
 #![tactic(auto)]
 
 mod fields;
+mod flushed_table;
 mod json_error;
 mod opening_checkpoint;
 mod values;

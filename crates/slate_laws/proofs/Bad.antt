@@ -2,13 +2,15 @@
 use Rattle.std.proofs.Common.{◌≡◌, ◌≢◌, ℕ, ℤ, ◌+◌, ◌==◌, Bool, true, false, not, List, [], ◌∷◌, ◌++◌, Option, Some, None, is_some, is_none, Ok, Err, ◌⊎◌, inl, inr, refl, sym, ap, ◌∙◌, subst, arith}
 use Rattle.std.proofs.Math.Bool.{or_assoc}
 use Rattle.std.proofs.lemmas.Bool.Decides.{nat_tests}
+use Rattle.std.proofs.lemmas.Map.Text.{is_eq-slice_cmp}
 use Rattle.std.specs.Prelude.{if◌then◌else◌, ◌||◌, bytes_eq}
 use Rattle.std.specs.List.{list_any}
 use Rattle.std.specs.Option.{option_or}
 use Rattle.std.specs.Map.{set_value}
 use Rattle.std.specs.BTreeMap.{is_at, insert_entry}
 use Rattle.std.specs.Ordering.{nat_cmp}
-use Rattle.slate_ids.specs.Ulids.{id_cmp as ulid_cmp}
+use Rattle.std.specs.declared.cmp.Ordering.{Ordering}
+use Rattle.slate_ids.specs.Ulids.{same_id, id_cmp as ulid_cmp}
 use Rattle.slate_ids.specs.declared.object_path.ObjectPath.{ObjectPath}
 use Rattle.slate_ids.specs.declared.object_path.ObjectPath.TheVariants as paths
 use Rattle.slate_store.specs.Machines.{Stay, End}
@@ -22,9 +24,9 @@ use Rattle.slate_events.specs.declared.db_spec.DbSpec.{DbSpec}
 use Rattle.slate_events.specs.declared.event.Event.{Event}
 use Rattle.slate_events.specs.declared.event.Event.TheVariants.{Open, Start, Step, Stop}
 use Rattle.slate_events.specs.declared.party_kind.PartyKind.{PartyKind}
-use Rattle.slate_protocol.specs.Calls.{fresh_checkpoints, named_checkpoints, facts_after}
-use Rattle.slate_protocol.specs.Done.{kind_opened, was_opened, is_database, start_names, was_named, was_ulid_named, comes_again, lacks_call, is_bad_after}
-use Rattle.slate_protocol.specs.Ids.{checkpoint_cmp, is_carried, is_stale_among}
+use Rattle.slate_protocol.specs.Calls.{fresh_checkpoints, named_checkpoints, fresh_ulids, named_ulids, facts_after}
+use Rattle.slate_protocol.specs.Done.{kind_opened, was_opened, is_database, start_names, was_named, start_names_ulid, was_ulid_named, comes_again, is_old, lacks_call, is_bad_after}
+use Rattle.slate_protocol.specs.Ids.{Pool, checkpoint_cmp, is_carried, is_stale_among, is_stale}
 use Rattle.slate_protocol.specs.Lawful.{IsAccepted, AreGood, course_after, world_at_end}
 use Rattle.slate_protocol.specs.Rows.{begin, follow}
 use Rattle.slate_protocol.specs.Runs.{Course, Ran, going_on, opening, run}
@@ -38,11 +40,11 @@ use Rattle.slate_protocol.specs.declared.party.State.TheVariants.{Resting, Busy,
 use Rattle.slate_protocol.specs.declared.party.Task.{Task}
 use Rattle.slate_protocol.specs.declared.tally.Tally.{Tally}
 use Rattle.slate_protocol.specs.declared.work.Ended.{Ended}
-use Rattle.slate_protocol.specs.declared.work.Ended.TheVariants.{NoManifest, ManifestRead, ManifestCommitted, Passed}
+use Rattle.slate_protocol.specs.declared.work.Ended.TheVariants.{NoManifest, ManifestRead, ManifestCommitted, TablePut, Passed}
 use Rattle.slate_protocol.specs.declared.work.Purpose.TheVariants.{Once}
 use Rattle.slate_laws.proofs.GoingOn.{run_world}
 use Rattle.slate_laws.proofs.Maps.{number_order, name_order, set_here, set_else, insert_here, insert_else}
-use Rattle.slate_laws.proofs.Pools.{or_false, shuffle, call_carried, databases_open, checkpoints_open, ulids_open}
+use Rattle.slate_laws.proofs.Pools.{or_false, shuffle, any_alike, ulid_at, call_carried, call_carried_ulids, databases_open, checkpoints_open, ulids_open}
 use Rattle.slate_laws.proofs.Removals.{good_run}
 use Rattle.slate_laws.proofs.Rows.{ended}
 use Rattle.slate_laws.proofs.Stores.{same_name}
@@ -86,11 +88,16 @@ open_kind : (facts : Facts) (end : Ended) → (facts_after facts OpenWriter end)
 open_kind facts (NoManifest purpose) = refl
 open_kind facts (ManifestRead purpose db n m) = refl
 open_kind facts (ManifestCommitted Once db n m) = refl
+open_kind facts (TablePut upload) = refl
 open_kind facts (Passed counts) = refl
 
 end_kind : (facts : Facts) (call : Call) (end : Ended) → (facts_after facts call end).kind ≡ facts.kind
+end_kind facts call (TablePut upload) = refl
 end_kind facts OpenWriter end = open_kind facts end
-end_kind facts _ end = refl
+end_kind facts _ (NoManifest purpose) = refl
+end_kind facts _ (ManifestRead purpose db n m) = refl
+end_kind facts _ (ManifestCommitted purpose db n m) = refl
+end_kind facts _ (Passed counts) = refl
 
 follow_kind : (facts : Facts) (call : Call) (now : ℤ) (g : WorkGoes) → (follow facts call now g).facts.kind ≡ facts.kind
 follow_kind facts call now (Stay at) = refl
@@ -139,12 +146,12 @@ tallied_same d (Delete path) b tallies = refl
 
 -- ---- what an event does
 
--- the same databases, one party more where it opens one, the ids that it names, and no other ids
+-- the same databases, one party more where it opens one, and the ids that it names
 record Does (e : Event) (w : World) (v : World) : Type 0 where
   databases : (d : List ℕ) → is_some (tally_of d v.tallies) ≡ is_some (tally_of d w.tallies)
   kinds : (k : ℕ) → kind_at k v ≡ option_or (kind_at k w) (opened_as k e)
   names : (id : List ℕ) → is_carried checkpoint_cmp id v.carried.checkpoints ≡ (is_carried checkpoint_cmp id w.carried.checkpoints || start_names id e)
-  ulids : v.carried.ulids ≡ w.carried.ulids
+  ulids : (id : ℕ × ℕ) → is_carried ulid_cmp id v.carried.ulids ≡ (is_carried ulid_cmp id w.carried.ulids || start_names_ulid id e)
 
 module _ (n : ℕ) (w : World) (p : Party) (at : party_of n w.parties ≡ Some p) where
   -- another state of a party, of the same kind
@@ -162,7 +169,7 @@ module _ (n : ℕ) (w : World) (p : Party) (at : party_of n w.parties ≡ Some p
   step_does moment mark state = by_state state
     where
       quiet : Does (Step n moment mark) w w
-      quiet = record { databases = λ d. refl; kinds = λ k. sym (or_none (kind_at k w)); names = λ id. sym (or_false (is_carried checkpoint_cmp id w.carried.checkpoints)); ulids = refl }
+      quiet = record { databases = λ d. refl; kinds = λ k. sym (or_none (kind_at k w)); names = λ id. sym (or_false (is_carried checkpoint_cmp id w.carried.checkpoints)); ulids = λ id. sym (or_false (is_carried ulid_cmp id w.carried.ulids)) }
 
       went : (task : Task) → Does (Step n moment mark) w (stepped w n p.facts task moment mark).world
       went task =
@@ -172,7 +179,7 @@ module _ (n : ℕ) (w : World) (p : Party) (at : party_of n w.parties ≡ Some p
             databases = λ d. tallied_same d (asks task.work) (wrote w.store o.store) w.tallies;
             kinds = λ k. kind_kept (settled task.call standing) (follow_kind p.facts task.call moment (goes task.work moment o.answer)) k ∙ sym (or_none (kind_at k w));
             names = λ id. sym (or_false (is_carried checkpoint_cmp id w.carried.checkpoints));
-            ulids = refl;
+            ulids = λ id. sym (or_false (is_carried ulid_cmp id w.carried.ulids));
           }
 
       test : (task : Task) (b : Bool) → Does (Step n moment mark) w (if b then stepped w n p.facts task moment mark else noted n w).world
@@ -188,14 +195,14 @@ module _ (n : ℕ) (w : World) (p : Party) (at : party_of n w.parties ≡ Some p
   start_does call state = by_state state
     where
       quiet : Does (Start n call) w (carrying n call w)
-      quiet = record { databases = λ d. refl; kinds = λ k. sym (or_none (kind_at k w)); names = λ id. call_carried id n call w.carried.checkpoints; ulids = refl }
+      quiet = record { databases = λ d. refl; kinds = λ k. sym (or_none (kind_at k w)); names = λ id. call_carried id n call w.carried.checkpoints; ulids = λ id. call_carried_ulids id n call w.carried.ulids }
 
       by_state : (state : State) → Does (Start n call) w (start_state (carrying n call w) n p.facts state call).world
       by_state Resting = record {
         databases = λ d. refl;
         kinds = λ k. kind_kept (settled call (begin p.facts call)) refl k ∙ sym (or_none (kind_at k w));
         names = λ id. call_carried id n call w.carried.checkpoints;
-        ulids = refl;
+        ulids = λ id. call_carried_ulids id n call w.carried.ulids;
       }
       by_state (Busy task) = quiet
       by_state Halted = quiet
@@ -208,13 +215,13 @@ module _ (n : ℕ) (w : World) (p : Party) (at : party_of n w.parties ≡ Some p
         databases = λ d. refl;
         kinds = λ k. kind_kept (halted p.facts) refl k ∙ sym (or_none (kind_at k w));
         names = λ id. sym (or_false (is_carried checkpoint_cmp id w.carried.checkpoints));
-        ulids = refl;
+        ulids = λ id. sym (or_false (is_carried ulid_cmp id w.carried.ulids));
       }
 
       by_state : (state : State) → Does (Stop n) w (stop_state w n p.facts state).world
       by_state Resting = stops
       by_state (Busy task) = stops
-      by_state Halted = record { databases = λ d. refl; kinds = λ k. sym (or_none (kind_at k w)); names = λ id. sym (or_false (is_carried checkpoint_cmp id w.carried.checkpoints)); ulids = refl }
+      by_state Halted = record { databases = λ d. refl; kinds = λ k. sym (or_none (kind_at k w)); names = λ id. sym (or_false (is_carried checkpoint_cmp id w.carried.checkpoints)); ulids = λ id. sym (or_false (is_carried ulid_cmp id w.carried.ulids)) }
 
 -- a party that comes
 open_does : (n : ℕ) (kind : PartyKind) (db : List ℕ) (w : World) → party_of n w.parties ≡ None → Does (Open n kind db) w (record w { parties = insert_entry nat_cmp w.parties n (newcomer kind db) })
@@ -222,7 +229,7 @@ open_does n kind db w none = record {
   databases = λ d. refl;
   kinds = λ k. test k (k == n) refl;
   names = λ id. sym (or_false (is_carried checkpoint_cmp id w.carried.checkpoints));
-  ulids = refl;
+  ulids = λ id. sym (or_false (is_carried ulid_cmp id w.carried.ulids));
 }
   where
     test : (k : ℕ) (b : Bool) → (k == n) ≡ b → kind_of (party_of k (insert_entry nat_cmp w.parties n (newcomer kind db))) ≡ option_or (kind_at k w) (if b then Some kind else None)
@@ -265,21 +272,21 @@ record Did (es : List Event) (w v : World) : Type 0 where
   databases : (d : List ℕ) → is_some (tally_of d v.tallies) ≡ is_some (tally_of d w.tallies)
   kinds : (k : ℕ) → kind_at k v ≡ option_or (kind_at k w) (kind_opened k es)
   names : (id : List ℕ) → is_carried checkpoint_cmp id v.carried.checkpoints ≡ (is_carried checkpoint_cmp id w.carried.checkpoints || list_any (start_names id) es)
-  ulids : v.carried.ulids ≡ w.carried.ulids
+  ulids : (id : ℕ × ℕ) → is_carried ulid_cmp id v.carried.ulids ≡ (is_carried ulid_cmp id w.carried.ulids || list_any (start_names_ulid id) es)
 
 more_did : (e : Event) (es : List Event) (w mid v : World) → Does e w mid → Did es mid v → Did (e ∷ es) w v
 more_did e es w mid v a b = record {
   databases = λ d. b.databases d ∙ a.databases d;
   kinds = λ k. b.kinds k ∙ (ap (λ (o : Option PartyKind). option_or o (kind_opened k es)) (a.kinds k) ∙ (or_or (kind_at k w) (opened_as k e) (kind_opened k es) ∙ sym (ap (option_or (kind_at k w)) (first_kind k e es))));
   names = λ id. b.names id ∙ (ap (λ (x : Bool). x || list_any (start_names id) es) (a.names id) ∙ or_assoc (is_carried checkpoint_cmp id w.carried.checkpoints) (start_names id e) (list_any (start_names id) es));
-  ulids = b.ulids ∙ a.ulids;
+  ulids = λ id. b.ulids id ∙ (ap (λ (x : Bool). x || list_any (start_names_ulid id) es) (a.ulids id) ∙ or_assoc (is_carried ulid_cmp id w.carried.ulids) (start_names_ulid id e) (list_any (start_names_ulid id) es));
 }
 
 run_did : (es : List Event) (place : ℕ) (c v : Course) → run es place c ≡ ended v → Did es c.world v.world
 run_did [] place c v h =
     let same : c ≡ v = ap (λ (r : Ran). r.course) h in
     subst (λ (x : Course). Did [] c.world x.world) same
-    (record { databases = λ d. refl; kinds = λ k. sym (or_none (kind_at k c.world)); names = λ id. sym (or_false (is_carried checkpoint_cmp id c.world.carried.checkpoints)); ulids = refl })
+    (record { databases = λ d. refl; kinds = λ k. sym (or_none (kind_at k c.world)); names = λ id. sym (or_false (is_carried checkpoint_cmp id c.world.carried.checkpoints)); ulids = λ id. sym (or_false (is_carried ulid_cmp id c.world.carried.ulids)) })
 run_did (e ∷ es) place c v h = went (happens c.world e) refl h (λ d k. run_did es (place + 1) (going_on c d) v k)
   where
     went : (o : Option Transition) → happens c.world e ≡ o → (elim o as (λ _. Ran) [ None ↦ record { course = c; bad = Some place } | Some done ↦ run es (place + 1) (going_on c done) ]) ≡ ended v
@@ -289,6 +296,16 @@ run_did (e ∷ es) place c v h = went (happens c.world e) refl h (λ d k. run_di
 
 -- ---- bad events
 
+-- in a pool whose ids are those that were named, an id is stale where it was named or comes again
+stale_among : {K : Type 0} (cmp : K → K → Ordering) (is : K → K → Bool) (same : (a b : K) → is_at (cmp a) b ≡ is a b) (pool : Pool K) (was : K → Bool) → ((id : K) → is_carried cmp id pool ≡ was id)
+    → (ids others : List K) → is_stale_among cmp ids others pool ≡ (list_any was ids || comes_again is ids others)
+stale_among cmp is same pool was told [] others = refl
+stale_among {K} cmp is same pool was told (id ∷ ids) others =
+    ap (λ (b : Bool). b || list_any (is_at (cmp id)) (ids ++ others) || is_stale_among cmp ids others pool) (told id)
+    ∙ (ap (λ (b : Bool). was id || b || is_stale_among cmp ids others pool) (any_alike (is_at (cmp id)) (is id) (ids ++ others) (λ (x : K). same id x))
+    ∙ (ap (λ (b : Bool). was id || list_any (is id) (ids ++ others) || b) (stale_among cmp is same pool was told ids others)
+    ∙ shuffle (was id) (list_any (is id) (ids ++ others)) (list_any was ids) (comes_again is ids others)))
+
 kind_there : (o : Option Party) → is_some o ≡ is_some (kind_of o)
 kind_there None = refl
 kind_there (Some p) = refl
@@ -297,7 +314,7 @@ none_there : {X : Type 0} (o : Option X) → is_none o ≡ not (is_some o)
 none_there None = refl
 none_there (Some x) = refl
 
-start_refused : (w : World) (call : Call) (o : Option Party) → refuses_start w call o ≡ (lacks_call (kind_of o) call || is_stale_among (fresh_checkpoints call) (named_checkpoints call) w.carried.checkpoints)
+start_refused : (w : World) (call : Call) (o : Option Party) → refuses_start w call o ≡ (lacks_call (kind_of o) call || is_stale w.carried call)
 start_refused w call None = refl
 start_refused w call (Some p) = refl
 
@@ -315,9 +332,9 @@ module _ (specs : List DbSpec) (accepted : IsAccepted specs) (events : List Even
   pub checkpoints_named : (id : List ℕ) → is_carried checkpoint_cmp id end.carried.checkpoints ≡ was_named specs events id
   checkpoints_named id = did.names id ∙ ap (λ (b : Bool). b || list_any (start_names id) events) (checkpoints_open specs accepted.accepted id)
 
-  -- an id of a table or a view is carried where an opening value named it
-  pub ulids_named : (id : ℕ × ℕ) → is_carried ulid_cmp id end.carried.ulids ≡ was_ulid_named specs id
-  ulids_named id = ap (is_carried ulid_cmp id) did.ulids ∙ ulids_open specs id
+  -- so is an id of a table, a view or a compaction
+  pub ulids_named : (id : ℕ × ℕ) → is_carried ulid_cmp id end.carried.ulids ≡ was_ulid_named specs events id
+  ulids_named id = did.ulids id ∙ ap (λ (b : Bool). b || list_any (start_names_ulid id) events) (ulids_open specs id)
 
   database_there : (db : List ℕ) → is_some (tally_of db end.tallies) ≡ is_database db specs
   database_there db = did.databases db ∙ databases_open specs accepted.accepted db
@@ -325,12 +342,13 @@ module _ (specs : List DbSpec) (accepted : IsAccepted specs) (events : List Even
   never_came : (n : ℕ) → is_none (party_of n end.parties) ≡ not (was_opened n events)
   never_came n = none_there (party_of n end.parties) ∙ ap not (kind_there (party_of n end.parties) ∙ ap is_some (did.kinds n))
 
-  stale : (ids others : List (List ℕ)) → is_stale_among ids others end.carried.checkpoints ≡ (list_any (was_named specs events) ids || comes_again ids others)
-  stale [] others = refl
-  stale (id ∷ ids) others =
-      ap (λ (b : Bool). b || list_any (bytes_eq id) (ids ++ others) || is_stale_among ids others end.carried.checkpoints) (checkpoints_named id)
-      ∙ (ap (λ (b : Bool). was_named specs events id || list_any (bytes_eq id) (ids ++ others) || b) (stale ids others)
-      ∙ shuffle (was_named specs events id) (list_any (bytes_eq id) (ids ++ others)) (list_any (was_named specs events) ids) (comes_again ids others))
+  -- whether a call brings an id that isn't fresh
+  stale : (call : Call) → is_stale end.carried call ≡ is_old specs events call
+  stale call =
+      ap (λ (b : Bool). b || is_stale_among ulid_cmp (fresh_ulids call) (named_ulids call) end.carried.ulids)
+      (stale_among checkpoint_cmp bytes_eq is_eq-slice_cmp end.carried.checkpoints (was_named specs events) checkpoints_named (fresh_checkpoints call) (named_checkpoints call))
+      ∙ ap (λ (b : Bool). (list_any (was_named specs events) (fresh_checkpoints call) || comes_again bytes_eq (fresh_checkpoints call) (named_checkpoints call)) || b)
+      (stale_among ulid_cmp same_id ulid_at end.carried.ulids (was_ulid_named specs events) ulids_named (fresh_ulids call) (named_ulids call))
 
   -- an event is bad where the databases and the events done say so
   pub bad_after : (e : Event) → is_bad end e ≡ is_bad_after specs events e
@@ -339,7 +357,7 @@ module _ (specs : List DbSpec) (accepted : IsAccepted specs) (events : List Even
       ∙ ap (λ (b : Bool). was_opened n events || b) (none_there (tally_of db end.tallies) ∙ ap not (database_there db))
   bad_after (Start n call) =
       start_refused end call (party_of n end.parties)
-      ∙ (ap (λ (o : Option PartyKind). lacks_call o call || is_stale_among (fresh_checkpoints call) (named_checkpoints call) end.carried.checkpoints) (did.kinds n)
-      ∙ ap (λ (b : Bool). lacks_call (kind_opened n events) call || b) (stale (fresh_checkpoints call) (named_checkpoints call)))
+      ∙ (ap (λ (o : Option PartyKind). lacks_call o call || is_stale end.carried call) (did.kinds n)
+      ∙ ap (λ (b : Bool). lacks_call (kind_opened n events) call || b) (stale call))
   bad_after (Step n moment mark) = never_came n
   bad_after (Stop n) = never_came n

@@ -1,7 +1,8 @@
 -- What a call makes of its work's end.
-use Rattle.std.proofs.Common.{◌≡◌, ℕ, ℤ, ◌+◌, ◌<◌, ◌≤◌, ◌^◌, ◌==◌, false, List, Option, Some, None, Result, Ok, Err, refl, sym, ap, ◌∙◌, subst, arith}
+use Rattle.std.proofs.Common.{◌≡◌, ℕ, ℤ, ◌+◌, ◌<◌, ◌≤◌, ◌^◌, ◌==◌, true, false, List, Option, Some, None, Result, Ok, Err, refl, sym, ap, ◌∙◌, subst, arith}
 use Rattle.std.proofs.lemmas.Bool.Decides.{nat_tests}
 use Rattle.slate_ids.specs.Limits.{last_number}
+use Rattle.slate_ids.specs.Ulids.{is_id}
 use Rattle.slate_ids.specs.declared.error.SlateDBError.{SlateDBError}
 use Rattle.slate_layout.specs.Codec.{encoded}
 use Rattle.slate_manifest_parts.specs.Decoding.{decoded_manifest}
@@ -9,6 +10,7 @@ use Rattle.slate_model.specs.declared.manifest.Manifest.{Manifest}
 use Rattle.slate_store.specs.Machines.{Goes, Stay, End}
 use Rattle.slate_store.specs.Store.{Store}
 use Rattle.slate_store.specs.declared.store_answer.StoreAnswer.{StoreAnswer}
+use Rattle.slate_store.specs.declared.store_answer.StoreAnswer.TheVariants.{Written}
 use Rattle.slate_updates.specs.Changes.{made, right_of, fence_of, commit_of}
 use Rattle.slate_updates.specs.Rules.{manifest_refusal}
 use Rattle.slate_updates.specs.declared.manifest_change.ManifestChange.{ManifestChange}
@@ -24,15 +26,18 @@ use Rattle.slate_gc.specs.declared.gc_pass.GcPass.{GcPass}
 use Rattle.slate_gc.specs.declared.gc_pass.GcPass.TheVariants.{Reading, Committing, Collecting}
 use Rattle.slate_gc.specs.declared.pass_options.PassOptions.{PassOptions}
 use Rattle.slate_events.specs.declared.call.Call.{Call}
-use Rattle.slate_events.specs.declared.call.Call.TheVariants.{OpenWriter, Pass}
-use Rattle.slate_protocol.specs.Calls.{refusal_at_start, first_work, change_of, done, facts_after, Next, Go, Finish}
+use Rattle.slate_events.specs.declared.call.Call.TheVariants.{OpenWriter, Upload as UploadCall, Pass}
+use Rattle.slate_events.specs.declared.party_kind.PartyKind.{PartyKind}
+use Rattle.slate_events.specs.declared.party_kind.PartyKind.TheVariants.{Writer, Holder, Collector}
+use Rattle.slate_protocol.specs.Calls.{has_call, refusal_at_start, first_work, change_of, done, facts_after, Next, Go, Finish}
 use Rattle.slate_protocol.specs.Chains.{link_at, top}
 use Rattle.slate_protocol.specs.Logs.{Chain, Chains, manifests, log_of, phrase_of}
 use Rattle.slate_protocol.specs.Rows.{Standing, begin_unless, begin, commit_for, commit_next, after, ended, follow}
-use Rattle.slate_protocol.specs.Works.{WorkGoes, db_of, read_on, commit_on, pass_on, goes}
+use Rattle.slate_protocol.specs.Works.{WorkGoes, db_of, read_on, commit_on, put_end, pass_on, goes}
 use Rattle.slate_protocol.specs.declared.party.Facts.{Facts}
+use Rattle.slate_protocol.specs.declared.uploads.Upload.{Upload}
 use Rattle.slate_protocol.specs.declared.work.Ended.{Ended}
-use Rattle.slate_protocol.specs.declared.work.Ended.TheVariants.{NoManifest, ManifestRead, ManifestCommitted, Passed}
+use Rattle.slate_protocol.specs.declared.work.Ended.TheVariants.{NoManifest, ManifestRead, ManifestCommitted, TablePut, Passed}
 use Rattle.slate_protocol.specs.declared.work.Purpose.{Purpose}
 use Rattle.slate_protocol.specs.declared.work.Purpose.TheVariants.{Once}
 use Rattle.slate_protocol.specs.declared.work.Work.{Work}
@@ -49,6 +54,7 @@ abbrev pub Fits : Call → Work → Type 0
 Fits call (works.Pass db options phase) = (facts : Facts) → change_of facts call Once ≡ DropExpired
 Fits call (works.ReadManifest purpose db phase) = Unit {0}
 Fits call (works.CommitManifest purpose now db phase) = Unit {0}
+Fits call (works.PutTable db upload bytes) = Unit {0}
 
 -- what a party knows in its work: the database is one of the cluster
 pub record WorkKnows (Has : List ℕ → Type 0) (s : Store) (chains : Chains) (n : ℕ) (facts : Facts) (call : Call) (work : Work) : Type 0 where
@@ -66,11 +72,15 @@ room_for n top le small room = grind (arith, nat_tests)
 
 -- facts change, but for the database
 pub same_db : (facts : Facts) (call : Call) (end : Ended) → (facts_after facts call end).db ≡ facts.db
+same_db facts call (TablePut upload) = refl
 same_db facts OpenWriter (ManifestCommitted Once db n m) = refl
 same_db facts OpenWriter (ManifestRead purpose db n m) = refl
 same_db facts OpenWriter (NoManifest purpose) = refl
 same_db facts OpenWriter (Passed counts) = refl
-same_db facts _ end = refl
+same_db facts _ (ManifestCommitted purpose db n m) = refl
+same_db facts _ (ManifestRead purpose db n m) = refl
+same_db facts _ (NoManifest purpose) = refl
+same_db facts _ (Passed counts) = refl
 
 module _ (Has : List ℕ → Type 0) (s : Store) (chains : Chains) (n : ℕ) (call : Call) where
   -- the commit of what a change makes of a committed version
@@ -109,12 +119,14 @@ module _ (Has : List ℕ → Type 0) (s : Store) (chains : Chains) (n : ℕ) (ca
   EndBrings (NoManifest purpose) = Unit {0}
   EndBrings (ManifestRead purpose db k m) = Has db × (IsSound manifests db s (chains logs.Manifest db) × IsValue (chains logs.Manifest db) k m)
   EndBrings (ManifestCommitted purpose db k m) = Unit {0}
+  EndBrings (TablePut upload) = Unit {0}
   EndBrings (Passed counts) = Unit {0}
 
   after_reaches : (facts : Facts) (now : ℤ) (end : Ended) → Has facts.db → EndBrings end → NextKnows Has s chains n facts call (after facts call now end)
   after_reaches facts now (NoManifest purpose) own b = tt
   after_reaches facts now (ManifestRead purpose db k m) own b = commit_reaches facts purpose db own b.0 b.1.0 now k m (commit_for facts call purpose now k m) b.1.1 refl
   after_reaches facts now (ManifestCommitted purpose db k m) own b = done_reaches facts call purpose m own
+  after_reaches facts now (TablePut upload) own b = tt
   after_reaches facts now (Passed counts) own b = tt
 
   -- where a call stands
@@ -185,10 +197,16 @@ module _ (Has : List ℕ → Type 0) (s : Store) (chains : Chains) (n : ℕ) (ca
       gc_brings (Committing at phase) now answer b = gc_commit at (commit_goes phase answer) b
       gc_brings (Collecting phase) now answer b = gc_collect (pass_goes decoded_manifest options now phase answer) (b options)
 
+  -- the put of a table ends its call
+  put_goes_on : (facts : Facts) (db : List ℕ) (upload : Upload) (bytes : List ℕ) (answer : StoreAnswer) → GoesOn facts (End (works.PutTable db upload bytes) (put_end upload answer))
+  put_goes_on facts db upload bytes (Written tag) = tt
+  put_goes_on facts db upload bytes _ = tt
+
   work_goes_on : (facts : Facts) (work : Work) (now : ℤ) (answer : StoreAnswer) → Has (db_of work) → IsSound manifests (db_of work) s (chains logs.Manifest (db_of work)) → Fits call work → PhraseBrings s chains n facts call (phrase_of work) now answer
       → GoesOn facts (goes work now answer)
   work_goes_on facts (works.ReadManifest purpose db phase) now answer has i fits b = read_goes_on facts db has i purpose (read_goes logs.Manifest decoded_manifest phase answer) b
   work_goes_on facts (works.CommitManifest purpose at db phase) now answer has i fits b = commit_goes_on facts db has i purpose at (commit_goes phase answer) b
+  work_goes_on facts (works.PutTable db upload bytes) now answer has i fits b = put_goes_on facts db upload bytes answer
   work_goes_on facts (works.Pass db options phase) now answer has i fits b = pass_goes_on facts db has i options fits (gc_goes decoded_manifest encoded options now phase answer) (gc_brings facts db has i options fits phase now answer b)
 
   -- how the call goes on
@@ -196,14 +214,21 @@ module _ (Has : List ℕ → Type 0) (s : Store) (chains : Chains) (n : ℕ) (ca
       → PhraseBrings s chains n facts call (phrase_of work) now answer → Reaches (follow facts call now (goes work now answer))
   follow_reaches facts work now answer own has i fits b = followed facts now (goes work now answer) own (work_goes_on facts work now answer has i fits b)
 
--- how a call begins
-first_reaches : (Has : List ℕ → Type 0) (s : Store) (chains : Chains) (n : ℕ) (facts : Facts) (call : Call) → Has facts.db → WorkKnows Has s chains n facts call (first_work facts call)
-first_reaches Has s chains n facts (Pass pass min_age dry_run filter) own = record { has = own; fits = λ f. refl; knows = tt }
-first_reaches Has s chains n facts _ own = record { has = own; fits = tt; knows = tt }
+-- a table that a party may upload has the numbers of an id
+upload_is_id : (kind : PartyKind) (table : ℕ × ℕ) (first last : List ℕ) → has_call kind (UploadCall table first last) ≡ true → is_id table ≡ true
+upload_is_id Writer table first last h = h
+upload_is_id Holder table first last h = absurd cc
+upload_is_id Collector table first last h = absurd cc
 
-pub begin_reaches : (Has : List ℕ → Type 0) (s : Store) (chains : Chains) (n : ℕ) (facts : Facts) (call : Call) → Has facts.db → NextKnows Has s chains n facts call (begin facts call).next
-begin_reaches Has s chains n facts call own = unless (refusal_at_start facts call)
+-- how a call begins that the party has
+first_reaches : (Has : List ℕ → Type 0) (s : Store) (chains : Chains) (n : ℕ) (facts : Facts) (call : Call) → has_call facts.kind call ≡ true → Has facts.db → WorkKnows Has s chains n facts call (first_work facts call)
+first_reaches Has s chains n facts (UploadCall table first last) may own = record { has = own; fits = tt; knows = upload_is_id facts.kind table first last may }
+first_reaches Has s chains n facts (Pass pass min_age dry_run filter) may own = record { has = own; fits = λ f. refl; knows = tt }
+first_reaches Has s chains n facts _ may own = record { has = own; fits = tt; knows = tt }
+
+pub begin_reaches : (Has : List ℕ → Type 0) (s : Store) (chains : Chains) (n : ℕ) (facts : Facts) (call : Call) → has_call facts.kind call ≡ true → Has facts.db → NextKnows Has s chains n facts call (begin facts call).next
+begin_reaches Has s chains n facts call may own = unless (refusal_at_start facts call)
   where
     unless : (o : Option SlateDBError) → NextKnows Has s chains n facts call (begin_unless o facts call)
     unless (Some e) = tt
-    unless None = first_reaches Has s chains n facts call own
+    unless None = first_reaches Has s chains n facts call may own

@@ -13,7 +13,7 @@ use Rattle.slate_store.specs.declared.object.StoredObject.{StoredObject}
 use Rattle.slate_store.specs.declared.store_answer.StoreAnswer.{StoreAnswer}
 use Rattle.slate_store.specs.declared.store_answer.StoreAnswer.TheVariants.{Found, Got, Created, Replaced, Deleted, Fault}
 use Rattle.slate_events.specs.declared.call.Call.{Call}
-use Rattle.slate_events.specs.declared.call.Call.TheVariants.{Flush, Pass}
+use Rattle.slate_events.specs.declared.call.Call.TheVariants.{Upload as UploadCall, Pass}
 use Rattle.slate_log.specs.AdvancePhase.{AdvanceGoes, advance_goes, advance_due, read_goes_to, bound_goes, written_goes}
 use Rattle.slate_log.specs.Boundary.{boundary_of, boundary_got, greatest}
 use Rattle.slate_log.specs.Change.{wanted, some_commit}
@@ -43,12 +43,13 @@ use Rattle.slate_gc.specs.declared.pass_counts.PassCounts.{PassCounts}
 use Rattle.slate_gc.specs.declared.pass_options.PassOptions.{PassOptions}
 use Rattle.slate_gc.specs.declared.pass_phase.PassPhase.{PassPhase}
 use Rattle.slate_gc.specs.declared.pass_phase.PassPhase.TheVariants as passing
-use Rattle.slate_protocol.specs.Calls.{unless_open, change_of, done, facts_after, Next, Go, Finish}
+use Rattle.slate_protocol.specs.Calls.{refusal_at_start, first_work, change_of, done, facts_after, Next, Go, Finish}
 use Rattle.slate_protocol.specs.Rows.{commit_for, commit_next, after, follow, begin_unless, begin}
-use Rattle.slate_protocol.specs.Works.{WorkGoes, goes, is_due, read_on, commit_on, pass_on}
+use Rattle.slate_protocol.specs.Works.{WorkGoes, goes, is_due, read_on, commit_on, put_end, pass_on}
 use Rattle.slate_protocol.specs.declared.party.Facts.{Facts}
+use Rattle.slate_protocol.specs.declared.uploads.Upload.{Upload}
 use Rattle.slate_protocol.specs.declared.work.Ended.{Ended}
-use Rattle.slate_protocol.specs.declared.work.Ended.TheVariants.{NoManifest, ManifestRead, ManifestCommitted, Passed}
+use Rattle.slate_protocol.specs.declared.work.Ended.TheVariants.{NoManifest, ManifestRead, ManifestCommitted, TablePut, Passed}
 use Rattle.slate_protocol.specs.declared.work.Purpose.{Purpose}
 use Rattle.slate_protocol.specs.declared.work.Purpose.TheVariants.{Once}
 use Rattle.slate_protocol.specs.declared.work.Work.{Work}
@@ -282,9 +283,14 @@ pass_around db options (Stay phase) h = h
 pass_around db options (End phase (Ok counts)) h = tt
 pass_around db options (End phase (Err e)) h = tt
 
+put_around : (db : List ℕ) (upload : Upload) (bytes : List ℕ) (r : Result Ended SlateDBError) → WorkAt (End (work.PutTable db upload bytes) r)
+put_around db upload bytes (Ok end) = tt
+put_around db upload bytes (Err e) = tt
+
 work_due : (at : Work) (now : ℤ) (answer : StoreAnswer) → WorkAt (goes at now answer)
 work_due (work.ReadManifest purpose db phase) now answer = read_around purpose db (read_goes ManifestLog decoded_manifest phase answer) (reads_due phase answer)
 work_due (work.CommitManifest purpose made db phase) now answer = commit_around purpose made db (commit_goes phase answer) (commits_due phase answer)
+work_due (work.PutTable db upload bytes) now answer = put_around db upload bytes (put_end upload answer)
 work_due (work.Pass db options phase) now answer = pass_around db options (gc_goes decoded_manifest encoded options now phase answer) (collects_due options now phase answer)
 
 -- where a call goes on, a store call is due
@@ -305,6 +311,7 @@ after_due : (facts : Facts) (call : Call) (now : ℤ) (end : Ended) → DueNext 
 after_due facts call now (NoManifest purpose) = tt
 after_due facts call now (ManifestRead purpose db n m) = commit_at facts call purpose db now m (commit_for facts call purpose now n m) (made_due (change_of facts call purpose) now n m)
 after_due facts call now (ManifestCommitted purpose db n m) = done_due facts m call purpose
+after_due facts call now (TablePut upload) = tt
 after_due facts call now (Passed counts) = tt
 
 follow_at : (facts : Facts) (call : Call) (now : ℤ) (g : WorkGoes) → WorkAt g → DueNext (follow facts call now g).next
@@ -315,10 +322,14 @@ follow_at facts call now (End at (Err e)) h = tt
 pub follow_due : (facts : Facts) (call : Call) (now : ℤ) (at : Work) (answer : StoreAnswer) → DueNext (follow facts call now (goes at now answer)).next
 follow_due facts call now at answer = follow_at facts call now (goes at now answer) (work_due at now answer)
 
-open_due : (facts : Facts) (seq : ℕ) (tick : ℤ) (epoch : Option ℕ) → DueNext (begin_unless (unless_open epoch) facts (Flush seq tick))
-open_due facts seq tick None = tt
-open_due facts seq tick (Some e) = refl
+first_due : (facts : Facts) (call : Call) → is_due (first_work facts call) ≡ true
+first_due facts (UploadCall table first last) = refl
+first_due facts (Pass pass min_age dry_run filter) = refl
+first_due facts _ = refl
+
+unless_due : (facts : Facts) (call : Call) (refusal : Option SlateDBError) → DueNext (begin_unless refusal facts call)
+unless_due facts call (Some e) = tt
+unless_due facts call None = first_due facts call
 
 pub begin_due : (facts : Facts) (call : Call) → DueNext (begin facts call).next
-begin_due facts (Flush seq tick) = open_due facts seq tick facts.epoch
-begin_due facts _ = refl
+begin_due facts call = unless_due facts call (refusal_at_start facts call)

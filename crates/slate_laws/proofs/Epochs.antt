@@ -43,7 +43,7 @@ epochs_rise n u l (m ∷ c) h at =
 -- the epoch of the author is not below the epoch of the version before
 author_above : (change : ManifestChange) (old new : Manifest) (epoch : ℕ) → fence_of change old ≡ None → old.writer_epoch ≤ new.writer_epoch → writer_epoch_in change new ≡ Some epoch → old.writer_epoch ≤ epoch
 author_above RaiseWriter old new epoch passed up h = let same : new.writer_epoch ≡ epoch = cc in omega arith
-author_above (Flush writer seq tick) old new epoch passed up h = by_epoch writer passed h
+author_above (Flush writer batch) old new epoch passed up h = by_epoch writer passed h
   where
     by_epoch : (own : Option ℕ) → writer_fence own old.writer_epoch ≡ None → own ≡ Some epoch → old.writer_epoch ≤ epoch
     by_epoch None p e = absurd cc

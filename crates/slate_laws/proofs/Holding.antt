@@ -29,7 +29,7 @@ use Rattle.slate_protocol.specs.Holding.{IsVersion, IsMadeOf, Each, IsManifestTh
 use Rattle.slate_protocol.specs.Holding.IsMadeOf.{OfVersion as Makes, OfNone as Begins}
 use Rattle.slate_protocol.specs.Lawful.{IsAccepted, AreGood, chains_at_end, course_after, gone_after}
 use Rattle.slate_protocol.specs.Logs.{Held, Chain, Chains, Author, Phrase, log_of, manifests, phrase_of, world_after}
-use Rattle.slate_protocol.specs.Logs.Phrase.{Reads, Commits, Collects}
+use Rattle.slate_protocol.specs.Logs.Phrase.{Reads, Commits, Uploads, Collects}
 use Rattle.slate_protocol.specs.Owners.{owner_of}
 use Rattle.slate_protocol.specs.Owners.Owner.{Version}
 use Rattle.slate_protocol.specs.Reach.{IsSpare}
@@ -45,7 +45,7 @@ use Rattle.slate_protocol.specs.declared.party.State.TheVariants.{Busy}
 use Rattle.slate_protocol.specs.declared.party.Task.{Task}
 use Rattle.slate_protocol.specs.declared.work.Purpose.{Purpose}
 use Rattle.slate_protocol.specs.declared.work.Work.{Work}
-use Rattle.slate_protocol.specs.declared.work.Work.TheVariants.{ReadManifest, CommitManifest, Pass}
+use Rattle.slate_protocol.specs.declared.work.Work.TheVariants.{ReadManifest, CommitManifest, PutTable, Pass}
 use Rattle.slate_laws.proofs.AfterEvents.{after_inv, course_collected}
 use Rattle.slate_laws.proofs.Calls.{WorkKnows}
 use Rattle.slate_laws.proofs.Facts.{IsSound, IsMade, ReadKnows, ReadBrings}
@@ -108,12 +108,14 @@ bound_fails db k n v s moment Lost b read le = record { phase = Over; error = St
 abbrev PhraseFails : Store → ℤ → Mark → Phrase → Type 0
 PhraseFails s moment mark (Commits k db purpose now phase) = CommitFails (commit_goes phase (effect mark (commit_asks db k phase) moment s).answer)
 PhraseFails s moment mark (Reads k db phase) = ⊥
+PhraseFails s moment mark (Uploads db table bytes) = ⊥
 PhraseFails s moment mark (Collects db phase) = ⊥
 
 -- then the call ends with it
 work_fails : (s : Store) (moment : ℤ) (mark : Mark) (facts : Facts) (call : Call) (work : Work) → PhraseFails s moment mark (phrase_of work) → IsRefused (follow facts call moment (goes work moment (effect mark (asks work) moment s).answer)).next
 work_fails s moment mark facts call (ReadManifest purpose db phase) h = absurd h
 work_fails s moment mark facts call (CommitManifest purpose now db phase) h = record { error = h.error; is = ap (λ g. (follow facts call moment (commit_on purpose now db g)).next) h.is }
+work_fails s moment mark facts call (PutTable db upload bytes) h = absurd h
 work_fails s moment mark facts call (Pass db options (gc.Reading phase)) h = absurd h
 work_fails s moment mark facts call (Pass db options (gc.Committing now phase)) h = record { error = h.error; is = ap (λ g. (follow facts call moment (pass_on db options (whole_pass.commit_on now g))).next) h.is }
 work_fails s moment mark facts call (Pass db options (gc.Collecting phase)) h = absurd h

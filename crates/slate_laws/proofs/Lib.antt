@@ -43,6 +43,7 @@ mod Tops
 mod AfterEvents
 mod Bad
 mod DryRuns
+mod Elsewhere
 mod Encodable
 mod Pools
 mod Sources

@@ -8,22 +8,15 @@ use Rattle.std.specs.BTreeMap.{insert_entry}
 use Rattle.slate_ids.specs.FinePath.{IsFine}
 use Rattle.slate_ids.specs.Ids.{is_db_path}
 use Rattle.slate_ids.specs.PathText.{path_cmp}
-use Rattle.slate_ids.specs.UlidText.{ulid_of, ulid_text}
 use Rattle.slate_ids.specs.declared.object_path.ObjectPath.{ObjectPath}
 use Rattle.slate_ids.specs.declared.object_path.ObjectPath.TheVariants as paths
 use Rattle.slate_ids.proofs.PathsApart.{same_path}
-use Rattle.slate_ids.proofs.UlidTexts.{ulid_read}
 use Rattle.slate_tables.specs.declared.ss_table_info.SsTableInfo.{SsTableInfo}
 use Rattle.slate_events.specs.declared.db_spec.DbSpec.{DbSpec}
 use Rattle.slate_protocol.specs.Specs.{First, and_more, table_bytes, table_added, tables_from, all_tables_from}
 use Rattle.slate_ids.specs.Ulids.{is_id}
+use Rattle.slate_laws.proofs.Paths.{ulid_back}
 use Rattle.slate_laws.proofs.Beginnings.{AllNamed, Firsts, last_at, last_else, named_parts, AllFine, fine_put}
-
--- an id is read back from its text
-ulid_back : (id : ℕ × ℕ) → is_id id ≡ true → ulid_of (ulid_text id) ≡ Some id
-ulid_back id h =
-    let p = and_parts (nat_lt id.0 (2 ^ 48)) (nat_lt id.1 (2 ^ 80)) h in
-    ulid_read id (grind (arith, nat_tests)) (grind (arith, nat_tests))
 
 abbrev Table : Type 0
 Table = (ℕ × ℕ) × SsTableInfo

@@ -1,10 +1,17 @@
 -- The paths of a log are apart from one another, and from those of other logs.
-use Rattle.std.proofs.Common.{◌≡◌, ◌≢◌, ℕ, ◌<◌, ◌^◌, List, true, ◌⊎◌, inl, inr, ⊎_elim, refl, sym, ap, ◌∙◌, subst}
+use Rattle.std.proofs.Common.{◌≡◌, ◌≢◌, ℕ, ◌<◌, ◌^◌, List, true, Some, ◌⊎◌, inl, inr, ⊎_elim, refl, sym, ap, ◌∙◌, subst, arith}
+use Rattle.std.proofs.lemmas.Bool.{and_parts}
+use Rattle.std.proofs.lemmas.Bool.Decides.{nat_tests}
+use Rattle.std.specs.Prelude.{nat_lt}
 use Rattle.slate_ids.specs.FinePath.{IsFine}
 use Rattle.slate_ids.specs.Ids.{is_db_path}
 use Rattle.slate_ids.specs.PathText.{path_text}
+use Rattle.slate_ids.specs.UlidText.{ulid_of, ulid_text}
+use Rattle.slate_ids.specs.Ulids.{is_id}
 use Rattle.slate_ids.specs.declared.object_path.ObjectPath.{ObjectPath}
+use Rattle.slate_ids.specs.declared.object_path.ObjectPath.TheVariants as paths
 use Rattle.slate_ids.proofs.PathsApart.{same_path}
+use Rattle.slate_ids.proofs.UlidTexts.{ulid_read}
 use Rattle.slate_log.specs.LogPaths.{version_path, boundary_path}
 use Rattle.slate_log.specs.declared.log_kind.LogKind.{LogKind}
 use Rattle.slate_log.specs.declared.log_kind.LogKind.TheVariants.{Manifest, Compactions}
@@ -58,6 +65,29 @@ elsewhere kind db p named fine other = record {
   version = λ n small e. other.version n (sym (ap owner_of (same_path (version_path kind db n) p (version_fine db named kind n small) fine e)) ∙ version_owner kind db n);
   boundary = λ e. other.boundary (sym (ap owner_of (same_path (boundary_path kind db) p (boundary_fine db named kind) fine e)) ∙ boundary_owner kind db);
 }
+
+-- ---- paths that no log has
+
+-- a path that is neither a version nor a boundary of any log
+pub record IsNobodys (p : ObjectPath) : Type 0 where
+  pub fine : IsFine p
+  pub other : (kind : LogKind) (db : List ℕ) → IsOther kind db (owner_of p)
+
+-- it is elsewhere for each log
+pub nobodys_elsewhere : (kind : LogKind) (db : List ℕ) (p : ObjectPath) → is_db_path db ≡ true → IsNobodys p → IsElsewhere kind db p
+nobodys_elsewhere kind db p named h = elsewhere kind db p named h.fine (h.other kind db)
+
+-- an id is read back from its text
+pub ulid_back : (id : ℕ × ℕ) → is_id id ≡ true → ulid_of (ulid_text id) ≡ Some id
+ulid_back id h =
+    let p = and_parts (nat_lt id.0 (2 ^ 48)) (nat_lt id.1 (2 ^ 80)) h in
+    ulid_read id (grind (arith, nat_tests)) (grind (arith, nat_tests))
+
+-- the path of a table
+pub table_nobodys : (db : List ℕ) (id : ℕ × ℕ) → is_db_path db ≡ true → is_id id ≡ true → IsNobodys (paths.Table db id)
+table_nobodys db id named is = record { fine = (named, ulid_back id is); other = λ kind other. record { version = λ n e. cc; boundary = λ e. cc } }
+
+-- ---- paths of a log
 
 -- a version of a log of a database, or its boundary
 pub data IsOwn (kind : LogKind) (db : List ℕ) (p : ObjectPath) : Type 0 where

@@ -1,5 +1,5 @@
 -- Which keys there are in lists of entries that are kept in order: the databases, and the ids that were carried.
-use Rattle.std.proofs.Common.{◌≡◌, ◌≢◌, ℕ, ◌==◌, Bool, true, false, not, List, [], ◌∷◌, map, Option, Some, None, is_some, refl, sym, ap, ◌∙◌, subst, arith}
+use Rattle.std.proofs.Common.{◌≡◌, ◌≢◌, ℕ, ◌==◌, Bool, true, false, not, List, [], ◌∷◌, ◌++◌, map, Option, Some, None, is_some, refl, sym, ap, ◌∙◌, subst, arith}
 use Rattle.std.proofs.Math.Bool.{or_assoc}
 use Rattle.std.proofs.lemmas.Bool.Decides.{nat_tests}
 use Rattle.std.proofs.lemmas.List.Folds.{list_any-append}
@@ -19,8 +19,8 @@ use Rattle.slate_events.specs.declared.cluster_cause.ClusterCause.{ClusterCause}
 use Rattle.slate_events.specs.declared.cluster_cause.ClusterCause.TheVariants as cause
 use Rattle.slate_events.specs.declared.call.Call.{Call}
 use Rattle.slate_events.specs.declared.db_spec.DbSpec.{DbSpec}
-use Rattle.slate_protocol.specs.Calls.{fresh_checkpoints, named_checkpoints}
-use Rattle.slate_protocol.specs.Done.{is_pin, entry_names, opening_names, call_names, was_ulid_named}
+use Rattle.slate_protocol.specs.Calls.{fresh_checkpoints, named_checkpoints, fresh_ulids, named_ulids}
+use Rattle.slate_protocol.specs.Done.{is_pin, entry_names, opening_names, call_names, opening_names_ulid, call_names_ulid}
 use Rattle.slate_protocol.specs.Ids.{Pool, checkpoint_cmp, is_carried, brought_by, only_named, only_pinned, ids_of, with_id, with_ids, carried_again}
 use Rattle.slate_protocol.specs.Specs.{and_more, first_tally, tallies_from, ids_from, checkpoints_from, tables_seen_from, are_trees_in_order, are_ids_fine, objects_of, cause_beside, listed_or_none, entry_checkpoints, spec_ulids, opening_carried, opening_world, cause_of_specs}
 use Rattle.slate_protocol.specs.World.{tally_of}
@@ -46,7 +46,7 @@ shuffle false false true d = refl
 shuffle false false false d = refl
 
 -- tests that answer alike find alike
-any_alike : {X : Type 0} (p q : X → Bool) (xs : List X) → ((x : X) → p x ≡ q x) → list_any p xs ≡ list_any q xs
+pub any_alike : {X : Type 0} (p q : X → Bool) (xs : List X) → ((x : X) → p x ≡ q x) → list_any p xs ≡ list_any q xs
 any_alike p q [] h = refl
 any_alike p q (x ∷ xs) h = ap (λ (b : Bool). b || list_any p xs) (h x) ∙ ap (λ (b : Bool). q x || b) (any_alike p q xs h)
 
@@ -114,7 +114,7 @@ both Greater y = refl
 one_number : (a b : ℕ) → is_eq (nat_cmp a b) ≡ (a == b)
 one_number a b = grind (arith, nat_tests)
 
-ulid_at : (a b : ℕ × ℕ) → is_at (ulid_cmp a) b ≡ same_id a b
+pub ulid_at : (a b : ℕ × ℕ) → is_at (ulid_cmp a) b ≡ same_id a b
 ulid_at a b = both (nat_cmp a.0 b.0) (nat_cmp a.1 b.1) ∙ (ap (λ (x : Bool). x && is_eq (nat_cmp a.1 b.1)) (one_number a.0 b.0) ∙ ap (λ (x : Bool). (a.0 == b.0) && x) (one_number a.1 b.1))
 
 abbrev pair : ℕ → ℕ → ℕ × ℕ
@@ -220,19 +220,29 @@ module _ (id : List ℕ) where
       any_flat at_id (λ (spec : DbSpec). flat_map entry_checkpoints spec.manifest.external_dbs) specs
       ∙ any_alike (λ (spec : DbSpec). list_any at_id (flat_map entry_checkpoints spec.manifest.external_dbs)) others_ids specs (λ spec. entries_named spec.manifest.external_dbs)
 
-  -- those of a call
-  call_named : (n : ℕ) (call : Call) → list_any at_id (ids_of n call) ≡ call_names id call
-  call_named n call =
-      list_any-append at_id (map (brought_by n) (fresh_checkpoints call)) (map only_named (named_checkpoints call))
-      ∙ (ap (λ (b : Bool). b || list_any at_id (map only_named (named_checkpoints call))) (alike (brought_by n) (fresh_checkpoints call) (λ x. is_eq-slice_cmp id x))
-      ∙ (ap (λ (b : Bool). list_any (bytes_eq id) (fresh_checkpoints call) || b) (alike only_named (named_checkpoints call) (λ x. is_eq-slice_cmp id x))
-      ∙ sym (list_any-append (bytes_eq id) (fresh_checkpoints call) (named_checkpoints call))))
-    where
-      alike : (f : List ℕ → List ℕ × Carrier) (xs : List (List ℕ)) → ((x : List ℕ) → at_id (f x) ≡ bytes_eq id x) → list_any at_id (map f xs) ≡ list_any (bytes_eq id) xs
-      alike f xs h = any_mapped at_id f xs ∙ any_alike (λ (x : List ℕ). at_id (f x)) (bytes_eq id) xs h
+-- those of a call, in either pool
+module _ {K : Type 0} (cmp : K → K → Ordering) (order : IsKeyOrder cmp) (is : K → K → Bool) (same : (a b : K) → is_at (cmp a) b ≡ is a b) (id : K) where
+  abbrev at_key : K × Carrier → Bool
+  at_key e = is_at (cmp id) e.0
 
-  pub call_carried : (n : ℕ) (call : Call) (pool : Pool (List ℕ)) → is_carried checkpoint_cmp id (with_ids checkpoint_cmp (ids_of n call) pool) ≡ (is_carried checkpoint_cmp id pool || call_names id call)
-  call_carried n call pool = ids_more checkpoint_cmp name_order id (ids_of n call) pool ∙ ap (λ (b : Bool). is_carried checkpoint_cmp id pool || b) (call_named n call)
+  alike : (f : K → K × Carrier) (xs : List K) → ((x : K) → at_key (f x) ≡ is id x) → list_any at_key (map f xs) ≡ list_any (is id) xs
+  alike f xs h = any_mapped at_key f xs ∙ any_alike (λ (x : K). at_key (f x)) (is id) xs h
+
+  named_of : (n : ℕ) (fresh named : List K) → list_any at_key (ids_of n fresh named) ≡ list_any (is id) (fresh ++ named)
+  named_of n fresh named =
+      list_any-append at_key (map (brought_by n) fresh) (map only_named named)
+      ∙ (ap (λ (b : Bool). b || list_any at_key (map only_named named)) (alike (brought_by n) fresh (λ x. same id x))
+      ∙ (ap (λ (b : Bool). list_any (is id) fresh || b) (alike only_named named (λ x. same id x))
+      ∙ sym (list_any-append (is id) fresh named)))
+
+  carried_of : (n : ℕ) (fresh named : List K) (pool : Pool K) → is_carried cmp id (with_ids cmp (ids_of n fresh named) pool) ≡ (is_carried cmp id pool || list_any (is id) (fresh ++ named))
+  carried_of n fresh named pool = ids_more cmp order id (ids_of n fresh named) pool ∙ ap (λ (b : Bool). is_carried cmp id pool || b) (named_of n fresh named)
+
+pub call_carried : (id : List ℕ) (n : ℕ) (call : Call) (pool : Pool (List ℕ)) → is_carried checkpoint_cmp id (with_ids checkpoint_cmp (ids_of n (fresh_checkpoints call) (named_checkpoints call)) pool) ≡ (is_carried checkpoint_cmp id pool || call_names id call)
+call_carried id n call pool = carried_of checkpoint_cmp name_order bytes_eq is_eq-slice_cmp id n (fresh_checkpoints call) (named_checkpoints call) pool
+
+pub call_carried_ulids : (id : ℕ × ℕ) (n : ℕ) (call : Call) (pool : Pool (ℕ × ℕ)) → is_carried ulid_cmp id (with_ids ulid_cmp (ids_of n (fresh_ulids call) (named_ulids call)) pool) ≡ (is_carried ulid_cmp id pool || call_names_ulid id call)
+call_carried_ulids id n call pool = carried_of ulid_cmp ulid_order same_id ulid_at id n (fresh_ulids call) (named_ulids call) pool
 
 -- ---- of accepted databases
 
@@ -271,7 +281,7 @@ module _ (specs : List DbSpec) (accepted : cause_of_specs specs ≡ None) where
       ∙ (ap (λ (b : Bool). list_any (own_ids id) specs || b) (others_named id specs)
       ∙ any_either (own_ids id) (others_ids id) specs))
 
-pub ulids_open : (specs : List DbSpec) (id : ℕ × ℕ) → is_carried ulid_cmp id (opening_carried specs).ulids ≡ was_ulid_named specs id
+pub ulids_open : (specs : List DbSpec) (id : ℕ × ℕ) → is_carried ulid_cmp id (opening_carried specs).ulids ≡ list_any (opening_names_ulid id) specs
 ulids_open specs id =
     ids_more ulid_cmp ulid_order id (map only_named (flat_map spec_ulids specs)) []
     ∙ (any_mapped (λ (e : (ℕ × ℕ) × Carrier). is_at (ulid_cmp id) e.0) only_named (flat_map spec_ulids specs)

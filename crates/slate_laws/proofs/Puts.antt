@@ -2,7 +2,10 @@
 use Rattle.std.proofs.Common.{◌≡◌, ◌≢◌, ℕ, ℤ, ◌+◌, ◌<◌, ◌≤◌, ◌^◌, true, false, List, [], ◌∷◌, Option, Some, None, Ok, ◌⊎◌, inl, inr, ⊎_elim, refl, sym, ap, ◌∙◌, subst, arith}
 use Rattle.slate_ids.specs.Ids.{is_db_path}
 use Rattle.slate_ids.specs.declared.object_path.ObjectPath.{ObjectPath}
-use Rattle.slate_store.specs.Store.{Store, object_at, stored}
+use Rattle.slate_store.specs.Store.{Store, object_at, stored, under, whole}
+use Rattle.slate_store.specs.declared.mark.Mark.{Mark}
+use Rattle.slate_store.specs.declared.mark.Mark.TheVariants.{Good, Fail, Lost}
+use Rattle.slate_store.specs.declared.store_call.StoreCall.TheVariants.{Put}
 use Rattle.slate_store.specs.declared.object.StoredObject.{StoredObject}
 use Rattle.slate_log.specs.Boundary.{boundary_got}
 use Rattle.slate_log.specs.LogPaths.{version_path, boundary_path}
@@ -60,6 +63,13 @@ module _ {V A : Type 0} (log : Log V A) (db : List ℕ) where
       needed = λ k h. still_stands k (i.needed k h) (committed_small log db s c i k (i.needed k h));
       tagged = λ o at. let le = i.tagged o (sym same_object ∙ at) in omega arith;
     }
+
+  -- so does the put of an object elsewhere, whatever the mark
+  pub elsewhere_leaves : (author : A) (s : Store) (c : List (Link V A)) (p : ObjectPath) (bytes : List ℕ) (moment : ℤ) → IsElsewhere log.kind db p → IsSound log db s c → (mark : Mark)
+      → Leaves log db author s c (under mark (whole (Put p bytes) moment s) s).store c
+  elsewhere_leaves author s c p bytes moment away i Good = record { sound = elsewhere_sound s c p bytes moment away i; grows = elsewhere_grows s c p bytes moment away; changed = Stays refl }
+  elsewhere_leaves author s c p bytes moment away i Fail = leaves_not author s c i
+  elsewhere_leaves author s c p bytes moment away i Lost = record { sound = elsewhere_sound s c p bytes moment away i; grows = elsewhere_grows s c p bytes moment away; changed = Stays refl }
 
   -- the put of the next version
   module _ (named : is_db_path db ≡ true) (laws : IsLog log) (author : A) (s : Store) (c : List (Link V A)) (n : ℕ) (bytes : List ℕ) (v : V) (moment : ℤ)

@@ -195,7 +195,7 @@ open_brings n kind db w told None None d at m h = absurd cc
 open_brings n kind db w told None (Some t) d at m h = subst (λ (o : Option Transition). elim o as (λ _. Type 0) [ None ↦ Unit {0} | Some d ↦ Brought (Open n kind db) told w d ]) h (record {
   entry = refl;
   store = refl;
-  own = subst (Matches (Some (record { facts = record { kind = kind; db = db; epoch = None }; doing = Rests }))) (sym (insert_here nat_cmp number_order n (newcomer kind db) w.parties)) refl;
+  own = subst (Matches (Some (record { facts = record { kind = kind; db = db; epoch = None; uploads = [] }; doing = Rests }))) (sym (insert_here nat_cmp number_order n (newcomer kind db) w.parties)) refl;
   others = λ k ne. insert_else nat_cmp number_order n k (newcomer kind db) w.parties ne;
 })
 

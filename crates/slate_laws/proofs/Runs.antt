@@ -1,6 +1,7 @@
 -- Each event keeps what holds of the logs and what each party knows, and so does each list of events.
 use Rattle.std.proofs.Common.{◌≡◌, ◌≢◌, ℕ, ℤ, Bool, true, false, List, [], ◌∷◌, Option, Some, None, is_some, ◌⊎◌, inl, inr, ⊎_elim, refl, sym, ap, ◌∙◌, subst}
-use Rattle.std.specs.Prelude.{if◌then◌else◌}
+use Rattle.std.proofs.lemmas.Bool.{and_parts}
+use Rattle.std.specs.Prelude.{not, if◌then◌else◌}
 use Rattle.std.specs.Ordering.{nat_cmp}
 use Rattle.std.specs.BTreeMap.{insert_entry}
 use Rattle.slate_ids.specs.Ids.{is_db_path}
@@ -17,7 +18,7 @@ use Rattle.slate_events.specs.declared.event.Event.TheVariants.{Open, Start, Ste
 use Rattle.slate_events.specs.declared.party_kind.PartyKind.{PartyKind}
 use Rattle.slate_protocol.specs.Chains.{Changed}
 use Rattle.slate_protocol.specs.Chains.Changed.{Stays}
-use Rattle.slate_protocol.specs.Logs.{Author, Held, log_of, Chain, Chains, Phrase, Reads, Commits, Collects, phrase_of, put_by, chains_put, chains_stepped, chains_state, chains_at, chains_after, world_after, chains_of}
+use Rattle.slate_protocol.specs.Logs.{Author, Held, log_of, Chain, Chains, Phrase, Reads, Commits, Uploads, Collects, phrase_of, put_by, chains_put, chains_stepped, chains_state, chains_at, chains_after, world_after, chains_of}
 use Rattle.slate_protocol.specs.Rows.{Standing, begin, follow}
 use Rattle.slate_protocol.specs.Works.{db_of, asks, goes, is_due}
 use Rattle.slate_protocol.specs.World.{World, Transition, party_of, with_party, tally_of, tallied, wrote, noted, newcomer, settled, stepped, step_state, start_state, halted, stop_state, carrying, may_start, open_at, start_at, step_at, stop_at, happens, HasDb}
@@ -27,21 +28,22 @@ use Rattle.slate_protocol.specs.declared.party.State.{State}
 use Rattle.slate_protocol.specs.declared.party.State.TheVariants.{Resting, Busy, Halted}
 use Rattle.slate_protocol.specs.declared.party.Task.{Task}
 use Rattle.slate_protocol.specs.declared.tally.Tally.{Tally}
-use Rattle.slate_protocol.specs.Calls.{Next, Go, Finish}
+use Rattle.slate_protocol.specs.Calls.{has_call, Next, Go, Finish}
+use Rattle.slate_protocol.specs.Ids.{is_stale}
 use Rattle.slate_protocol.specs.declared.work.Work.{Work}
 use Rattle.slate_laws.proofs.Stores.{IsTidy, same_name}
 use Rattle.slate_laws.proofs.Maps.{number_order, set_here, set_else, insert_here, insert_else}
 use Rattle.slate_laws.proofs.Links.{same_or_not}
 use Rattle.slate_laws.proofs.Facts.{IsSound, Grows}
 use Rattle.slate_laws.proofs.Frame.{kept_read, kept_commit}
-use Rattle.slate_laws.proofs.Paths.{IsOwn, IsElsewhere, AreApart, own_elsewhere}
+use Rattle.slate_laws.proofs.Paths.{IsOwn, IsElsewhere, AreApart, own_elsewhere, nobodys_elsewhere}
 use Rattle.slate_laws.proofs.Moves.{gone_grows, gone_sound}
 use Rattle.slate_laws.proofs.Passes.{kept_pass}
 use Rattle.slate_laws.proofs.Puts.{grows_not, elsewhere_grows, elsewhere_sound}
 use Rattle.slate_laws.proofs.Steps.{log_in, db_in, phrase_asks, work_asks, work_db, author_of, author_in, PhraseKnows, PhraseBrings, AfterPhrase, none_put, put_of, other_put, phrase_step}
 use Rattle.slate_laws.proofs.Calls.{WorkKnows, NextKnows, Reaches, follow_reaches, begin_reaches}
 use Rattle.slate_laws.proofs.Tallies.{StoreAfter, store_after, tidy_after, same_kind, its_kind, Told, TalliesAfter, tallies_after}
-use Rattle.slate_laws.proofs.Tallies.StoreAfter.{Same, Wrote, Gone}
+use Rattle.slate_laws.proofs.Tallies.StoreAfter.{Same, Wrote, Gone, WroteElse}
 
 -- what a party knows, by its state
 abbrev pub StateKnows : (List ℕ → Type 0) → Store → Chains → ℕ → Facts → State → Type 0
@@ -71,6 +73,7 @@ phrase_kept : (s : Store) (chains : Chains) (s' : Store) (chains' : Chains) (n :
     → PhraseKnows s chains n facts call phrase → PhraseKnows s' chains' n facts call phrase
 phrase_kept s chains s' chains' n facts call (Reads k db phase) g h = kept_read (log_of k) db s (chains k db) s' (chains' k db) g phase h
 phrase_kept s chains s' chains' n facts call (Commits k db purpose now phase) g h = kept_commit (log_of k) db s (chains k db) s' (chains' k db) g (author_of n facts call purpose now) phase h
+phrase_kept s chains s' chains' n facts call (Uploads db table bytes) g h = h
 phrase_kept s chains s' chains' n facts call (Collects db phase) g h = kept_pass s (chains logs.Manifest db) s' (chains' logs.Manifest db) db g phase h
 
 module _ (Has Has' : List ℕ → Type 0) (s : Store) (chains : Chains) (s' : Store) (chains' : Chains) (still : (d : List ℕ) → Has d → Has' d) (grows : (k : LogKind) (d : List ℕ) → Has d → LogGrows s chains s' chains' k d) where
@@ -139,11 +142,13 @@ module _ (s s' : Store) (k : LogKind) (db : List ℕ) (j : LogKind) (d : List �
   other_grows : StoreAfter k db s s' → Grows (log_of j) d s c s' c
   other_grows (Same e) = subst (λ (t : Store). Grows (log_of j) d s c t c) (sym e) (grows_not (log_of j) d s c)
   other_grows (Wrote p bytes moment is e) = subst (λ (t : Store). Grows (log_of j) d s c t c) (sym e) (elsewhere_grows (log_of j) d s c p bytes moment (away p is))
+  other_grows (WroteElse p bytes moment other e) = subst (λ (t : Store). Grows (log_of j) d s c t c) (sym e) (elsewhere_grows (log_of j) d s c p bytes moment (nobodys_elsewhere (log_of j).kind d p named other))
   other_grows (Gone p is e) = subst (λ (t : Store). Grows (log_of j) d s c t c) (sym e) (gone_grows (log_of j) d s c p (away p is))
 
   other_sound : StoreAfter k db s s' → IsSound (log_of j) d s c → IsSound (log_of j) d s' c
   other_sound (Same e) i = subst (λ (t : Store). IsSound (log_of j) d t c) (sym e) i
   other_sound (Wrote p bytes moment is e) i = subst (λ (t : Store). IsSound (log_of j) d t c) (sym e) (elsewhere_sound (log_of j) d s c p bytes moment (away p is) i)
+  other_sound (WroteElse p bytes moment other e) i = subst (λ (t : Store). IsSound (log_of j) d t c) (sym e) (elsewhere_sound (log_of j) d s c p bytes moment (nobodys_elsewhere (log_of j).kind d p named other) i)
   other_sound (Gone p is e) i = subst (λ (t : Store). IsSound (log_of j) d t c) (sym e) (gone_sound (log_of j) d s c p (away p is) i)
 
 -- one log, or two
@@ -157,6 +162,7 @@ same_place j d k db =
 -- a put of a phrase leaves the other chains
 other_chain : (b : Bool) (n : ℕ) (facts : Facts) (call : Call) (phrase : Phrase) (chains : Chains) (j : LogKind) (d : List ℕ) → AreApart j d (log_in phrase) (db_in phrase) → chains_put b (put_by n facts call phrase) chains j d ≡ chains j d
 other_chain b n facts call (Reads k db phase) chains j d apart = none_put b chains j d
+other_chain b n facts call (Uploads db table bytes) chains j d apart = none_put b chains j d
 other_chain b n facts call (Collects db phase) chains j d apart = none_put b chains j d
 other_chain b n facts call (Commits k db purpose now (committing.Putting m bytes v)) chains j d apart =
     other_put b k db (record { number = m; bytes = bytes; value = (log_of k).normal v; by = Some (author_of n facts call purpose now) }) chains j d apart
@@ -232,7 +238,7 @@ module _ (w : World) (chains : Chains) (i : Inv w chains) (n : ℕ) (p : Party) 
             (
               a.brings,
               (
-                store_after w.store chains n facts task.call mark moment phrase sound knows.knows,
+                store_after w.store chains n facts task.call mark moment phrase (i.named db0 has) sound knows.knows,
                 tallies_after w.store chains w.tallies i.told n facts task.call phrase (wrote w.store (effect mark (phrase_asks phrase) moment w.store).store) sound knows.knows,
               ),
             ),
@@ -308,15 +314,15 @@ step_inv w chains n p moment mark i at (Busy task) k = test (is_due task.work) (
     test true h = h
     test false h = i
 
-start_inv : (w : World) (chains : Chains) (n : ℕ) (p : Party) (call : Call) → Inv w chains → party_of n w.parties ≡ Some p → (state : State) → Inv (start_state w n p.facts state call).world chains
-start_inv w chains n p call i at Resting =
+start_inv : (w : World) (chains : Chains) (n : ℕ) (p : Party) (call : Call) → has_call p.facts.kind call ≡ true → Inv w chains → party_of n w.parties ≡ Some p → (state : State) → Inv (start_state w n p.facts state call).world chains
+start_inv w chains n p call may i at Resting =
     let standing = begin p.facts call in
     moved_inv w chains n p (settled call standing) i at (record {
       has = (i.parties n p at).has;
-      knows = settle_knows (HasDb w) w.store chains n call p.facts standing.next (begin_reaches (HasDb w) w.store chains n p.facts call (i.parties n p at).has);
+      knows = settle_knows (HasDb w) w.store chains n call p.facts standing.next (begin_reaches (HasDb w) w.store chains n p.facts call may (i.parties n p at).has);
     })
-start_inv w chains n p call i at (Busy task) = i
-start_inv w chains n p call i at Halted = i
+start_inv w chains n p call may i at (Busy task) = i
+start_inv w chains n p call may i at Halted = i
 
 -- ids that are carried change nothing of it
 carried_inv : (w : World) (chains : Chains) (n : ℕ) (call : Call) → Inv w chains → Inv (carrying n call w) chains
@@ -356,13 +362,15 @@ event_inv w chains (Open n kind db) d h i = opened (party_of n w.parties) (tally
     opened (Some p) t none found h = absurd cc
 event_inv w chains (Start n call) d h i = started (party_of n w.parties) refl h
   where
-    test : (p : Party) (b : Bool) → party_of n w.parties ≡ Some p → (if b then Some (start_state (carrying n call w) n p.facts p.state call) else None) ≡ Some d → Inv d.world chains
-    test p true at h = let same : start_state (carrying n call w) n p.facts p.state call ≡ d = cc in subst (λ (r : Transition). Inv r.world chains) same (start_inv (carrying n call w) chains n p call (carried_inv w chains n call i) at p.state)
-    test p false at h = absurd cc
+    test : (p : Party) (b : Bool) → may_start w call p ≡ b → party_of n w.parties ≡ Some p → (if b then Some (start_state (carrying n call w) n p.facts p.state call) else None) ≡ Some d → Inv d.world chains
+    test p true may at h =
+        let same : start_state (carrying n call w) n p.facts p.state call ≡ d = cc in
+        subst (λ (r : Transition). Inv r.world chains) same (start_inv (carrying n call w) chains n p call (and_parts (has_call p.facts.kind call) (not (is_stale w.carried call)) may).0 (carried_inv w chains n call i) at p.state)
+    test p false may at h = absurd cc
 
     started : (o : Option Party) → party_of n w.parties ≡ o → start_at w n call o ≡ Some d → Inv d.world chains
     started None at h = absurd cc
-    started (Some p) at h = test p (may_start w call p) at h
+    started (Some p) at h = test p (may_start w call p) refl at h
 event_inv w chains (Step n moment mark) d h i = went (party_of n w.parties) refl h
   where
     went : (o : Option Party) → party_of n w.parties ≡ o → step_at w n moment mark o ≡ Some d → Inv d.world (chains_at w n o moment mark chains)

@@ -2,11 +2,14 @@
 use Rattle.std.proofs.Common.{◌≡◌, ◌≢◌, ℕ, ℤ, pos, Bool, true, false, List, Option, Some, None, ◌⊎◌, inl, inr, refl, sym, ap, ◌∙◌, subst}
 use Rattle.std.specs.Prelude.{if◌then◌else◌, bytes_eq}
 use Rattle.slate_ids.specs.Ids.{is_db_path}
+use Rattle.slate_ids.specs.Ulids.{is_id}
+use Rattle.slate_ids.specs.declared.object_path.ObjectPath.TheVariants as paths
 use Rattle.slate_manifest_parts.specs.Decoding.{decoded_manifest}
-use Rattle.slate_store.specs.Store.{Store, effect}
+use Rattle.slate_store.specs.Store.{Store, effect, taken}
 use Rattle.slate_store.specs.declared.mark.Mark.{Mark}
 use Rattle.slate_store.specs.declared.store_answer.StoreAnswer.{StoreAnswer}
 use Rattle.slate_store.specs.declared.store_call.StoreCall.{StoreCall}
+use Rattle.slate_store.specs.declared.store_call.StoreCall.TheVariants as store_call
 use Rattle.slate_log.specs.CommitPhase.{commit_asks, commit_goes}
 use Rattle.slate_log.specs.ReadPhase.{read_asks, read_goes}
 use Rattle.slate_log.specs.declared.commit_phase.CommitPhase.{CommitPhase}
@@ -19,7 +22,7 @@ use Rattle.slate_gc.specs.declared.gc_pass.GcPass.TheVariants as passing
 use Rattle.slate_gc.specs.declared.pass_options.PassOptions.{PassOptions}
 use Rattle.slate_events.specs.declared.call.Call.{Call}
 use Rattle.slate_protocol.specs.Chains.{Link, with_link}
-use Rattle.slate_protocol.specs.Logs.{Author, Held, log_of, Chain, Chains, Phrase, Reads, Commits, Collects, phrase_of, Put, put_by, chain_with, chains_put}
+use Rattle.slate_protocol.specs.Logs.{Author, Held, log_of, Chain, Chains, Phrase, Reads, Commits, Uploads, Collects, phrase_of, Put, put_by, chain_with, chains_put}
 use Rattle.slate_protocol.specs.Works.{db_of, asks}
 use Rattle.slate_protocol.specs.World.{wrote}
 use Rattle.slate_protocol.specs.declared.party.Facts.{Facts}
@@ -30,34 +33,38 @@ use Rattle.slate_protocol.specs.declared.work.Work.TheVariants as works
 use Rattle.slate_laws.proofs.Stores.{IsTidy, decides, bytes_same}
 use Rattle.slate_laws.proofs.Facts.{IsSound, ReadKnows, CommitKnows, ReadBrings, CommitBrings}
 use Rattle.slate_laws.proofs.Manifests.{log_laws}
-use Rattle.slate_laws.proofs.Paths.{AreApart}
-use Rattle.slate_laws.proofs.Puts.{Leaves, leaves_not}
+use Rattle.slate_laws.proofs.Paths.{AreApart, nobodys_elsewhere, table_nobodys}
+use Rattle.slate_laws.proofs.Puts.{Leaves, leaves_not, elsewhere_leaves}
 use Rattle.slate_laws.proofs.Turns.{chain_if, read_step, bound_step, put_step}
 use Rattle.slate_laws.proofs.Passes.{PassKnows, PassBrings, pass_step}
 
 -- ---- phrases
 
--- the log of a phrase, and its database
+-- the log of a phrase, and its database; the put of a table is of no log, and leaves that of manifests as it is
 abbrev pub log_in : Phrase → LogKind
 log_in (Reads k db phase) = k
 log_in (Commits k db purpose now phase) = k
+log_in (Uploads db table bytes) = logs.Manifest
 log_in (Collects db phase) = logs.Manifest
 
 abbrev pub db_in : Phrase → List ℕ
 db_in (Reads k db phase) = db
 db_in (Commits k db purpose now phase) = db
+db_in (Uploads db table bytes) = db
 db_in (Collects db phase) = db
 
 -- its store call
 abbrev pub phrase_asks : Phrase → StoreCall
 phrase_asks (Reads k db phase) = read_asks db (log_of k).kind phase
 phrase_asks (Commits k db purpose now phase) = commit_asks db (log_of k).kind phase
+phrase_asks (Uploads db table bytes) = store_call.Put (paths.Table db table) bytes
 phrase_asks (Collects db phase) = pass_asks db phase
 
 -- they are those of the work
 pub work_asks : (work : Work) → asks work ≡ phrase_asks (phrase_of work)
 work_asks (works.ReadManifest purpose db phase) = refl
 work_asks (works.CommitManifest purpose now db phase) = refl
+work_asks (works.PutTable db upload bytes) = refl
 work_asks (works.Pass db options (passing.Reading phase)) = refl
 work_asks (works.Pass db options (passing.Committing now phase)) = refl
 work_asks (works.Pass db options (passing.Collecting phase)) = refl
@@ -65,6 +72,7 @@ work_asks (works.Pass db options (passing.Collecting phase)) = refl
 pub work_db : (work : Work) → db_in (phrase_of work) ≡ db_of work
 work_db (works.ReadManifest purpose db phase) = refl
 work_db (works.CommitManifest purpose now db phase) = refl
+work_db (works.PutTable db upload bytes) = refl
 work_db (works.Pass db options (passing.Reading phase)) = refl
 work_db (works.Pass db options (passing.Committing now phase)) = refl
 work_db (works.Pass db options (passing.Collecting phase)) = refl
@@ -77,23 +85,27 @@ author_of n facts call purpose now = record { party = n; facts = facts; call = c
 abbrev pub author_in : ℕ → Facts → Call → Phrase → Author
 author_in n facts call (Reads k db phase) = author_of n facts call Once (pos 0)
 author_in n facts call (Commits k db purpose now phase) = author_of n facts call purpose now
+author_in n facts call (Uploads db table bytes) = author_of n facts call Once (pos 0)
 author_in n facts call (Collects db phase) = author_of n facts call Once (pos 0)
 
 pub author_party : (n : ℕ) (facts : Facts) (call : Call) (phrase : Phrase) → (author_in n facts call phrase).party ≡ n
 author_party n facts call (Reads k db phase) = refl
 author_party n facts call (Commits k db purpose now phase) = refl
+author_party n facts call (Uploads db table bytes) = refl
 author_party n facts call (Collects db phase) = refl
 
 -- what a party knows while it is in a phrase
 abbrev pub PhraseKnows : Store → Chains → ℕ → Facts → Call → Phrase → Type 0
 PhraseKnows s chains n facts call (Reads k db phase) = ReadKnows (log_of k) db s (chains k db) phase
 PhraseKnows s chains n facts call (Commits k db purpose now phase) = CommitKnows (log_of k) db s (chains k db) (author_of n facts call purpose now) phase
+PhraseKnows s chains n facts call (Uploads db table bytes) = is_id table ≡ true
 PhraseKnows s chains n facts call (Collects db phase) = PassKnows s (chains logs.Manifest db) db phase
 
 -- what a phrase's answer at a moment brings
 abbrev pub PhraseBrings : Store → Chains → ℕ → Facts → Call → Phrase → ℤ → StoreAnswer → Type 0
 PhraseBrings s chains n facts call (Reads k db phase) moment answer = ReadBrings (log_of k) db s (chains k db) (read_goes (log_of k).kind (log_of k).decoded phase answer)
 PhraseBrings s chains n facts call (Commits k db purpose now phase) moment answer = CommitBrings (log_of k) db s (chains k db) (author_of n facts call purpose now) (commit_goes phase answer)
+PhraseBrings s chains n facts call (Uploads db table bytes) moment answer = Unit {0}
 PhraseBrings s chains n facts call (Collects db phase) moment answer = (options : PassOptions) → PassBrings s (chains logs.Manifest db) db (pass_goes decoded_manifest options moment phase answer)
 
 -- ---- the chain of this log after a put, and those of the others
@@ -185,6 +197,21 @@ module _ (s : Store) (chains : Chains) (n : ℕ) (facts : Facts) (call : Call) (
         }
     commits named purpose now Over h = absurd h
 
+  -- a step of the put of a table, which leaves the log as it is
+  uploads : (db : List ℕ) (table : ℕ × ℕ) (bytes : List ℕ) → is_db_path db ≡ true → IsSound (log_of logs.Manifest) db s (chains logs.Manifest db) → is_id table ≡ true → AfterPhrase s chains n facts call (Uploads db table bytes) mark moment
+  uploads db table bytes named i is =
+      let author = author_of n facts call Once (pos 0) in
+      let put = store_call.Put (paths.Table db table) bytes in
+      let o = effect mark put moment s in
+      let c = chains logs.Manifest db in
+      let chain = none_put (wrote s o.store) chains logs.Manifest db in
+      let away = nobodys_elsewhere logs.Manifest db (paths.Table db table) named (table_nobodys db table named is) in
+      record {
+        leaves = subst (λ (d : Chain logs.Manifest). Leaves (log_of logs.Manifest) db author s c o.store d) (sym chain)
+            (elsewhere_leaves (log_of logs.Manifest) db author s c (paths.Table db table) bytes moment away i (taken mark put s));
+        brings = tt;
+      }
+
   -- a step of what a pass collects
   collects : (db : List ℕ) (named : is_db_path db ≡ true) (i : IsSound (log_of logs.Manifest) db s (chains logs.Manifest db)) (phase : _) → PassKnows s (chains logs.Manifest db) db phase → AfterPhrase s chains n facts call (Collects db phase) mark moment
   collects db named i phase h =
@@ -201,4 +228,5 @@ module _ (s : Store) (chains : Chains) (n : ℕ) (facts : Facts) (call : Call) (
   pub phrase_step : (phrase : Phrase) → is_db_path (db_in phrase) ≡ true → IsSound (log_of (log_in phrase)) (db_in phrase) s (chains (log_in phrase) (db_in phrase)) → PhraseKnows s chains n facts call phrase → AfterPhrase s chains n facts call phrase mark moment
   phrase_step (Reads k db phase) named i h = reads k db i phase h
   phrase_step (Commits k db purpose now phase) named i h = commits k db i named purpose now phase h
+  phrase_step (Uploads db table bytes) named i h = uploads db table bytes named i h
   phrase_step (Collects db phase) named i h = collects db named i phase h

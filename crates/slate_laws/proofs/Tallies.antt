@@ -3,14 +3,15 @@ use Rattle.std.proofs.Common.{◌≡◌, ◌≢◌, ℕ, ℤ, ◌+◌, ◌<◌, 
 use Rattle.std.specs.Prelude.{decimal}
 use Rattle.slate_ids.specs.Ids.{is_db_path}
 use Rattle.slate_ids.specs.declared.object_path.ObjectPath.{ObjectPath}
-use Rattle.slate_store.specs.Store.{Store, object_at, stored, removed, has_tag, put_new, replace, under, taken, effect}
+use Rattle.slate_ids.specs.declared.object_path.ObjectPath.TheVariants as paths
+use Rattle.slate_store.specs.Store.{Store, object_at, stored, removed, has_tag, put_new, replace, whole, under, taken, effect}
 use Rattle.slate_store.specs.declared.mark.Mark.{Mark}
 use Rattle.slate_store.specs.declared.mark.Mark.TheVariants.{Good, Fail, Lost}
 use Rattle.slate_store.specs.declared.object.ObjectMetadata.{ObjectMetadata}
 use Rattle.slate_store.specs.declared.object.StoredObject.{StoredObject}
 use Rattle.slate_store.specs.declared.store_answer.StoreAnswer.{StoreAnswer}
 use Rattle.slate_store.specs.declared.store_answer.StoreAnswer.TheVariants.{Deleted}
-use Rattle.slate_store.specs.declared.store_call.StoreCall.TheVariants.{PutNew, Replace}
+use Rattle.slate_store.specs.declared.store_call.StoreCall.TheVariants.{PutNew, Replace, Put}
 use Rattle.slate_log.specs.AdvancePhase.{advance_asks}
 use Rattle.slate_log.specs.LogPaths.{version_path, boundary_path}
 use Rattle.slate_log.specs.declared.advance_phase.AdvancePhase.{AdvancePhase}
@@ -26,7 +27,7 @@ use Rattle.slate_gc.specs.declared.pass_phase.PassPhase.{PassPhase}
 use Rattle.slate_gc.specs.declared.pass_phase.PassPhase.TheVariants as passing
 use Rattle.slate_events.specs.declared.call.Call.{Call}
 use Rattle.slate_protocol.specs.Chains.{Link, link_at, top, if_new}
-use Rattle.slate_protocol.specs.Logs.{Author, Held, log_of, Chain, Chains, Phrase, Reads, Commits, Collects, put_by, chains_put}
+use Rattle.slate_protocol.specs.Logs.{Author, Held, log_of, Chain, Chains, Phrase, Reads, Commits, Uploads, Collects, put_by, chains_put}
 use Rattle.slate_protocol.specs.World.{tally_of, number_in, tallied, committed, raise_tally, to_manifest, to_record}
 use Rattle.slate_protocol.specs.declared.party.Facts.{Facts}
 use Rattle.slate_protocol.specs.declared.tally.Tally.{Tally}
@@ -34,7 +35,7 @@ use Rattle.slate_laws.proofs.Stores.{IsTidy, tidy_put, tidy_left, put_object, sa
 use Rattle.slate_laws.proofs.Links.{at_most, next_number}
 use Rattle.slate_laws.proofs.Maps.{name_order, set_here, set_else}
 use Rattle.slate_laws.proofs.Facts.{IsSound, IsNext}
-use Rattle.slate_laws.proofs.Paths.{IsOwn, AreApart, own_fine}
+use Rattle.slate_laws.proofs.Paths.{IsOwn, IsNobodys, AreApart, own_fine, table_nobodys}
 use Rattle.slate_laws.proofs.Paths.IsOwn.{OwnVersion, OwnBoundary}
 use Rattle.slate_laws.proofs.Passes.{PassKnows}
 use Rattle.slate_laws.proofs.Steps.{log_in, db_in, phrase_asks, author_of, PhraseKnows, put_of, own_put, other_put, none_put}
@@ -44,11 +45,12 @@ Tallies = List (List ℕ × Tally)
 
 -- ---- the store after a step
 
--- a step leaves the store, or writes or deletes at a path of a database's log
+-- a step leaves the store, or writes or deletes at a path of a database's log, or writes at one that no log has
 pub data StoreAfter (k : LogKind) (db : List ℕ) (s s' : Store) : Type 0 where
   Same : s' ≡ s → StoreAfter k db s s'
   Wrote : (p : ObjectPath) → (bytes : List ℕ) → (moment : ℤ) → IsOwn k db p → s' ≡ stored p bytes moment s → StoreAfter k db s s'
   Gone : (p : ObjectPath) → IsOwn k db p → s' ≡ removed p s → StoreAfter k db s s'
+  WroteElse : (p : ObjectPath) → (bytes : List ℕ) → (moment : ℤ) → IsNobodys p → s' ≡ stored p bytes moment s → StoreAfter k db s s'
 
 put_after : (k : LogKind) (db : List ℕ) (p : ObjectPath) (bytes : List ℕ) (moment : ℤ) (s : Store) → IsOwn k db p → (o : Option StoredObject) (mark : Mark) → StoreAfter k db s (under mark (put_new o p bytes moment s) s).store
 put_after k db p bytes moment s own (Some object) Good = Same refl
@@ -114,15 +116,24 @@ commit_after k db s chains n facts call mark moment purpose now (committing.Putt
 commit_after k db s chains n facts call mark moment purpose now (committing.Bounding m v) h = got_after k db s mark _
 commit_after k db s chains n facts call mark moment purpose now committing.Over h = absurd h
 
-pub store_after : (s : Store) (chains : Chains) (n : ℕ) (facts : Facts) (call : Call) (mark : Mark) (moment : ℤ) (phrase : Phrase) → IsSound (log_of (log_in phrase)) (db_in phrase) s (chains (log_in phrase) (db_in phrase)) → PhraseKnows s chains n facts call phrase
+-- the put of an object that no log has
+else_after : (k : LogKind) (db : List ℕ) (p : ObjectPath) (bytes : List ℕ) (moment : ℤ) (s : Store) → IsNobodys p → (mark : Mark) → StoreAfter k db s (under mark (whole (Put p bytes) moment s) s).store
+else_after k db p bytes moment s other Good = WroteElse p bytes moment other refl
+else_after k db p bytes moment s other Fail = Same refl
+else_after k db p bytes moment s other Lost = WroteElse p bytes moment other refl
+
+pub store_after : (s : Store) (chains : Chains) (n : ℕ) (facts : Facts) (call : Call) (mark : Mark) (moment : ℤ) (phrase : Phrase) → is_db_path (db_in phrase) ≡ true → IsSound (log_of (log_in phrase)) (db_in phrase) s (chains (log_in phrase) (db_in phrase)) → PhraseKnows s chains n facts call phrase
     → StoreAfter (log_in phrase) (db_in phrase) s (effect mark (phrase_asks phrase) moment s).store
-store_after s chains n facts call mark moment (Reads k db phase) i h = read_after k db s chains n facts call mark moment phase h
-store_after s chains n facts call mark moment (Commits k db purpose now phase) i h = commit_after k db s chains n facts call mark moment purpose now phase h
-store_after s chains n facts call mark moment (Collects db phase) i h = pass_after s (chains logs.Manifest db) db mark moment i.small phase h
+store_after s chains n facts call mark moment (Reads k db phase) named i h = read_after k db s chains n facts call mark moment phase h
+store_after s chains n facts call mark moment (Commits k db purpose now phase) named i h = commit_after k db s chains n facts call mark moment purpose now phase h
+store_after s chains n facts call mark moment (Uploads db table bytes) named i h =
+    else_after logs.Manifest db (paths.Table db table) bytes moment s (table_nobodys db table named h) (taken mark (Put (paths.Table db table) bytes) s)
+store_after s chains n facts call mark moment (Collects db phase) named i h = pass_after s (chains logs.Manifest db) db mark moment i.small phase h
 
 pub tidy_after : (k : LogKind) (db : List ℕ) (s s' : Store) → is_db_path db ≡ true → StoreAfter k db s s' → IsTidy s.objects → IsTidy s'.objects
 tidy_after k db s s' named (Same e) h = subst (λ (t : Store). IsTidy t.objects) (sym e) h
 tidy_after k db s s' named (Wrote p bytes moment own e) h = subst (λ (t : Store). IsTidy t.objects) (sym e) (tidy_put p (put_object s bytes moment) (own_fine k db p named own) s.objects h)
+tidy_after k db s s' named (WroteElse p bytes moment other e) h = subst (λ (t : Store). IsTidy t.objects) (sym e) (tidy_put p (put_object s bytes moment) other.fine s.objects h)
 tidy_after k db s s' named (Gone p own e) h = subst (λ (t : Store). IsTidy t.objects) (sym e) (tidy_left p s.objects h)
 
 -- ---- ---- the tallies after a step
@@ -255,5 +266,6 @@ module _ (s : Store) (chains : Chains) (tallies : Tallies) (told : (k : LogKind)
   tallies_after n facts call (Commits k db purpose now (committing.Putting m bytes v)) b i h = puts_tallies k db i (author_of n facts call purpose now) m bytes v h b
   tallies_after n facts call (Commits k db purpose now (committing.Bounding m v)) b i h = tallies_same tallies chains _ told (none_put b chains)
   tallies_after n facts call (Commits k db purpose now committing.Over) b i h = absurd h
+  tallies_after n facts call (Uploads db table bytes) b i h = tallies_same tallies chains _ told (none_put b chains)
   tallies_after n facts call (Collects db phase) b i h =
       subst (λ (ts : Tallies). TalliesAfter tallies ts (chains_put b None chains)) (sym (pass_tallies db phase b)) (tallies_same tallies chains (chains_put b None chains) told (none_put b chains))

@@ -4,8 +4,10 @@ use Rattle.std.specs.BTreeMap.{is_at}
 use Rattle.std.specs.Map.{lookup, remove_entry}
 use Rattle.slate_ids.specs.FinePath.{IsFine}
 use Rattle.slate_ids.specs.Ids.{is_db_path}
+use Rattle.slate_ids.specs.Ulids.{is_id}
 use Rattle.slate_ids.specs.PathText.{path_text, path_cmp}
 use Rattle.slate_ids.specs.declared.object_path.ObjectPath.{ObjectPath}
+use Rattle.slate_ids.specs.declared.object_path.ObjectPath.TheVariants as paths
 use Rattle.slate_ids.proofs.PathsApart.{same_path}
 use Rattle.slate_store.specs.Store.{Store, Outcome, object_at, has_tag, put_new, replace, whole, under, taken, effect}
 use Rattle.slate_store.specs.declared.mark.Mark.{Mark}
@@ -33,15 +35,15 @@ use Rattle.slate_events.specs.declared.call.Call.{Call}
 use Rattle.slate_protocol.specs.Chains.{Link, Log}
 use Rattle.slate_protocol.specs.Logs.{Chains, Author, Held, log_of, phrase_of}
 use Rattle.slate_protocol.specs.Owners.{owner_of}
-use Rattle.slate_protocol.specs.Owners.Owner.{Version, Boundary}
+use Rattle.slate_protocol.specs.Owners.Owner.{Version, Boundary, Table}
 use Rattle.slate_protocol.specs.Works.{asks, db_of}
 use Rattle.slate_protocol.specs.World.{World, HasDb}
 use Rattle.slate_protocol.specs.declared.party.Facts.{Facts}
 use Rattle.slate_protocol.specs.declared.work.Work.{Work}
-use Rattle.slate_protocol.specs.declared.work.Work.TheVariants.{ReadManifest, CommitManifest, Pass}
+use Rattle.slate_protocol.specs.declared.work.Work.TheVariants.{ReadManifest, CommitManifest, PutTable, Pass}
 use Rattle.slate_laws.proofs.Facts.{IsMade, CommitKnows}
 use Rattle.slate_laws.proofs.Facts.IsMade.{OfVersion, OfNone}
-use Rattle.slate_laws.proofs.Paths.{version_fine, boundary_fine, version_owner, boundary_owner}
+use Rattle.slate_laws.proofs.Paths.{version_fine, boundary_fine, version_owner, boundary_owner, table_nobodys}
 use Rattle.slate_laws.proofs.Steps.{PhraseKnows}
 use Rattle.slate_laws.proofs.Stores.{at_else}
 
@@ -125,6 +127,11 @@ module _ (k : LogKind) (d : List ℕ) (named : is_db_path d ≡ true) where
       let same : Version k d 0 ≡ Boundary j db = sym (version_owner k d 0) ∙ (ap owner_of (same_path zero_path (boundary_path j db) fine (boundary_fine db own j) e) ∙ boundary_owner j db) in
       cc (same)
 
+  table_else : (db : List ℕ) (id : ℕ × ℕ) → is_db_path db ≡ true → is_id id ≡ true → path_text zero_path ≢ path_text (paths.Table db id)
+  table_else db id own is = λ e.
+      let same : Version k d 0 ≡ Table db id = sym (version_owner k d 0) ∙ ap owner_of (same_path zero_path (paths.Table db id) fine (table_nobodys db id own is).fine e) in
+      cc (same)
+
   read_else : {T : Type 0} (db : List ℕ) (j : LogKind) (phase : ReadPhase T) → WritesElse zero_path (read_asks db j phase)
   read_else db j reading.Listing = tt
   read_else db j (reading.Getting n) = tt
@@ -154,6 +161,7 @@ module _ (k : LogKind) (d : List ℕ) (named : is_db_path d ≡ true) where
   work_else : (s : Store) (chains : Chains) (n : ℕ) (facts : Facts) (call : Call) (work : Work) → is_db_path (db_of work) ≡ true → PhraseKnows s chains n facts call (phrase_of work) → WritesElse zero_path (asks work)
   work_else s chains n facts call (ReadManifest purpose db phase) own h = read_else db logs.Manifest phase
   work_else s chains n facts call (CommitManifest purpose now db phase) own h = commit_else s chains db logs.Manifest _ phase own h
+  work_else s chains n facts call (PutTable db upload bytes) own h = table_else db upload.table own h
   work_else s chains n facts call (Pass db options (gc.Reading phase)) own h = read_else db logs.Manifest phase
   work_else s chains n facts call (Pass db options (gc.Committing now phase)) own h = commit_else s chains db logs.Manifest _ phase own h
   work_else s chains n facts call (Pass db options (gc.Collecting phase)) own h = collect_else db phase own

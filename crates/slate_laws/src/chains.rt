@@ -1,9 +1,11 @@
 //! Chains: what one event changes of them, and what a list tells.
-ghost use Rattle.std.specs.Prelude.{◌≡◌, ℕ, ◌<◌, ℤ, List, Some, None, true};
+ghost use Rattle.std.specs.Prelude.{◌≡◌, ℕ, ◌<◌, ℤ, List, Some, None, true, false};
+ghost use Rattle.slate_ids.specs.FinePath.{IsFine};
+ghost use Rattle.slate_ids.specs.Ids.{is_db_path};
 ghost use Rattle.slate_ids.specs.declared.object_path.ObjectPath.{ObjectPath};
 ghost use Rattle.slate_store.specs.Store.{Store, stands_at, listed, effect};
 ghost use Rattle.slate_store.specs.declared.mark.Mark.{Mark};
-ghost use Rattle.slate_store.specs.declared.store_call.StoreCall.TheVariants.{PutNew};
+ghost use Rattle.slate_store.specs.declared.store_call.StoreCall.TheVariants.{PutNew, Put};
 ghost use Rattle.slate_log.specs.Boundary.{greatest};
 ghost use Rattle.slate_log.specs.LogPaths.{folder};
 ghost use Rattle.slate_log.specs.declared.log_kind.LogKind.{LogKind};
@@ -13,6 +15,7 @@ ghost use Rattle.slate_protocol.specs.ByRows.{party_in};
 ghost use Rattle.slate_protocol.specs.Chains.{Changed, top};
 ghost use Rattle.slate_protocol.specs.Lawful.{IsAccepted, chains_at_end, world_at_end};
 ghost use Rattle.slate_protocol.specs.Logs.{chains_after};
+ghost use Rattle.slate_protocol.specs.Owners.{owner_of, is_log, LogStays};
 ghost use Rattle.slate_protocol.specs.World.{HasDb};
 
 /// An event leaves the chain of a log, or puts one version on top, by the party of the event.
@@ -40,4 +43,11 @@ pub fn list_top()
 pub fn taken_path()
     ensures { (path : ObjectPath) (bytes : List ℕ) (moment : ℤ) (mark : Mark) (store : Store)
         → stands_at path store ≡ true → (effect mark (PutNew path bytes) moment store).store ≡ store }
+{}
+
+/// A plain put at a path that no log has, as that of a table is, leaves the versions and the boundary of each log as they are.
+pub fn put_elsewhere()
+    ensures { (k : LogKind) (db : List ℕ) (path : ObjectPath) (bytes : List ℕ) (moment : ℤ) (mark : Mark) (store : Store)
+        → is_db_path db ≡ true → IsFine path → is_log (owner_of path) ≡ false
+        → LogStays k db store (effect mark (Put path bytes) moment store).store }
 {}

@@ -24,9 +24,10 @@ pub fn checkpoints_carried()
         ≡ was_named specs events id }
 {}
 
-/// An id of a table or a view was carried where an opening value names it, and nowhere else.
+/// An id of a table, a view or a compaction was carried where an opening value or a start that was done names it, and nowhere else.
 pub fn ulids_carried()
     ensures { (specs : List DbSpec) (events : List Event) (id : ℕ × ℕ)
         → IsAccepted specs → AreGood specs events
-        → is_carried id_cmp id (world_at_end specs events).carried.ulids ≡ was_ulid_named specs id }
+        → is_carried id_cmp id (world_at_end specs events).carried.ulids
+        ≡ was_ulid_named specs events id }
 {}

@@ -10,7 +10,7 @@ mod needs;
 mod passes_alone;
 mod safe_parties;
 
-pub use chains::{changed, list_top, taken_path};
+pub use chains::{changed, list_top, put_elsewhere, taken_path};
 pub use courses::{begins, goes_on, lawful, stops};
 pub use events_done::{bad_after, checkpoints_carried, ulids_carried};
 pub use exact_passes::{dry_run, exact_pass};

@@ -3,3 +3,4 @@ mod Openings
 mod Seen
 mod Absent
 mod Differing
+mod Stale

@@ -1,12 +1,16 @@
--- Pools of ids as they were.
-use Rattle.std.specs.Prelude.{Option, Some, None}
-use Rattle.std.specs.Map.{remove_entry, set_value}
+-- Pools of ids that new ones are put into and taken out of.
+use Rattle.std.specs.Prelude.{ℕ, List, [], ◌∷◌, Option, false}
+use Rattle.std.specs.Map.{remove_entry}
 use Rattle.std.specs.BTreeMap.{is_at}
 use Rattle.std.specs.declared.cmp.Ordering.{Ordering}
 use Rattle.slate_protocol.specs.Ids.{Pool}
 use Rattle.slate_protocol.specs.declared.carrier.Carrier.{Carrier}
 
--- a pool where this is known of an id again: nothing, or what was known before
-abbrev pub before : {K : Type 0} → (K → K → Ordering) → K → Option Carrier → Pool K → Pool K
-before cmp id None pool = remove_entry (is_at (cmp id)) pool
-before cmp id (Some old) pool = set_value (is_at (cmp id)) pool old
+-- an id that a party brings, or nobody, and that is no pin
+abbrev pub unpinned : {K : Type 0} → Option ℕ → K → K × Carrier
+unpinned party id = (id, record { party = party; pin = false })
+
+-- a pool from which these ids are taken out, the last one first
+abbrev pub without : {K : Type 0} → (K → K → Ordering) → List K → Pool K → Pool K
+without cmp [] pool = pool
+without cmp (id ∷ ids) pool = remove_entry (is_at (cmp id)) (without cmp ids pool)

@@ -1,16 +1,29 @@
 //! Which kind of party has which calls.
 ghost use Rattle.std.specs.Prelude.{◌≡◌};
+ghost use Rattle.slate_ids.specs.Ulids.{is_id as is_id_of};
 ghost use Rattle.slate_protocol.specs.Calls as has;
 
 use slate_events::{Call, PartyKind};
 use slate_gc::FilterWord;
-use slate_ids::GcMessage;
+use slate_ids::{GcMessage, Ulid};
+
+// Whether the two numbers of an id are in their ranges, as those of each id are.
+fn is_id(id: Ulid) -> bool
+    ensures { result ≡ is_id_of id }
+{
+    id.timestamp_ms() < 1 << 48 && id.tail() < 1 << 80
+}
 
 // Whether a call is a writer's.
 fn writer_has(call: &Call) -> bool
     ensures { result ≡ has.writer_has call.now }
 {
-    matches!(call, Call::OpenWriter | Call::Flush { .. })
+    match call {
+        Call::OpenWriter => true,
+        Call::Upload { table, .. } => is_id(*table),
+        Call::Flush { .. } => true,
+        _ => false,
+    }
 }
 
 // Whether a call is a holder's: it refreshes a checkpoint to a lifetime.

@@ -7,13 +7,13 @@ ghost use Rattle.slate_parties.specs.Moved.{Stops, is_busy, after_reply, StateMo
 
 use slate_events::{Call, Entry, PartyKind, Reply};
 use slate_ids::{DbPath, Millis, OutOfMemory};
-use slate_protocol::{Facts, Party, State, Task};
+use slate_protocol::{Facts, Party, State, Task, Uploads};
 use slate_steps::{Onward, PartyStep, begin, is_due, step_party};
 use slate_store::{Mark, MemoryStore};
 use std::alloc::Global;
 
 /// A party that comes.
-pub(crate) fn newcomer(kind: PartyKind, db: DbPath) -> Party
+pub(crate) fn newcomer(alloc: Global, kind: PartyKind, db: DbPath) -> Party
     ensures { result ≡ comes kind db }
 {
     Party {
@@ -21,6 +21,7 @@ pub(crate) fn newcomer(kind: PartyKind, db: DbPath) -> Party
             kind,
             db,
             epoch: None,
+            uploads: Uploads::new(alloc),
         },
         state: State::Resting,
     }

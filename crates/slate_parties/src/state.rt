@@ -42,10 +42,16 @@ impl Model for ClusterState {
 }
 
 // Whether a start of a call by a party is bad.
-fn refuses_start(carried: &Carried, party: &Party, call: &Call) -> bool
-    ensures { (w : World) → w.carried ≡ carried.now → result ≡ start_refused w call.now (Some party.now) }
+fn refuses_start(
+    alloc: Global,
+    carried: &Carried,
+    party: &Party,
+    call: &Call,
+) -> Result<bool, OutOfMemory>
+    ensures { IfOk result (λ b. (w : World) → w.carried ≡ carried.now
+        → b ≡ start_refused w call.now (Some party.now)) }
 {
-    !has_call(party.facts.kind, call) || is_stale(carried, call)
+    Ok(!has_call(party.facts.kind, call) || is_stale(alloc, carried, call)?)
 }
 
 impl ClusterState {
@@ -91,6 +97,7 @@ impl ClusterState {
     // A party comes.
     fn open(
         &mut self,
+        alloc: Global,
         number: u32,
         kind: PartyKind,
         db: DbPath,
@@ -100,7 +107,7 @@ impl ClusterState {
     {
         match (self.parties.get(&number), self.tallies.get(&db)) {
             (None, Some(_)) => {
-                self.parties.insert(number, newcomer(kind, db))?;
+                self.parties.insert(number, newcomer(alloc, kind, db))?;
                 Ok(Some(Entry::Opened { party: number }))
             }
             _ => Ok(None),
@@ -121,12 +128,18 @@ impl ClusterState {
         let Some(party) = self.parties.get_mut(&number) else {
             return Ok(None);
         };
-        if refuses_start(&self.carried, party, call) {
+        if refuses_start(alloc, &self.carried, party, call)? {
             return Ok(None);
         }
         let begun = start(alloc, party, call)?;
-        carry(alloc, &mut self.carried, number, call)?;
-        Ok(Some(take_start(number, party, begun)))
+        match carry(alloc, &mut self.carried, number, call) {
+            Ok(()) => Ok(Some(take_start(number, party, begun))),
+            // One call drops the start: dropped in place, each of its shapes would be a case of the proof.
+            Err(e) => {
+                drop(begun);
+                Err(e)
+            }
+        }
     }
 
     // A party stops.
@@ -189,7 +202,7 @@ impl ClusterState {
         ensures err { OnErr result (self.new ≡ self.old) }
     {
         match event {
-            Event::Open { party, kind, db } => self.open(*party, *kind, *db.get()),
+            Event::Open { party, kind, db } => self.open(alloc, *party, *kind, *db.get()),
             Event::Start { party, call } => self.start(alloc, *party, call.get()),
             Event::Stop { party } => Ok(self.stop(*party)),
             Event::Step {

@@ -81,7 +81,7 @@ told_answer facts doing answer reply = record { facts = facts; doing = doing }
 
 -- what is said of the party of an event after its entry
 abbrev pub told_after : Event → Entry → Option Told → Option Told
-told_after (Open n kind db) (Opened k) told = Some (record { facts = record { kind = kind; db = db; epoch = None }; doing = Rests })
+told_after (Open n kind db) (Opened k) told = Some (record { facts = record { kind = kind; db = db; epoch = None; uploads = [] }; doing = Rests })
 told_after (Start n call) (Started k reply) (Some told) = Some (told_call told.facts call [] reply)
 told_after (Step n moment mark) (Called k asked at by answer reply) (Some told) = Some (told_answer told.facts told.doing (answer, at) reply)
 told_after (Stop n) (Stopped k) (Some told) = Some (record { facts = told.facts; doing = Stays })

@@ -9,7 +9,7 @@ use Rattle.slate_events.specs.declared.db_spec.DbSpec.{DbSpec}
 use Rattle.slate_events.specs.declared.event.Event.{Event}
 use Rattle.slate_events.specs.declared.event.Event.TheVariants.{Open, Start, Step, Stop}
 use Rattle.slate_events.specs.declared.party_kind.PartyKind.{PartyKind}
-use Rattle.slate_protocol.specs.Calls.{has_call, fresh_checkpoints, named_checkpoints}
+use Rattle.slate_protocol.specs.Calls.{has_call, fresh_checkpoints, named_checkpoints, fresh_ulids, named_ulids}
 use Rattle.slate_protocol.specs.Specs.{spec_ulids}
 
 -- ---- parties and databases
@@ -58,20 +58,35 @@ was_named specs events id = list_any (opening_names id) specs || list_any (start
 
 -- ---- ids of tables, views and compactions
 
--- whether an opening value names an id. No call names one so far
-abbrev pub was_ulid_named : List DbSpec → ℕ × ℕ → Bool
-was_ulid_named specs id = list_any (λ spec. list_any (same_id id) (spec_ulids spec)) specs
+-- whether an opening value of a database names an id
+abbrev pub opening_names_ulid : ℕ × ℕ → DbSpec → Bool
+opening_names_ulid id spec = list_any (same_id id) (spec_ulids spec)
+
+-- whether a call names an id
+abbrev pub call_names_ulid : ℕ × ℕ → Call → Bool
+call_names_ulid id call = list_any (same_id id) (fresh_ulids call ++ named_ulids call)
+
+-- whether an event is a start of a call that names an id
+abbrev pub start_names_ulid : ℕ × ℕ → Event → Bool
+start_names_ulid id (Start n call) = call_names_ulid id call
+start_names_ulid id _ = false
+
+-- whether an opening value or an event done named an id
+abbrev pub was_ulid_named : List DbSpec → List Event → ℕ × ℕ → Bool
+was_ulid_named specs events id = list_any (opening_names_ulid id) specs || list_any (start_names_ulid id) events
 
 -- ---- bad events
 
 -- whether one of these ids comes again, among themselves or the others
-abbrev pub comes_again : List (List ℕ) → List (List ℕ) → Bool
-comes_again [] others = false
-comes_again (id ∷ ids) others = list_any (bytes_eq id) (ids ++ others) || comes_again ids others
+abbrev pub comes_again : {K : Type 0} → (K → K → Bool) → List K → List K → Bool
+comes_again is [] others = false
+comes_again is (id ∷ ids) others = list_any (is id) (ids ++ others) || comes_again is ids others
 
 -- whether an id that a call brings anew was named before, or comes again in the call
 abbrev pub is_old : List DbSpec → List Event → Call → Bool
-is_old specs events call = list_any (was_named specs events) (fresh_checkpoints call) || comes_again (fresh_checkpoints call) (named_checkpoints call)
+is_old specs events call =
+    (list_any (was_named specs events) (fresh_checkpoints call) || comes_again bytes_eq (fresh_checkpoints call) (named_checkpoints call))
+    || (list_any (was_ulid_named specs events) (fresh_ulids call) || comes_again same_id (fresh_ulids call) (named_ulids call))
 
 -- whether a party lacks a call: it never came, or came as a kind that hasn't it
 abbrev pub lacks_call : Option PartyKind → Call → Bool

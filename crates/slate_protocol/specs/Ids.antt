@@ -1,14 +1,15 @@
 -- The ids that events and opening values carry, in two pools: those of checkpoints, and those of tables, views and compactions. A fresh id
 -- must not have been carried before.
-use Rattle.std.specs.Prelude.{ℕ, Bool, true, false, ◌||◌, List, [], ◌∷◌, ◌++◌, Option, Some, None, is_some, map, bytes_eq, if◌then◌else◌}
+use Rattle.std.specs.Prelude.{ℕ, Bool, true, false, ◌||◌, List, [], ◌∷◌, ◌++◌, Option, Some, None, is_some, map, if◌then◌else◌}
 use Rattle.std.specs.List.{list_any}
 use Rattle.std.specs.Map.{lookup, set_value}
 use Rattle.std.specs.BTreeMap.{is_at, insert_entry}
 use Rattle.std.specs.Ordering.{nat_cmp}
 use Rattle.std.specs.Cmp.Lexicographic.{slice_cmp}
 use Rattle.std.specs.declared.cmp.Ordering.{Ordering}
+use Rattle.slate_ids.specs.Ulids.{id_cmp as ulid_cmp}
 use Rattle.slate_events.specs.declared.call.Call.{Call}
-use Rattle.slate_protocol.specs.Calls.{fresh_checkpoints, named_checkpoints}
+use Rattle.slate_protocol.specs.Calls.{fresh_checkpoints, named_checkpoints, fresh_ulids, named_ulids}
 use Rattle.slate_protocol.specs.declared.carrier.Carrier.{Carrier}
 
 -- a pool of ids: those that were carried, ascending, each with what is known of it
@@ -33,13 +34,15 @@ is_carried cmp id pool = is_some (lookup (is_at (cmp id)) pool)
 -- ---- fresh ids
 
 -- whether one of these ids was carried before, or comes again among themselves or the others that a call names
-abbrev pub is_stale_among : List (List ℕ) → List (List ℕ) → Pool (List ℕ) → Bool
-is_stale_among [] named pool = false
-is_stale_among (id ∷ ids) named pool = is_carried checkpoint_cmp id pool || list_any (bytes_eq id) (ids ++ named) || is_stale_among ids named pool
+abbrev pub is_stale_among : {K : Type 0} → (K → K → Ordering) → List K → List K → Pool K → Bool
+is_stale_among cmp [] named pool = false
+is_stale_among cmp (id ∷ ids) named pool = is_carried cmp id pool || list_any (is_at (cmp id)) (ids ++ named) || is_stale_among cmp ids named pool
 
 -- whether a fresh id of a call was carried before, or comes twice in the call itself
 abbrev pub is_stale : Carried → Call → Bool
-is_stale carried call = is_stale_among (fresh_checkpoints call) (named_checkpoints call) carried.checkpoints
+is_stale carried call =
+    is_stale_among checkpoint_cmp (fresh_checkpoints call) (named_checkpoints call) carried.checkpoints
+    || is_stale_among ulid_cmp (fresh_ulids call) (named_ulids call) carried.ulids
 
 -- ---- what is carried
 
@@ -55,9 +58,9 @@ only_named id = (id, record { party = None; pin = false })
 abbrev pub only_pinned : {K : Type 0} → K → K × Carrier
 only_pinned id = (id, record { party = None; pin = true })
 
--- the ids of checkpoints that a call of a party carries
-abbrev pub ids_of : ℕ → Call → List (List ℕ × Carrier)
-ids_of n call = map (brought_by n) (fresh_checkpoints call) ++ map only_named (named_checkpoints call)
+-- the ids that a call of a party carries: those that it brings anew, and the others that it names
+abbrev pub ids_of : {K : Type 0} → ℕ → List K → List K → List (K × Carrier)
+ids_of n fresh named = map (brought_by n) fresh ++ map only_named named
 
 -- what is known of an id once it is carried again: who brought it stays, and a pin stays one
 abbrev pub carried_again : Carrier → Carrier → Carrier
@@ -74,4 +77,7 @@ with_ids cmp (id ∷ ids) pool = with_ids cmp ids (with_id cmp id pool)
 
 -- the ids after a start
 abbrev pub with_call : ℕ → Call → Carried → Carried
-with_call n call carried = record carried { checkpoints = with_ids checkpoint_cmp (ids_of n call) carried.checkpoints }
+with_call n call carried = record {
+  checkpoints = with_ids checkpoint_cmp (ids_of n (fresh_checkpoints call) (named_checkpoints call)) carried.checkpoints;
+  ulids = with_ids ulid_cmp (ids_of n (fresh_ulids call) (named_ulids call)) carried.ulids;
+}

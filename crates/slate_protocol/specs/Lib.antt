@@ -1,3 +1,4 @@
+pub mod Uploaded
 pub mod Works
 pub mod Calls
 pub mod Rows

@@ -39,7 +39,7 @@ use Rattle.slate_protocol.specs.declared.party.Task.{Task}
 use Rattle.slate_protocol.specs.declared.work.Purpose.{Purpose}
 use Rattle.slate_protocol.specs.declared.work.Purpose.TheVariants.{Once}
 use Rattle.slate_protocol.specs.declared.work.Work.{Work}
-use Rattle.slate_protocol.specs.declared.work.Work.TheVariants.{ReadManifest, CommitManifest, Pass}
+use Rattle.slate_protocol.specs.declared.work.Work.TheVariants.{ReadManifest, CommitManifest, PutTable, Pass}
 
 -- ---- authors
 
@@ -105,19 +105,22 @@ Chain k = List (Link (Held k) Author)
 abbrev pub Chains : Type 0
 Chains = (k : LogKind) → List ℕ → Chain k
 
--- ---- the read or the commit that is under way in any work
+-- ---- what is under way in any work
 
 pub data Phrase : Type 0 where
   -- the latest version of a log of a database is read
   Reads : (k : LogKind) → List ℕ → ReadPhase (Held k) → Phrase
   -- a version of a log of a database is committed, which was made for a purpose at a moment
   Commits : (k : LogKind) → List ℕ → Purpose → ℤ → CommitPhase (Held k) → Phrase
+  -- the object of a table is put at a database
+  Uploads : List ℕ → ℕ × ℕ → List ℕ → Phrase
   -- a pass collects at a database
   Collects : List ℕ → PassPhase → Phrase
 
 abbrev pub phrase_of : Work → Phrase
 phrase_of (ReadManifest purpose db phase) = Reads logs.Manifest db phase
 phrase_of (CommitManifest purpose now db phase) = Commits logs.Manifest db purpose now phase
+phrase_of (PutTable db upload bytes) = Uploads db upload.table bytes
 phrase_of (Pass db options (passing.Reading phase)) = Reads logs.Manifest db phase
 phrase_of (Pass db options (passing.Committing now phase)) = Commits logs.Manifest db Once now phase
 phrase_of (Pass db options (passing.Collecting phase)) = Collects db phase

@@ -11,13 +11,13 @@ use Rattle.slate_store.specs.declared.store_call.StoreCall.{StoreCall}
 use Rattle.slate_updates.specs.Changes.{commit_of}
 use Rattle.slate_events.specs.declared.call.Call.{Call}
 use Rattle.slate_events.specs.declared.reply.Reply.{Reply}
-use Rattle.slate_events.specs.declared.reply.Reply.TheVariants.{Refused}
+use Rattle.slate_events.specs.declared.reply.Reply.TheVariants.{Done, Refused}
 use Rattle.slate_events.specs.declared.reply.Reply.TheVariants as reply
 use Rattle.slate_protocol.specs.Calls.{refusal_at_start, first_work, change_of, done, facts_after, Next, Go, Finish}
 use Rattle.slate_protocol.specs.Works.{WorkGoes, asks, goes}
 use Rattle.slate_protocol.specs.declared.party.Facts.{Facts}
 use Rattle.slate_protocol.specs.declared.work.Ended.{Ended}
-use Rattle.slate_protocol.specs.declared.work.Ended.TheVariants.{NoManifest, ManifestRead, ManifestCommitted, Passed}
+use Rattle.slate_protocol.specs.declared.work.Ended.TheVariants.{NoManifest, ManifestRead, ManifestCommitted, TablePut, Passed}
 use Rattle.slate_protocol.specs.declared.work.Purpose.{Purpose}
 use Rattle.slate_protocol.specs.declared.work.Work.{Work}
 use Rattle.slate_protocol.specs.declared.work.Work.TheVariants.{CommitManifest}
@@ -55,6 +55,7 @@ abbrev pub after : Facts → Call → ℤ → Ended → Next
 after facts call now (NoManifest purpose) = Finish (Refused LatestTransactionalObjectVersionMissing)
 after facts call now (ManifestRead purpose db n m) = commit_next facts call purpose db now m (commit_for facts call purpose now n m)
 after facts call now (ManifestCommitted purpose db n m) = done facts call purpose m
+after facts call now (TablePut upload) = Finish Done
 after facts call now (Passed counts) = Finish (reply.Pass counts.picked counts.deleted counts.failed)
 
 -- where a call stands once its phrase has ended

@@ -1,11 +1,15 @@
 -- The phrase under way: which store call is due, and how it goes on after the answer.
-use Rattle.std.specs.Prelude.{ℕ, ℤ, Bool, List, Option, Some, None, Result, Ok, Err}
+use Rattle.std.specs.Prelude.{ℕ, ℤ, Bool, true, List, Option, Some, None, Result, Ok, Err}
 use Rattle.slate_ids.specs.declared.error.SlateDBError.{SlateDBError}
+use Rattle.slate_ids.specs.declared.error.SlateDBError.TheVariants.{StoreFault}
+use Rattle.slate_ids.specs.declared.object_path.ObjectPath.TheVariants as paths
 use Rattle.slate_model.specs.declared.manifest.Manifest.{Manifest}
 use Rattle.slate_manifest_parts.specs.Decoding.{decoded_manifest}
 use Rattle.slate_layout.specs.Codec.{encoded}
 use Rattle.slate_store.specs.declared.store_call.StoreCall.{StoreCall}
+use Rattle.slate_store.specs.declared.store_call.StoreCall.TheVariants as store
 use Rattle.slate_store.specs.declared.store_answer.StoreAnswer.{StoreAnswer}
+use Rattle.slate_store.specs.declared.store_answer.StoreAnswer.TheVariants.{Written}
 use Rattle.slate_store.specs.Machines.{Goes, Stay, End}
 use Rattle.slate_log.specs.ReadPhase.{read_asks, read_goes, read_due}
 use Rattle.slate_log.specs.CommitPhase.{CommitGoes, commit_asks, commit_goes, commit_due}
@@ -15,26 +19,30 @@ use Rattle.slate_gc.specs.GcPass.{GcGoes, gc_asks, gc_goes, gc_due}
 use Rattle.slate_gc.specs.declared.pass_options.PassOptions.{PassOptions}
 use Rattle.slate_protocol.specs.declared.work.Purpose.{Purpose}
 use Rattle.slate_protocol.specs.declared.work.Work.{Work}
-use Rattle.slate_protocol.specs.declared.work.Work.TheVariants.{ReadManifest, CommitManifest, Pass}
+use Rattle.slate_protocol.specs.declared.uploads.Upload.{Upload}
+use Rattle.slate_protocol.specs.declared.work.Work.TheVariants.{ReadManifest, CommitManifest, PutTable, Pass}
 use Rattle.slate_protocol.specs.declared.work.Ended.{Ended}
-use Rattle.slate_protocol.specs.declared.work.Ended.TheVariants.{NoManifest, ManifestRead, ManifestCommitted, Passed}
+use Rattle.slate_protocol.specs.declared.work.Ended.TheVariants.{NoManifest, ManifestRead, ManifestCommitted, TablePut, Passed}
 
 -- the database whose objects it speaks of
 abbrev pub db_of : Work → List ℕ
 db_of (ReadManifest purpose db phase) = db
 db_of (CommitManifest purpose now db phase) = db
+db_of (PutTable db upload bytes) = db
 db_of (Pass db options phase) = db
 
 -- the store call that is due
 abbrev pub asks : Work → StoreCall
 asks (ReadManifest purpose db phase) = read_asks db ManifestLog phase
 asks (CommitManifest purpose now db phase) = commit_asks db ManifestLog phase
+asks (PutTable db upload bytes) = store.Put (paths.Table db upload.table) bytes
 asks (Pass db options phase) = gc_asks db phase
 
 -- whether a call is due
 abbrev pub is_due : Work → Bool
 is_due (ReadManifest purpose db phase) = read_due phase
 is_due (CommitManifest purpose now db phase) = commit_due phase
+is_due (PutTable db upload bytes) = true
 is_due (Pass db options phase) = gc_due phase
 
 -- how work goes on
@@ -54,6 +62,11 @@ commit_on purpose now db (Stay phase) = Stay (CommitManifest purpose now db phas
 commit_on purpose now db (End phase (Ok version)) = End (CommitManifest purpose now db phase) (Ok (ManifestCommitted purpose db version.0 version.1))
 commit_on purpose now db (End phase (Err e)) = End (CommitManifest purpose now db phase) (Err e)
 
+-- after the put of a table: it was put where the store gave its tag
+abbrev pub put_end : Upload → StoreAnswer → Result Ended SlateDBError
+put_end upload (Written tag) = Ok (TablePut upload)
+put_end upload _ = Err StoreFault
+
 -- after a step of a pass
 abbrev pub pass_on : List ℕ → PassOptions → GcGoes → WorkGoes
 pass_on db options (Stay phase) = Stay (Pass db options phase)
@@ -64,4 +77,5 @@ pass_on db options (End phase (Err e)) = End (Pass db options phase) (Err e)
 abbrev pub goes : Work → ℤ → StoreAnswer → WorkGoes
 goes (ReadManifest purpose db phase) now answer = read_on purpose db (read_goes ManifestLog decoded_manifest phase answer)
 goes (CommitManifest purpose made db phase) now answer = commit_on purpose made db (commit_goes phase answer)
+goes (PutTable db upload bytes) now answer = End (PutTable db upload bytes) (put_end upload answer)
 goes (Pass db options phase) now answer = pass_on db options (gc_goes decoded_manifest encoded options now phase answer)

@@ -1,5 +1,5 @@
 -- The state of a cluster, and what an event does to it.
-use Rattle.std.specs.Prelude.{◌≡◌, ℕ, ℤ, Bool, true, not, ◌&&◌, ◌||◌, List, Option, Some, None, is_some, is_none, length, nat_lt, max, if◌then◌else◌}
+use Rattle.std.specs.Prelude.{◌≡◌, ℕ, ℤ, Bool, true, not, ◌&&◌, ◌||◌, List, Option, Some, None, is_some, is_none, [], length, nat_lt, max, if◌then◌else◌}
 use Rattle.std.specs.Map.{lookup, set_value}
 use Rattle.std.specs.BTreeMap.{is_at, insert_entry}
 use Rattle.std.specs.Ordering.{nat_cmp}
@@ -132,7 +132,7 @@ reply_of (Finish reply) = Some reply
 
 -- a party that comes
 abbrev pub newcomer : PartyKind → List ℕ → Party
-newcomer kind db = record { facts = record { kind = kind; db = db; epoch = None }; state = Resting }
+newcomer kind db = record { facts = record { kind = kind; db = db; epoch = None; uploads = [] }; state = Resting }
 
 -- the one store call of a step, which the work asks
 abbrev pub stepped : World → ℕ → Facts → Task → ℤ → Mark → Transition

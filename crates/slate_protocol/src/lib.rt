@@ -6,10 +6,12 @@ mod carrier;
 mod laws;
 mod party;
 mod tally;
+mod uploads;
 mod work;
 
 pub use carrier::Carrier;
 pub use laws::bad_events;
 pub use party::{Facts, Party, State, Task};
 pub use tally::Tally;
+pub use uploads::{Upload, Uploads};
 pub use work::{Ended, Purpose, Work};

@@ -1,5 +1,6 @@
 //! Parties of a cluster.
 
+use crate::uploads::Uploads;
 use crate::work::Work;
 use slate_events::{Call, PartyKind};
 use slate_ids::DbPath;
@@ -11,6 +12,8 @@ pub struct Facts {
     pub db: DbPath,
     /// The epoch of its last open that succeeded.
     pub epoch: Option<u64>,
+    /// The tables that it put.
+    pub uploads: Uploads,
 }
 
 /// A call under way.

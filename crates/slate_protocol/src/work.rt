@@ -1,7 +1,8 @@
 //! What a call is at: the phrase under way.
 
+use crate::uploads::Upload;
 use slate_gc::{GcPass, PassCounts, PassOptions};
-use slate_ids::{DbPath, Millis};
+use slate_ids::{ByteList, DbPath, Millis};
 use slate_log::{CommitPhase, ReadPhase};
 use slate_model::Manifest;
 
@@ -19,6 +20,8 @@ pub enum Work {
     ReadManifest(Purpose, DbPath, ReadPhase<Manifest>),
     /// What the call made of the manifest read is committed. It was made at this moment, the one at which the read ended.
     CommitManifest(Purpose, Millis, DbPath, CommitPhase<Manifest>),
+    /// The object of a new table is put, with these bytes.
+    PutTable(DbPath, Upload, ByteList),
     /// A pass of the garbage collector, with these options.
     Pass(DbPath, PassOptions, GcPass),
 }
@@ -32,6 +35,8 @@ pub enum Ended {
     ManifestRead(Purpose, DbPath, u64, Manifest),
     /// A commit at this database: the number and the value that were put.
     ManifestCommitted(Purpose, DbPath, u64, Manifest),
+    /// The put of a table that the store answered.
+    TablePut(Upload),
     /// A pass: how many objects it picked, deleted, and failed to delete.
     Passed(PassCounts),
 }

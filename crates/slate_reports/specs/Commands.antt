@@ -55,11 +55,16 @@ run_help_text =
     ++ line (codes "            the arrays \"l0\", \"runs\", \"markers\", \"checkpoints\"")
     ++ line (codes "  open      {\"open\":1,\"kind\":\"writer\",\"db\":\"db\"}")
     ++ line (codes "  start     {\"start\":1,\"call\":\"open_writer\"}")
+    ++ line (codes "  upload    {\"start\":1,\"call\":\"upload\",\"table\":\"9:1\"}, and where")
+    ++ line (codes "            wanted the table's keys \"first\" and \"last\"")
+    ++ line (codes "  flush     {\"start\":1,\"call\":\"flush\",\"tables\":[t]}, and where")
+    ++ line (codes "            wanted \"replay_after\", \"next_wal\", \"seq\", \"tick\"; a t is")
+    ++ line (codes "            {\"table\":\"9:1\",\"view\":\"9:2\"}, and where wanted \"prefix\"")
     ++ line (codes "  step      {\"step\":1,\"at\":1000}, with \"times\" up to 1000 of them,")
     ++ line (codes "            and with \"mark\" \"fail\" or \"lost\" a call that faults")
     ++ line (codes "  stop      {\"stop\":1}")
     ++ line []
-    ++ line (codes "A writer has the calls open_writer and flush; a holder has")
+    ++ line (codes "A writer has the calls open_writer, upload and flush; a holder has")
     ++ line (codes "write_checkpoint, replace_checkpoint, refresh_checkpoint and")
     ++ line (codes "delete_checkpoint; a collector has pass. A script has at most")
     ++ line (codes "1000000 events. docs/FORMAT.md has all fields and lines.")
@@ -68,4 +73,4 @@ run_help_text =
 unfoldable pub version_text : List ℕ
 version_text =
     line (codes "buqtarel 0.1.0")
-    ++ line (codes "rattle-kit-13f logic dac8208d650f15bf")
+    ++ line (codes "rattle-kit-13b logic dac8208d650f15bf")

@@ -35,17 +35,22 @@ the paths of the objects left, and then ok or the first bad event.
             the arrays \"l0\", \"runs\", \"markers\", \"checkpoints\"
   open      {\"open\":1,\"kind\":\"writer\",\"db\":\"db\"}
   start     {\"start\":1,\"call\":\"open_writer\"}
+  upload    {\"start\":1,\"call\":\"upload\",\"table\":\"9:1\"}, and where
+            wanted the table's keys \"first\" and \"last\"
+  flush     {\"start\":1,\"call\":\"flush\",\"tables\":[t]}, and where
+            wanted \"replay_after\", \"next_wal\", \"seq\", \"tick\"; a t is
+            {\"table\":\"9:1\",\"view\":\"9:2\"}, and where wanted \"prefix\"
   step      {\"step\":1,\"at\":1000}, with \"times\" up to 1000 of them,
             and with \"mark\" \"fail\" or \"lost\" a call that faults
   stop      {\"stop\":1}
 
-A writer has the calls open_writer and flush; a holder has
+A writer has the calls open_writer, upload and flush; a holder has
 write_checkpoint, replace_checkpoint, refresh_checkpoint and
 delete_checkpoint; a collector has pass. A script has at most
 1000000 events. docs/FORMAT.md has all fields and lines.
 ";
 
-const VERSION: &str = "buqtarel 0.1.0\nrattle-kit-13f logic dac8208d650f15bf\n";
+const VERSION: &str = "buqtarel 0.1.0\nrattle-kit-13b logic dac8208d650f15bf\n";
 
 /// Writes a text, and answers how the program ends: as it was asked, or with a fault of a write, which is told only where all
 /// else went well; a front of the text was written then.

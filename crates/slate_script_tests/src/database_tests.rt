@@ -1,8 +1,7 @@
 //! Databases of scripts, and items that are none.
 
-use crate::test_scripts::{refusal_within, script_of, text_of};
+use crate::test_scripts::{push_ulid, refusal_within, script_of, text_of};
 use bytes::Bytes;
-use slate_ids::Ulid;
 use slate_model::{
     Checkpoint, CompressionTag, FilterFormat, LsmTreeState, Manifest, ManifestCore, Plain, Segment,
     SsTableInfo, SsTableView, SstType,
@@ -83,18 +82,12 @@ const DATABASES: [(&str, &str, &str, &str, &str, &str); 5] = [
     ),
 ];
 
-// A blank, and an id as scripts write it.
-fn push_id(out: &mut String, before: &str, id: Ulid) -> Result<(), AllocError> {
-    let (ms, tail) = (id.timestamp_ms(), id.tail());
-    write!(out, "{before}{ms}:{tail}")
-}
-
 // The ids of a view and of its table.
 fn push_view(out: &mut String, view: &SsTableView) -> Result<(), AllocError> {
-    push_id(out, " ", view.id)?;
+    push_ulid(out, " ", view.id)?;
     let id = view.sst.id;
     if id.is_compacted() {
-        push_id(out, ">", id.unwrap_compacted_id())?;
+        push_ulid(out, ">", id.unwrap_compacted_id())?;
     }
     Ok(())
 }
@@ -102,7 +95,7 @@ fn push_view(out: &mut String, view: &SsTableView) -> Result<(), AllocError> {
 // The marker, the views of L0 and the runs.
 fn push_tree(out: &mut String, tree: &LsmTreeState) -> Result<(), AllocError> {
     if let Some(id) = tree.last_compacted_l0_sst_view_id {
-        push_id(out, "", id)?;
+        push_ulid(out, "", id)?;
     }
     out.push_str(" l0")?;
     for view in tree.l0.as_deque().iter() {
@@ -178,7 +171,7 @@ fn has_segments(rt: &impl Abort, alloc: Global, spec: &DbSpec, text: &str) -> bo
 fn has_tables(rt: &impl Abort, alloc: Global, spec: &DbSpec, text: &str) -> bool {
     let mut out = String::new(alloc);
     for table in spec.tables.as_slice() {
-        push_id(&mut out, " ", table.0).expect(rt, "memory");
+        push_ulid(&mut out, " ", table.0).expect(rt, "memory");
     }
     out.as_str() == text
 }

@@ -1,8 +1,8 @@
 //! Events of scripts, and texts that are no script.
 
-use crate::test_scripts::{refusal_of, refusal_within, script_of, text_of};
+use crate::test_scripts::{push_ulid, refusal_of, refusal_within, script_of, text_of};
 use slate_ids::{CheckpointId, Text};
-use slate_script::{Call, Event, ScriptError, ScriptPlace};
+use slate_script::{Call, Event, FlushTable, ScriptError, ScriptPlace};
 use std::alloc::{AllocError, Global};
 use std::mem::size_of;
 use std::process::Abort;
@@ -13,7 +13,11 @@ const WHOLE: &str = r#"{"databases":[],
 {"open":1,"kind":"writer","db":"a"},
 {"open":4294967295,"kind":"holder","db":"none"},
 {"start":1,"call":"open_writer"},
+{"start":1,"call":"upload","table":"1:2"},
+{"start":1,"call":"upload","table":"281474976710655:1208925819614629174706175","first":"é","last":""},
 {"start":1,"call":"flush","tables":[]},
+{"start":1,"call":"flush","tables":[{"table":"5:1","view":"6:2"},{"table":"05:1","view":"7:0","prefix":"p"}],
+"replay_after":18446744073709551615,"next_wal":0,"seq":3,"tick":-9223372036854775808},
 {"start":2,"call":"write_checkpoint","id":7},
 {"start":2,"call":"write_checkpoint","id":7,"lifetime":18446744073709551615,"source":8,"name":""},
 {"start":2,"call":"replace_checkpoint","old":3,"id":4},
@@ -31,11 +35,14 @@ const WHOLE: &str = r#"{"databases":[],
 {"stop":2}]}"#;
 
 /// What its events are.
-const EVENTS: [&str; 20] = [
+const EVENTS: [&str; 23] = [
     "open 1 Writer a",
     "open 4294967295 Holder none",
     "start 1 open writer",
-    "start 1 flush 0 0",
+    "start 1 upload 1:2 b\"a\" b\"z\"",
+    "start 1 upload 281474976710655:1208925819614629174706175 b\"\\xc3\\xa9\" b\"\"",
+    "start 1 flush 0 1 0 0",
+    "start 1 flush 6:2>5:1 b\"\" 7:0>5:1 b\"p\" 18446744073709551615 0 3 -9223372036854775808",
     "start 2 write 7 None None None",
     "start 2 write 7 Some(18446744073709551615) Some(8) Some(\"\")",
     "start 2 replace 3 4 None None None",
@@ -78,10 +85,40 @@ fn push_id(out: &mut String, word: &str, id: &CheckpointId) -> Result<(), AllocE
     write!(out, "{word} {id}")
 }
 
-fn push_call(out: &mut String, call: &Call) -> Result<(), AllocError> {
+fn push_tables(out: &mut String, tables: &[FlushTable]) -> Result<(), AllocError> {
+    for table in tables {
+        let prefix = &table.prefix;
+        push_ulid(out, " ", table.view)?;
+        push_ulid(out, ">", table.table)?;
+        write!(out, " {prefix:?}")?;
+    }
+    Ok(())
+}
+
+fn push_writer_call(out: &mut String, call: &Call) -> Result<(), AllocError> {
     match call {
         Call::OpenWriter => out.push_str("open writer"),
-        Call::Flush { seq, tick } => write!(out, "flush {seq} {tick}"),
+        Call::Upload { table, first, last } => {
+            push_ulid(out, "upload ", *table)?;
+            write!(out, " {first:?} {last:?}")
+        }
+        Call::Flush {
+            tables,
+            replay_after,
+            next_wal,
+            seq,
+            tick,
+        } => {
+            out.push_str("flush")?;
+            push_tables(out, tables.as_slice())?;
+            write!(out, " {replay_after} {next_wal} {seq} {tick}")
+        }
+        _ => Ok(()),
+    }
+}
+
+fn push_call(out: &mut String, call: &Call) -> Result<(), AllocError> {
+    match call {
         Call::WriteCheckpoint {
             id,
             lifetime,
@@ -113,6 +150,7 @@ fn push_call(out: &mut String, call: &Call) -> Result<(), AllocError> {
             dry_run,
             filter,
         } => write!(out, "pass {pass:?} {min_age} {dry_run} {filter:?}"),
+        _ => push_writer_call(out, call),
     }
 }
 
@@ -182,7 +220,7 @@ fn texts_that_are_no_script(rt: HostRuntime) {
 }
 
 /// Events of which one is none, with its place.
-const BAD_EVENTS: [(&str, u64); 24] = [
+const BAD_EVENTS: [(&str, u64); 22] = [
     ("1", 0),
     (r#"{"stop":1},{"stop":1,"at":0}"#, 1),
     (r#"{"step":1,"at":0,"times":1000},{}"#, 1000),
@@ -196,8 +234,6 @@ const BAD_EVENTS: [(&str, u64); 24] = [
     (r#"{"step":1,"stop":1}"#, 0),
     (r#"{"stop":4294967296}"#, 0),
     (r#"{"start":1,"call":"refresh"}"#, 0),
-    (r#"{"start":1,"call":"flush","tables":[0]}"#, 0),
-    (r#"{"start":1,"call":"flush","tables":[],"seq":0}"#, 0),
     (r#"{"start":1,"call":"write_checkpoint"}"#, 0),
     (
         r#"{"start":1,"call":"write_checkpoint","id":1,"lifetime":-1}"#,
@@ -235,6 +271,45 @@ fn events_that_are_none(rt: HostRuntime) {
         assert!(rt;
             refusal == Some(ScriptError::BadScript(ScriptPlace::Event(*place))),
             "at {items}"
+        );
+    }
+}
+
+/// What stands before the name of a writer's call.
+const BEFORE_CALL: &str = r#"{"databases":[],"events":[{"stop":1},{"start":1,"call":"#;
+
+/// Names and fields of uploads and flushes that are none.
+const BAD_CALLS: [&str; 20] = [
+    r#""upload""#,
+    r#""upload","table":"1""#,
+    r#""upload","table":1"#,
+    r#""upload","table":"1:1","first":null"#,
+    r#""upload","table":"1:1","last":["z"]"#,
+    r#""upload","table":"1:1","view":"1:1""#,
+    r#""flush""#,
+    r#""flush","tables":{}"#,
+    r#""flush","tables":["1:1"]"#,
+    r#""flush","tables":[{"table":"1:1"}]"#,
+    r#""flush","tables":[{"view":"1:1"}]"#,
+    r#""flush","tables":[{"table":"1:1","view":"1:1"},{"table":"1:1","view":":1"}]"#,
+    r#""flush","tables":[{"table":"1:1","view":"1:1","prefix":0}]"#,
+    r#""flush","tables":[{"table":"1:1","view":"1:1","first":"a"}]"#,
+    r#""flush","tables":[],"replay_after":-1"#,
+    r#""flush","tables":[],"next_wal":18446744073709551616"#,
+    r#""flush","tables":[],"seq":1.0"#,
+    r#""flush","tables":[],"tick":9223372036854775808"#,
+    r#""flush","tables":[],"tick":null"#,
+    r#""flush","tables":[],"id":1"#,
+];
+
+#[test]
+fn calls_that_are_none(rt: HostRuntime) {
+    let alloc = rt.alloc();
+    for fields in &BAD_CALLS {
+        let refusal = refusal_within(&rt, alloc, BEFORE_CALL, *fields, "}]}");
+        assert!(rt;
+            refusal == Some(ScriptError::BadScript(ScriptPlace::Event(1))),
+            "at {fields}"
         );
     }
 }

@@ -1,7 +1,8 @@
 //! Texts as scripts.
 
+use slate_ids::Ulid;
 use slate_script::{Script, ScriptError, read_script};
-use std::alloc::Global;
+use std::alloc::{AllocError, Global};
 use std::process::Abort;
 
 /// A text with what stands before and after it.
@@ -16,6 +17,12 @@ pub(crate) fn text_of(
     whole.push_str(text).expect(rt, "memory");
     whole.push_str(after).expect(rt, "memory");
     whole
+}
+
+/// The id of a table or a view as scripts write it, with what stands before it.
+pub(crate) fn push_ulid(out: &mut String, before: &str, id: Ulid) -> Result<(), AllocError> {
+    let (ms, tail) = (id.timestamp_ms(), id.tail());
+    write!(out, "{before}{ms}:{tail}")
 }
 
 /// The script of a text that is one.

@@ -33,7 +33,8 @@ use Rattle.slate_updates.specs.Changes.{made, floored}
 use Rattle.slate_updates.specs.Checkpoints.{written, replaced, refreshed, deleted, unexpired, pushed, version_to_name, number_after, source_version, checkpoint_at, with_checkpoints, without_checkpoint, expiring, expiry, is_expired}
 use Rattle.slate_updates.specs.RuleLaws.{IsOfRules, is_of_rules}
 use Rattle.slate_updates.specs.Rules.{manifest_refusal}
-use Rattle.slate_updates.specs.Writers.{epoch_of, flushed, with_epoch}
+use Rattle.slate_updates.specs.Flushes.{tables_flushed}
+use Rattle.slate_updates.specs.Writers.{epoch_of, with_epoch}
 use Rattle.slate_updates.specs.declared.epochs.ManifestEpochs.{ManifestEpochs}
 use Rattle.slate_updates.specs.declared.epochs.ManifestEpochs.TheVariants.{Writer}
 use Rattle.slate_updates.specs.declared.manifest_change.ManifestChange.{ManifestChange}
@@ -178,7 +179,7 @@ raise_fine kind n m = apart StoreFault _ refl (raise_so kind n m)
 
 change_so : (change : ManifestChange) (now : ℤ) (n : ℕ) (m : Manifest) → Fine (made change now n m)
 change_so RaiseWriter now n m = raise_so Writer n m
-change_so (Flush writer seq tick) now n m = floored_fine m.core.floor (Ok (Some (flushed seq tick m))) refl
+change_so (Flush writer batch) now n m = floored_fine m.core.floor (Ok (Some (tables_flushed batch m))) refl
 change_so (WriteCheckpoint id options) now n m = floored_fine m.core.floor (written id options now n m) (either _ (Ok None) _ refl (pushed_fine _ id options now m _ (name_fine n options.source m)))
 change_so (ReplaceCheckpoint old id options) now n m = floored_fine m.core.floor (replaced old id options now n m) (either _ (Ok None) _ refl (pushed_fine _ id options now m _ (name_fine n options.source m)))
 change_so (RefreshCheckpoint id lifetime) now n m = floored_fine m.core.floor (refreshed id lifetime now m) (either _ (Ok (Some (with_checkpoints (map (expiring id (expiry now lifetime)) m.core.checkpoints) m))) (Err (CheckpointMissing id)) refl refl)

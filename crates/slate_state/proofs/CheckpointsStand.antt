@@ -92,7 +92,7 @@ stands_in_new (ReplaceCheckpoint old own options) now n m new id which h =
 stands_in_new (RefreshCheckpoint own lifetime) now n m new id which h =
     own_stands (RefreshCheckpoint own lifetime) own id new which (floor_stands own m.core.floor (refreshed own lifetime now m) new (λ k from. was_refreshed (has_checkpoint own m) own (expiry now lifetime) m (CheckpointMissing own) k refl from) h)
 stands_in_new RaiseWriter now n m new id which h = absurd cc
-stands_in_new (Flush writer seq tick) now n m new id which h = absurd cc
+stands_in_new (Flush writer batch) now n m new id which h = absurd cc
 stands_in_new (DeleteCheckpoint own) now n m new id which h = absurd cc
 stands_in_new DropExpired now n m new id which h = absurd cc
 
@@ -104,6 +104,6 @@ stands_in_old (ReplaceCheckpoint old own options) now n m id which h =
     own_stands (ReplaceCheckpoint old own options) own id m which (was_there (has_checkpoint own m) _ (pushed_some (without_checkpoint old m.core.checkpoints) own options now m (version_to_name n options.source m)) (floor_none m.core.floor (replaced old own options now n m) h))
 stands_in_old (RefreshCheckpoint own lifetime) now n m id which h = absurd (is_refreshed (has_checkpoint own m) (with_checkpoints (map (expiring own (expiry now lifetime)) m.core.checkpoints) m) (CheckpointMissing own) (floor_none m.core.floor (refreshed own lifetime now m) h))
 stands_in_old RaiseWriter now n m id which h = absurd cc
-stands_in_old (Flush writer seq tick) now n m id which h = absurd cc
+stands_in_old (Flush writer batch) now n m id which h = absurd cc
 stands_in_old (DeleteCheckpoint own) now n m id which h = absurd cc
 stands_in_old DropExpired now n m id which h = absurd cc

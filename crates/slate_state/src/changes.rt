@@ -29,10 +29,9 @@ fn copy_change(alloc: Global, change: &ManifestChange) -> Result<ManifestChange,
 {
     match change {
         ManifestChange::RaiseWriter => Ok(ManifestChange::RaiseWriter),
-        ManifestChange::Flush { writer, seq, tick } => Ok(ManifestChange::Flush {
+        ManifestChange::Flush { writer, batch } => Ok(ManifestChange::Flush {
             writer: *writer,
-            seq: *seq,
-            tick: *tick,
+            batch: batch.copy(alloc)?,
         }),
         ManifestChange::WriteCheckpoint { id, options } => Ok(ManifestChange::WriteCheckpoint {
             id: *id,

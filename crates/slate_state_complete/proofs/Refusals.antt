@@ -30,7 +30,8 @@ use Rattle.slate_txn.specs.FencedApplying.{fenced_made}
 use Rattle.slate_updates.specs.Changes.{made, floored, right_of}
 use Rattle.slate_updates.specs.Checkpoints.{written, replaced, refreshed, deleted, unexpired, pushed, version_to_name, number_after, source_version, checkpoint_at}
 use Rattle.slate_updates.specs.RuleLaws.{IsOfRules, is_of_rules}
-use Rattle.slate_updates.specs.Writers.{epoch_of, flushed, with_epoch}
+use Rattle.slate_updates.specs.Flushes.{tables_flushed}
+use Rattle.slate_updates.specs.Writers.{epoch_of, with_epoch}
 use Rattle.slate_updates.specs.declared.epochs.ManifestEpochs.{ManifestEpochs}
 use Rattle.slate_updates.specs.declared.epochs.ManifestEpochs.TheVariants.{Writer}
 use Rattle.slate_updates.specs.declared.manifest_change.ManifestChange.{ManifestChange}
@@ -138,7 +139,7 @@ raise_inside kind n m = raised_inside _ _ _
 
 change_inside : (change : ManifestChange) (now : ℤ) → MakesInside (made change now)
 change_inside RaiseWriter now n m = raise_inside Writer n m
-change_inside (Flush writer seq tick) now n m = floored_inside m.core.floor (Ok (Some (flushed seq tick m))) tt
+change_inside (Flush writer batch) now n m = floored_inside m.core.floor (Ok (Some (tables_flushed batch m))) tt
 change_inside (WriteCheckpoint id options) now n m = floored_inside m.core.floor (written id options now n m) (either _ (Ok None) _ tt (pushed_inside _ id options now m _ (name_inside n options.source m)))
 change_inside (ReplaceCheckpoint old id options) now n m = floored_inside m.core.floor (replaced old id options now n m) (either _ (Ok None) _ tt (pushed_inside _ id options now m _ (name_inside n options.source m)))
 change_inside (RefreshCheckpoint id lifetime) now n m = floored_inside m.core.floor (refreshed id lifetime now m) (either _ (Ok (Some _)) (Err (CheckpointMissing id)) tt refl)

@@ -17,7 +17,7 @@ use Rattle.slate_protocol.specs.Works.{WorkGoes, goes}
 use Rattle.slate_protocol.specs.declared.party.Facts.{Facts}
 use Rattle.slate_protocol.specs.declared.party.Task.{Task}
 use Rattle.slate_protocol.specs.declared.work.Ended.{Ended}
-use Rattle.slate_protocol.specs.declared.work.Ended.TheVariants.{NoManifest, ManifestRead, ManifestCommitted, Passed}
+use Rattle.slate_protocol.specs.declared.work.Ended.TheVariants.{NoManifest, ManifestRead, ManifestCommitted, TablePut, Passed}
 use Rattle.slate_protocol.specs.declared.work.Purpose.{Purpose}
 use Rattle.slate_protocol.specs.declared.work.Purpose.TheVariants.{Once}
 use Rattle.slate_protocol.specs.declared.work.Work.{Work}
@@ -41,6 +41,7 @@ same_after : (facts : Facts) (call : Call) (now : ℤ) (end : Ended) → after (
 same_after facts call now (NoManifest purpose) = refl
 same_after facts call now (ManifestRead purpose db n m) = ap (λ (known : Facts). after known call now (ManifestRead purpose db n m)) (same_read facts call purpose db n m)
 same_after facts call now (ManifestCommitted purpose db n m) = same_done facts call purpose db n m
+same_after facts call now (TablePut upload) = refl
 same_after facts call now (Passed counts) = refl
 
 -- ---- the end of a phrase

@@ -3,3 +3,6 @@ mod Rewinding
 mod Follows
 mod NeverMemory
 mod Ends
+mod NoUploads
+mod PutSteps
+mod ReadsKeep

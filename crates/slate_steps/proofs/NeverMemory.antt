@@ -24,7 +24,7 @@ use Rattle.slate_layout.specs.Codec.{encoded, if_typed}
 use Rattle.slate_store.specs.Calls.{Told}
 use Rattle.slate_store.specs.Machines.{Goes, Stay, End, Stepped, Held}
 use Rattle.slate_store.specs.declared.store_answer.StoreAnswer.{StoreAnswer}
-use Rattle.slate_store.specs.declared.store_answer.StoreAnswer.TheVariants.{Found, Got, Created, Replaced, Deleted, Fault}
+use Rattle.slate_store.specs.declared.store_answer.StoreAnswer.TheVariants.{Found, Got, Created, Replaced, Written, Deleted, Fault}
 use Rattle.slate_store.specs.declared.object.ObjectMetadata.{ObjectMetadata}
 use Rattle.slate_log.specs.AdvancePhase.{AdvanceGoes, advance_goes, read_goes_to, written_goes}
 use Rattle.slate_log.specs.declared.advance_phase.AdvancePhase.{AdvancePhase}
@@ -58,10 +58,11 @@ use Rattle.slate_gc.specs.declared.pass_counts.PassCounts.{PassCounts}
 use Rattle.slate_gc.specs.declared.pass_options.PassOptions.{PassOptions}
 use Rattle.slate_gc.specs.declared.pass_phase.PassPhase.{PassPhase}
 use Rattle.slate_gc.specs.declared.pass_phase.PassPhase.TheVariants as passing
-use Rattle.slate_protocol.specs.Works.{WorkGoes, asks, goes, read_on, commit_on, pass_on}
+use Rattle.slate_protocol.specs.Works.{WorkGoes, asks, goes, read_on, commit_on, put_end, pass_on}
 use Rattle.slate_protocol.specs.declared.work.Purpose.{Purpose}
+use Rattle.slate_protocol.specs.declared.uploads.Upload.{Upload}
 use Rattle.slate_protocol.specs.declared.work.Work.{Work}
-use Rattle.slate_protocol.specs.declared.work.Work.TheVariants.{ReadManifest, CommitManifest, Pass}
+use Rattle.slate_protocol.specs.declared.work.Work.TheVariants.{ReadManifest, CommitManifest, PutTable, Pass}
 use Rattle.slate_protocol.specs.declared.work.Ended.{Ended}
 
 -- it goes on, ends well, or ends with a refusal other than that memory ran out
@@ -302,9 +303,14 @@ around_pass db options (Stay p) h = tt
 around_pass db options (End p (Ok counts)) h = tt
 around_pass db options (End p (Err e)) h = h
 
+around_put : (db : List ℕ) (upload : Upload) (bytes : List ℕ) (a : StoreAnswer) → IsPlain {P = Work} {R = Ended} (End (PutTable db upload bytes) (put_end upload a))
+around_put db upload bytes (Written tag) = tt
+around_put db upload bytes _ = refl
+
 plain_work : (work : Work) (now : ℤ) (a : StoreAnswer) → IsPlain (goes work now a)
 plain_work (ReadManifest purpose db phase) now a = around_read purpose db _ (plain_read phase a)
 plain_work (CommitManifest purpose made db phase) now a = around_commit purpose made db _ (plain_commit phase a)
+plain_work (PutTable db upload bytes) now a = around_put db upload bytes a
 plain_work (Pass db options pass) now a = around_pass db options _ (plain_gc options now pass a)
 
 pub never_memory : (from to : Work) (now : ℤ) (a : StoreAnswer) (e : SlateDBError) → goes from now a ≡ End to (Err e) → is_memory e ≡ false

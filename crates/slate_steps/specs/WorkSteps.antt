@@ -9,13 +9,15 @@ use Rattle.slate_store.specs.declared.step.Step.TheVariants.{Done}
 use Rattle.slate_log.specs.Due.{WhereOut}
 use Rattle.slate_log.specs.declared.read_phase.ReadPhase.TheVariants as reading
 use Rattle.slate_log.specs.declared.commit_phase.CommitPhase.TheVariants as committing
+use Rattle.slate_events.specs.declared.call.Call.{Call}
+use Rattle.slate_events.specs.declared.call.Call.TheVariants.{Upload}
 use Rattle.slate_protocol.specs.Works.{asks, goes}
 use Rattle.slate_protocol.specs.declared.work.Work.{Work}
-use Rattle.slate_protocol.specs.declared.work.Work.TheVariants.{ReadManifest, CommitManifest, Pass}
+use Rattle.slate_protocol.specs.declared.work.Work.TheVariants.{ReadManifest, CommitManifest, PutTable, Pass}
 use Rattle.slate_protocol.specs.declared.work.Purpose.{Purpose}
 use Rattle.slate_protocol.specs.declared.work.Purpose.TheVariants.{Once}
 use Rattle.slate_protocol.specs.declared.work.Ended.{Ended}
-use Rattle.slate_protocol.specs.declared.work.Ended.TheVariants.{NoManifest, ManifestRead, ManifestCommitted, Passed}
+use Rattle.slate_protocol.specs.declared.work.Ended.TheVariants.{NoManifest, ManifestRead, ManifestCommitted, TablePut, Passed}
 
 -- the work goes on from the answer, which came at a moment, unless memory runs out
 abbrev pub WorkGoesOn : Work → Work → ℤ → StoreAnswer → Step Ended → Type 0
@@ -25,22 +27,40 @@ WorkGoesOn from to moment answer step = GoesOn (goes from moment answer) from to
 abbrev pub OutReading : Work → Step Ended → Type 0
 OutReading from step = WhereOut step (is_reading (asks from) ≡ true)
 
--- which read or commit of its call this is; a pass is the one work of its call
+-- whether a table is put
+abbrev pub is_upload : Work → Bool
+is_upload (PutTable db upload bytes) = true
+is_upload _ = false
+
+-- whether a call is an upload
+abbrev pub is_upload_call : Call → Bool
+is_upload_call (Upload table first last) = true
+is_upload_call _ = false
+
+-- whether a phrase ended with the put of a table
+abbrev pub is_table_put : Ended → Bool
+is_table_put (TablePut upload) = true
+is_table_put _ = false
+
+-- which read or commit of its call this is; an upload or a pass is the one work of its call
 abbrev pub purpose_of : Work → Purpose
 purpose_of (ReadManifest purpose db phase) = purpose
 purpose_of (CommitManifest purpose now db phase) = purpose
+purpose_of (PutTable db upload bytes) = Once
 purpose_of (Pass db options phase) = Once
 
 -- a read that gave this version, put back to its last phase; other work as it is
 abbrev pub read_again : ℕ → Manifest → Work → Work
 read_again n m (ReadManifest purpose db phase) = ReadManifest purpose db (reading.Bounding n m)
 read_again n m (CommitManifest purpose now db phase) = CommitManifest purpose now db phase
+read_again n m (PutTable db upload bytes) = PutTable db upload bytes
 read_again n m (Pass db options phase) = Pass db options phase
 
 -- a commit that gave this version, put back to its last phase; other work as it is
 abbrev pub commit_again : ℕ → Manifest → Work → Work
 commit_again n m (ReadManifest purpose db phase) = ReadManifest purpose db phase
 commit_again n m (CommitManifest purpose now db phase) = CommitManifest purpose now db (committing.Bounding n m)
+commit_again n m (PutTable db upload bytes) = PutTable db upload bytes
 commit_again n m (Pass db options phase) = Pass db options phase
 
 -- work that ended with a version, put back to its last phase
@@ -48,6 +68,7 @@ abbrev pub rewound : Ended → Work → Work
 rewound (NoManifest purpose) work = work
 rewound (ManifestRead purpose db n m) work = read_again n m work
 rewound (ManifestCommitted purpose db n m) work = commit_again n m work
+rewound (TablePut upload) work = work
 rewound (Passed counts) work = work
 
 -- whether a phrase ended with a version
@@ -55,6 +76,7 @@ abbrev pub has_version : Ended → Bool
 has_version (NoManifest purpose) = false
 has_version (ManifestRead purpose db n m) = true
 has_version (ManifestCommitted purpose db n m) = true
+has_version (TablePut upload) = false
 has_version (Passed counts) = false
 
 -- the last call of the work only read, and the work can be put back

@@ -4,6 +4,7 @@
 mod calls;
 mod party_steps;
 mod steps;
+mod uploading;
 mod works;
 
 pub use calls::{Onward, begin};

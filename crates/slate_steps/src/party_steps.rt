@@ -6,7 +6,8 @@ ghost use Rattle.slate_steps.specs.Followed.{standing};
 ghost use Rattle.slate_steps.specs.PartySteps.{IsPartyStep};
 
 use crate::steps::follow;
-use crate::works::asked;
+use crate::uploading::step_upload;
+use crate::works::{asked, is_upload};
 use slate_events::Reply;
 use slate_ids::{Millis, OutOfMemory};
 use slate_protocol::{Facts, Task};
@@ -22,8 +23,8 @@ pub struct PartyStep {
     pub reply: Option<Reply>,
 }
 
-// Makes a call under a mark. Running out of memory leaves the store's objects as they were.
-fn perform_under(
+/// Makes a call under a mark. Running out of memory leaves the store's objects as they were.
+pub(crate) fn perform_under(
     alloc: Global,
     store: &mut MemoryStore,
     mark: Mark,
@@ -56,6 +57,9 @@ pub fn step_party(
     ensures kept_task { OnErr result (task.new ≡ task.old) }
     ensures kept_store { OnErr result (store.new.store ≡ store.old.store) }
 {
+    if is_upload(&task.work) {
+        return step_upload(alloc, facts, task, store, moment, mark);
+    }
     let call = asked(alloc, &task.work)?;
     let answer = perform_under(alloc, store, mark, &call, moment)?;
     let reply = follow(alloc, facts, task, moment, &answer)?;

@@ -1,11 +1,11 @@
 //! One step of a call.
-ghost use Rattle.std.specs.Prelude.{◌≡◌, true, IfOk, OnErr};
+ghost use Rattle.std.specs.Prelude.{◌≡◌, true, false, IfOk, OnErr};
 ghost use Rattle.slate_protocol.specs.Rows.{after as after_end};
 ghost use Rattle.slate_steps.specs.Onward.{next_of};
-ghost use Rattle.slate_steps.specs.WorkSteps.{has_version};
-ghost use Rattle.slate_steps.specs.Followed.{standing, next_by, Follows, Kept, Refuses, Ends};
+ghost use Rattle.slate_steps.specs.WorkSteps.{has_version, is_table_put, is_upload};
+ghost use Rattle.slate_steps.specs.Followed.{standing, next_by, Follows, Kept, Ends};
 
-use crate::calls::{Onward, change_of, done, learn};
+use crate::calls::{Onward, change_of, done, learn, refuse};
 use crate::works::{goes_on, rewind};
 use slate_events::{Call, Reply};
 use slate_ids::{Millis, OutOfMemory, SlateDBError};
@@ -13,17 +13,6 @@ use slate_layout::ManifestCodec;
 use slate_protocol::{Ended, Facts, Task, Work};
 use slate_store::{Step, StoreAnswer};
 use std::alloc::Global;
-
-// A refusal is the reply, unless memory ran out.
-fn refuse(refusal: SlateDBError) -> Result<Reply, OutOfMemory>
-    ensures { Refuses refusal result }
-{
-    if refusal.is_memory() {
-        Err(OutOfMemory)
-    } else {
-        Ok(Reply::Refused(refusal))
-    }
-}
 
 // What follows the end of a phrase, which came at a moment. Memory runs out only after a version.
 fn after(
@@ -53,6 +42,7 @@ fn after(
         Ended::ManifestCommitted(purpose, _, _, manifest) => {
             done(alloc, facts, call, *purpose, manifest)
         }
+        Ended::TablePut(_) => Ok(Onward::Finish(Reply::Done)),
         Ended::Passed(counts) => Ok(Onward::Finish(Reply::Pass {
             picked: counts.picked,
             deleted: counts.deleted,
@@ -83,6 +73,7 @@ fn end_phrase(
     now: Millis,
     ended: Ended,
 ) -> Result<Option<Reply>, OutOfMemory>
+    requires { is_table_put ended ≡ false }
     ensures { Ends facts.old task.old now ended facts.new task.new result }
 {
     match after(alloc, facts, &task.call, now, &ended) {
@@ -97,7 +88,7 @@ fn end_phrase(
     }
 }
 
-/// Goes on with a call from the answer to the store call that it asked, at the moment of that call. A reply ends the call. Memory runs
+/// Goes on with a call that puts no table from the answer to the store call that it asked, at the moment of that call. A reply ends the call. Memory runs
 /// out only after a list or a get, and leaves the facts and the call as they were.
 pub(crate) fn follow(
     alloc: Global,
@@ -106,6 +97,7 @@ pub(crate) fn follow(
     moment: Millis,
     answer: &StoreAnswer,
 ) -> Result<Option<Reply>, OutOfMemory>
+    requires { is_upload task.old.work ≡ false }
     ensures ok { IfOk result (λ reply. Follows facts.old task.old moment answer.now
         task.new.call (standing facts.new task.new reply)) }
     ensures err { OnErr result (Kept facts.old task.old facts.new task.new) }

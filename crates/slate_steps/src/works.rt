@@ -1,12 +1,14 @@
 //! The phrase under way: what it asks, and how it goes on from the answer.
-ghost use Rattle.std.specs.Prelude.{◌≡◌, ℤ, pos, IfOk};
+ghost use Rattle.std.specs.Prelude.{◌≡◌, ℤ, pos, false, IfOk};
 ghost use Rattle.slate_protocol.specs.Works.{asks as asks_at, db_of as db_at, is_due as due_at};
+ghost use Rattle.slate_ids.specs.declared.object_path.ObjectPath.TheVariants as paths;
+ghost use Rattle.slate_store.specs.declared.store_call.StoreCall.TheVariants as store;
 ghost use Rattle.slate_protocol.specs.declared.work.Work.TheVariants as work;
-ghost use Rattle.slate_steps.specs.WorkSteps.{WorkGoesOn, AtEnd, OutReading, purpose_of as purpose_at};
+ghost use Rattle.slate_steps.specs.WorkSteps.{WorkGoesOn, AtEnd, OutReading, purpose_of as purpose_at, is_upload as is_upload_work};
 ghost use Rattle.slate_steps.specs.WorkSteps as rewinding;
 
 use slate_gc::{GcPass, PassOptions};
-use slate_ids::{DbPath, Millis, OutOfMemory};
+use slate_ids::{ByteList, DbPath, Millis, ObjectPath, OutOfMemory, Ulid};
 use slate_layout::ManifestCodec;
 use slate_log::{CommitPhase, LogKind, ReadPhase, Sequenced};
 use slate_model::Manifest;
@@ -22,6 +24,18 @@ fn manifests(db: DbPath) -> Sequenced<Manifest, ManifestCodec>
     Sequenced::new(db, LogKind::Manifest, ManifestCodec)
 }
 
+/// The put of a table.
+pub(crate) fn put_call(
+    alloc: Global,
+    db: DbPath,
+    table: Ulid,
+    bytes: &ByteList,
+) -> Result<StoreCall, OutOfMemory>
+    ensures { IfOk result (λ call. call ≡ store.Put (paths.Table db table) bytes.now) }
+{
+    Ok(StoreCall::Put(ObjectPath::Table(db, table), bytes.copy(alloc)?))
+}
+
 /// The one store call that is due where a phrase stands.
 pub(crate) fn asked(alloc: Global, work: &Work) -> Result<StoreCall, OutOfMemory>
     ensures { IfOk result (λ call. call ≡ asks_at work.now) }
@@ -29,6 +43,7 @@ pub(crate) fn asked(alloc: Global, work: &Work) -> Result<StoreCall, OutOfMemory
     match work {
         Work::ReadManifest(_, db, phase) => Ok(phase.asks(&manifests(*db))),
         Work::CommitManifest(_, _, db, phase) => phase.asks(alloc, &manifests(*db)),
+        Work::PutTable(db, upload, bytes) => put_call(alloc, *db, upload.table, bytes),
         Work::Pass(db, _, phase) => phase.asks(alloc, &manifests(*db)),
     }
 }
@@ -102,6 +117,7 @@ pub fn is_due(work: &Work) -> bool
     match work {
         Work::ReadManifest(_, _, phase) => phase.due(),
         Work::CommitManifest(_, _, _, phase) => phase.due(),
+        Work::PutTable(_, _, _) => true,
         Work::Pass(_, _, phase) => phase.due(),
     }
 }
@@ -113,7 +129,7 @@ fn purpose_of(work: &Work) -> Purpose
     match work {
         Work::ReadManifest(purpose, _, _) => *purpose,
         Work::CommitManifest(purpose, _, _, _) => *purpose,
-        Work::Pass(_, _, _) => Purpose::Once,
+        Work::PutTable(_, _, _) | Work::Pass(_, _, _) => Purpose::Once,
     }
 }
 
@@ -124,18 +140,27 @@ fn db_of(work: &Work) -> DbPath
     match work {
         Work::ReadManifest(_, db, _) => *db,
         Work::CommitManifest(_, _, db, _) => *db,
+        Work::PutTable(db, _, _) => *db,
         Work::Pass(db, _, _) => *db,
     }
 }
 
-/// Goes on from the answer to the call that the phrase asked, at the moment of the call. Memory runs out only after a list or a get,
-/// and leaves the phrase as it was.
+/// Whether a table is put.
+pub(crate) fn is_upload(work: &Work) -> bool
+    ensures { result ≡ is_upload_work work.now }
+{
+    matches!(work, Work::PutTable(_, _, _))
+}
+
+/// Goes on from the answer to the call that the phrase asked, at the moment of the call; no put of a table is under way. Memory runs out
+/// only after a list or a get, and leaves the phrase as it was.
 pub(crate) fn goes_on(
     alloc: Global,
     work: &mut Work,
     moment: Millis,
     answer: &StoreAnswer,
 ) -> Step<Ended>
+    requires { is_upload_work work.old ≡ false }
     ensures goes { WorkGoesOn work.old work.new moment answer.now result }
     ensures end { AtEnd work.old work.new result }
     ensures out { OutReading work.old result }
@@ -145,6 +170,7 @@ pub(crate) fn goes_on(
     match work {
         Work::ReadManifest(_, _, phase) => read_goes_on(alloc, purpose, db, phase, answer),
         Work::CommitManifest(_, _, _, phase) => commit_goes_on(purpose, db, phase, answer),
+        Work::PutTable(_, _, _) => unreachable!(),
         Work::Pass(_, options, phase) => { pass_goes_on(alloc, db, options, phase, moment, answer) }
     }
 }
@@ -174,6 +200,6 @@ pub(crate) fn rewind(work: &mut Work, ended: Ended)
     match ended {
         Ended::ManifestRead(_, _, n, value) => read_again(work, n, value),
         Ended::ManifestCommitted(_, _, n, value) => commit_again(work, n, value),
-        Ended::NoManifest(_) | Ended::Passed(_) => {}
+        Ended::NoManifest(_) | Ended::TablePut(_) | Ended::Passed(_) => {}
     }
 }

@@ -12,7 +12,8 @@ use Rattle.slate_log.specs.declared.right.Right.{Right}
 use Rattle.slate_log.specs.declared.right.Right.TheVariants.{Plain}
 use Rattle.slate_updates.specs.Checkpoints.{written, replaced, refreshed, deleted, unexpired}
 use Rattle.slate_updates.specs.Rules.{manifest_refusal}
-use Rattle.slate_updates.specs.Writers.{raised_writer, flushed}
+use Rattle.slate_updates.specs.Writers.{raised_writer}
+use Rattle.slate_updates.specs.Flushes.{tables_flushed}
 use Rattle.slate_updates.specs.declared.manifest_change.ManifestChange.{ManifestChange}
 use Rattle.slate_updates.specs.declared.manifest_change.ManifestChange.TheVariants.{RaiseWriter, Flush, WriteCheckpoint, ReplaceCheckpoint, RefreshCheckpoint, DeleteCheckpoint, DropExpired}
 
@@ -38,7 +39,7 @@ pub record HasRisenFloor (old new : Manifest) : Type 0 where
 -- what a change makes at a moment of version n; nothing, where nothing is to be committed. A raise alone leaves the floor as it is
 abbrev pub made : ManifestChange → ℤ → ℕ → Manifest → Result (Option Manifest) SlateDBError
 made RaiseWriter now n m = raised_writer n m
-made (Flush writer seq tick) now n m = floored m.core.floor (Ok (Some (flushed seq tick m)))
+made (Flush writer batch) now n m = floored m.core.floor (Ok (Some (tables_flushed batch m)))
 made (WriteCheckpoint id options) now n m = floored m.core.floor (written id options now n m)
 made (ReplaceCheckpoint old id options) now n m = floored m.core.floor (replaced old id options now n m)
 made (RefreshCheckpoint id lifetime) now n m = floored m.core.floor (refreshed id lifetime now m)
@@ -58,13 +59,13 @@ writer_fence (Some own) read = fence own read
 
 -- why a version refuses a change: a flush alone has a fence
 abbrev pub fence_of : ManifestChange → Manifest → Option SlateDBError
-fence_of (Flush writer seq tick) m = writer_fence writer m.writer_epoch
+fence_of (Flush writer batch) m = writer_fence writer m.writer_epoch
 fence_of _ m = None
 
 -- the writer epoch with which a change puts a manifest: a raise that of the manifest itself, a flush that of its writer
 abbrev pub writer_epoch_in : ManifestChange → Manifest → Option ℕ
 writer_epoch_in RaiseWriter m = Some m.writer_epoch
-writer_epoch_in (Flush writer seq tick) m = writer
+writer_epoch_in (Flush writer batch) m = writer
 writer_epoch_in _ m = None
 
 -- ---- the commit

@@ -1,8 +1,7 @@
--- What an open and a flush of a writer make of a manifest.
-use Rattle.std.specs.Prelude.{◌≡◌, ℕ, ℤ, Option, Result, refl}
+-- The epochs of a manifest, and what an open of a writer makes of it.
+use Rattle.std.specs.Prelude.{◌≡◌, ℕ, Option, Result, refl}
 use Rattle.slate_ids.specs.declared.error.SlateDBError.{SlateDBError}
 use Rattle.slate_model.specs.declared.manifest.Manifest.{Manifest}
-use Rattle.slate_model.specs.Sequences.{inserted}
 use Rattle.slate_log.specs.Change.{next_epoch}
 use Rattle.slate_updates.specs.declared.epochs.ManifestEpochs.{ManifestEpochs}
 use Rattle.slate_updates.specs.declared.epochs.ManifestEpochs.TheVariants.{Writer, Compactor}
@@ -25,7 +24,3 @@ epoch_set Compactor m n = refl
 -- what an open makes of the manifest read: its writer epoch plus one, where there is such an epoch
 abbrev pub raised_writer : ℕ → Manifest → Result (Option Manifest) SlateDBError
 raised_writer n m = next_epoch (epoch_of Writer) (with_epoch Writer) n m
-
--- what a flush makes of the manifest read: its tick and its sequence number, whose pair the tracker takes where it is in order
-abbrev pub flushed : ℕ → ℤ → Manifest → Manifest
-flushed seq tick m = record m { core = record m.core { last_l0_clock_tick = tick; last_l0_seq = seq; sequence_tracker = inserted m.core.sequence_tracker (seq, tick) } }

@@ -11,7 +11,7 @@ use crate::tables::{TableSet, all_tables, set_of};
 use bytes::Bytes;
 use slate_ids::{Listed, Millis, OutOfMemory, SlateDBError, Ulid};
 use slate_merges::merge_remote_manifest;
-use slate_model::{Manifest, ManifestCore, SsTableHandle, SsTableId, SsTableView};
+use slate_model::{Manifest, ManifestCore, Plain, SsTableHandle, SsTableId, SsTableView};
 use std::alloc::Global;
 
 /// A table that a flush puts into a tree.
@@ -23,6 +23,20 @@ pub struct FlushedTable {
     pub prefix: Bytes,
     /// The table.
     pub sst: SsTableHandle,
+}
+
+impl Plain for FlushedTable {
+    fn clone(&self, alloc: Global) -> Result<FlushedTable, OutOfMemory> {
+        Ok(FlushedTable {
+            view: self.view,
+            prefix: Plain::clone(&self.prefix, alloc)?,
+            sst: Plain::clone(&self.sst, alloc)?,
+        })
+    }
+
+    fn is(&self, other: &FlushedTable) -> bool {
+        self.view.is(&other.view) && self.prefix.is(&other.prefix) && self.sst.is(&other.sst)
+    }
 }
 
 /// What a flush puts.
@@ -38,6 +52,21 @@ pub struct FlushBatch {
     pub seq: u64,
     /// The last clock tick of the newest flushed table, in milliseconds.
     pub tick: Millis,
+}
+
+impl FlushBatch {
+    /// An equal batch.
+    pub fn copy(&self, alloc: Global) -> Result<FlushBatch, OutOfMemory>
+        ensures { IfOk result (λ copied. copied ≡ self.now) }
+    {
+        Ok(FlushBatch {
+            tables: Plain::clone(&self.tables, alloc)?,
+            replay_after: self.replay_after,
+            next_wal: self.next_wal,
+            seq: self.seq,
+            tick: self.tick,
+        })
+    }
 }
 
 // Adds a table to a set, and tells whether it is new there.

@@ -6,7 +6,6 @@ mod entries;
 mod epochs;
 mod flush_batch;
 mod flushed_tables;
-mod flushing;
 mod laws;
 mod lookups;
 mod manifest_change;
@@ -23,7 +22,6 @@ pub use checkpoints::{
 pub use epochs::{ManifestEpochs, raise_writer};
 pub use flush_batch::{FlushBatch, FlushedTable, flush_tables};
 pub use flushed_tables::l0_ulid_cutoff;
-pub use flushing::flush;
 pub use laws::{
     cutoff_is_timely, lawful_updates_keep, neighbours_tell, rules_refuse_so, unchanged_trees_pass,
 };

@@ -11,7 +11,7 @@ use crate::checkpoints::{
     delete_checkpoint, expire_checkpoints, refresh_checkpoint, replace_checkpoint, write_checkpoint,
 };
 use crate::epochs::raise_writer;
-use crate::flushing::flush;
+use crate::flush_batch::{FlushBatch, flush_tables};
 use crate::rules::ManifestRules;
 use slate_ids::{CheckpointId, Millis, ObjectCodec, SlateDBError, StateCause};
 use slate_log::{CommitPhase, Right, fence, prepare_change};
@@ -24,13 +24,13 @@ use std::alloc::Global;
 pub enum ManifestChange {
     /// The writer epoch plus one. Refused with `Exhausted` at the last epoch.
     RaiseWriter,
-    /// The sequence number and the clock tick, in milliseconds, of the newest flushed table, by the writer of this epoch. Refused with
-    /// `Fenced` where the version read has a writer epoch above it, and with `InvalidDBState` where the writer hasn't opened the
-    /// database.
+    /// The tables of the batch that no tree has yet, each in front of the L0 of its prefix, and the batch's numbers, by the writer of this
+    /// epoch. Refused with `Fenced` where the version read has a writer epoch above it, and with `InvalidDBState` where the writer hasn't
+    /// opened the database. A batch that lowers the last file whose rows are all in tables, a table from before the floor or the
+    /// watermark, and a prefix that nests with another are refused by the rules on new versions alone.
     Flush {
         writer: Option<u64>,
-        seq: u64,
-        tick: Millis,
+        batch: FlushBatch,
     },
     /// One checkpoint more, the last. Nothing, where the id is there.
     WriteCheckpoint {
@@ -121,8 +121,8 @@ impl ManifestChange {
         let floor = manifest.core.floor;
         match self {
             ManifestChange::RaiseWriter => raise_writer(alloc, n, manifest),
-            ManifestChange::Flush { seq, tick, .. } => {
-                floored(floor, Ok(Some(flush(alloc, seq, tick, manifest)?)))
+            ManifestChange::Flush { batch, .. } => {
+                floored(floor, Ok(Some(flush_tables(alloc, batch, manifest)?)))
             }
             ManifestChange::WriteCheckpoint { id, options } => {
                 floored(

@@ -2,9 +2,11 @@
 
 use crate::test_values::{With, manifest_of};
 use bytes::Bytes;
-use slate_ids::{Listed, Ulid};
+use slate_ids::{Listed, SlateDBError, Ulid, UpdateRule};
+use slate_layout::ManifestCodec;
+use slate_log::CommitPhase;
 use slate_model::{LsmTreeState, Manifest, SsTableHandle, SsTableId, SsTableInfo};
-use slate_updates::{FlushBatch, FlushedTable, flush_tables};
+use slate_updates::{FlushBatch, FlushedTable, ManifestChange, flush_tables};
 use std::alloc::Global;
 use std::process::Abort;
 
@@ -37,16 +39,19 @@ const FLUSHES: [(&[With], &[Row], &str); 9] = [
     (&[With::Log(4)], &[(4, 50, "")], ": 4 w4 "),
 ];
 
-/// The table of a row.
+/// The table of a row, with keys from `a` to `b`.
 fn flushed(row: &Row) -> FlushedTable {
     let (moment, view, prefix) = row;
+    let mut info = SsTableInfo::default();
+    info.first_entry = Some(Bytes::from("a"));
+    info.last_entry = Some(Bytes::from("b"));
     FlushedTable {
         view: Ulid::from_parts(*view as u64, 0),
         prefix: Bytes::from(*prefix),
         sst: SsTableHandle {
             id: SsTableId::Compacted(Ulid::from_parts(*moment as u64, 0)),
             format_version: 1,
-            info: SsTableInfo::default(),
+            info,
         },
     }
 }
@@ -141,4 +146,100 @@ fn a_flush_first_merges_the_manifest_with_itself(rt: HostRuntime) {
     let rows = [(5, 50, ""), (6, 60, ""), (4, 70, "")];
     let new = flush_tables(rt.alloc(), batch(&rt, rt.alloc(), &rows), &old).expect(&rt, "memory");
     assert!(rt; trees_text(&rt, rt.alloc(), &new).as_str() == ": 4 5 6 ");
+}
+
+/// What a commit comes to.
+#[derive(Clone, Copy, Debug)]
+enum Told {
+    /// It puts the next version.
+    Put,
+    /// A number falls.
+    Lowered,
+    /// The moment from which on new tables may be, and that of an earlier one.
+    Late(i64, i64),
+    /// A prefix, and the one with which it begins.
+    Nested(&'static str, &'static str),
+}
+
+/// What version 7 has, the tables of the flush, and what its commit comes to.
+const COMMITS: [(&[With], &[Row], Told); 9] = [
+    (&[], &[(5, 50, ""), (4, 60, "b")], Told::Put),
+    (&[With::Replay(3)], &[], Told::Put),
+    (&[With::Replay(4)], &[], Told::Lowered),
+    (
+        &[With::Replay(4), With::Floor(400)],
+        &[(399, 50, "")],
+        Told::Lowered,
+    ),
+    (&[With::Floor(400)], &[(400, 50, "")], Told::Put),
+    (
+        &[With::Floor(400)],
+        &[(400, 50, ""), (399, 60, "a")],
+        Told::Late(400, 399),
+    ),
+    (
+        &[With::Table(500, 0)],
+        &[(499, 999, "")],
+        Told::Late(500, 499),
+    ),
+    (
+        &[With::Segment("a", &[4])],
+        &[(5, 50, "ab")],
+        Told::Nested("ab", "a"),
+    ),
+    (
+        &[With::Segment("ab", &[4])],
+        &[(5, 50, "a")],
+        Told::Nested("ab", "a"),
+    ),
+];
+
+/// Whether a refusal is this one.
+fn is_refusal(e: &SlateDBError, told: Told) -> bool {
+    match (e, told) {
+        (SlateDBError::UpdateRefused(UpdateRule::U1), Told::Lowered) => true,
+        (
+            SlateDBError::InvalidClockTick {
+                last_tick,
+                next_tick,
+            },
+            Told::Late(least, late),
+        ) => { *last_tick == least && *next_tick == late }
+        (SlateDBError::InvalidSegmentPrefix { prefix, conflict }, Told::Nested(longer, shorter)) =>
+            { prefix.as_slice() == longer.as_bytes() && conflict.as_slice() == shorter.as_bytes() }
+        _ => false,
+    }
+}
+
+/// Whether a commit comes to this.
+fn comes_to(commit: &Result<Option<CommitPhase<Manifest>>, SlateDBError>, told: Told) -> bool {
+    match commit {
+        Ok(commit) => commit.is_some() && matches!(told, Told::Put),
+        Err(e) => is_refusal(e, told),
+    }
+}
+
+/// The commit of a flush of these tables after version 7, which has these.
+fn commit_of(
+    rt: &impl Abort,
+    alloc: Global,
+    withs: &&[With],
+    rows: &[Row],
+) -> Result<Option<CommitPhase<Manifest>>, SlateDBError> {
+    let old = manifest_of(rt, alloc, &[*withs]);
+    let change = ManifestChange::Flush {
+        writer: Some(0),
+        batch: batch(rt, alloc, rows),
+    };
+    change.commit(alloc, &ManifestCodec, 1000, 7, &old)
+}
+
+#[test]
+fn the_rules_see_what_a_flush_puts(rt: HostRuntime) {
+    for (withs, rows, told) in &COMMITS {
+        assert!(rt;
+            comes_to(&commit_of(&rt, rt.alloc(), withs, rows), *told),
+            "{told:?}"
+        );
+    }
 }

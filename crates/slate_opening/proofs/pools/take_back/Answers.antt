@@ -1,17 +1,13 @@
-use Rattle.std.proofs.Common.{rules, ◌≡◌, Option, None, sym, ap, ◌∙◌}
-use Rattle.std.specs.Map.{lookup}
+use Rattle.std.proofs.Common.{rules, ◌≡◌, ◌∷◌, ◌++◌, []}
+use Rattle.std.specs.Map.{remove_entry}
 use Rattle.std.specs.BTreeMap.{is_at}
-use Rattle.slate_protocol.specs.declared.carrier.Carrier.{Carrier}
-use Rattle.slate_opening.specs.Pools.{before}
-use Rattle.slate_opening.proofs.Carrying.{none_set}
+use Rattle.slate_opening.specs.Pools.{without}
+use Rattle.slate_opening.proofs.Carrying.{one_taken_out}
 use Rattle.slate_opening.proofs.pools.take_back.Goals as goal
 
--- nothing was known of the id
-pub returns-in_default : goal.returns-in_default
-returns-in_default g c =
-    let cmp = g.K.Ord.cmp in
-    let id = c.args.id.now in
-    let pool = c.args.pool.now.entries in
-    let none : lookup (is_at (cmp id)) pool ≡ None = search rules in
-    let kept : c.get_mut.follows.lender-at-none.entries ≡ pool = search rules in
-    kept ∙ sym (ap (λ (o : Option Carrier). before cmp id o pool) c.in-Some.is ∙ none_set (is_at (cmp id)) pool c.in-Some.old none)
+pub loop-id-preserved : goal.loop-id-preserved
+loop-id-preserved g c =
+    let last : c.loop-id.added.items ≡ c.pop.new.self.items ++ c.in-Some.id ∷ [] = search rules in
+    let made : c.remove.new.self.entries ≡ remove_entry (is_at (g.K.Ord.cmp c.in-Some.id)) c.loop-id.pool.entries = search rules in
+    one_taken_out g.K.Ord.cmp c.loop-id.added.items c.pop.new.self.items c.in-Some.id c.loop-id.pool.entries c.remove.new.self.entries (without g.K.Ord.cmp c.args.added.items c.args.pool.now.entries) last made
+    c.loop-id.invariant

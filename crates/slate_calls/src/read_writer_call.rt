@@ -1,0 +1,62 @@
+//! The call that a start of a writer stands for.
+ghost use Rattle.serde_json.specs.View.{view};
+ghost use Rattle.slate_json.specs.Fields.{Gives};
+ghost use Rattle.slate_calls.specs.Calls.{open_writer_in, upload_in, flush_in};
+
+use bytes::Bytes;
+use serde_json::Value;
+use slate_events::Call;
+use slate_json::{JsonError, defaulted, only, required};
+use std::alloc::Global;
+
+/// An open, which has no field of its own.
+#[tactic(auto, unfolding(crate::specs::Calls::open_writer_in))]
+pub(crate) fn read_open_writer(d: &Value) -> Result<Call, JsonError>
+    ensures { Gives result (open_writer_in (view d.now)) }
+{
+    only(d, &["start", "call"])?;
+    Ok(Call::OpenWriter)
+}
+
+/// An upload with its table and the table's keys.
+#[tactic(auto, unfolding(crate::specs::Calls::upload_in))]
+pub(crate) fn read_upload(alloc: Global, d: &Value) -> Result<Call, JsonError>
+    ensures { Gives result (upload_in (view d.now)) }
+{
+    only(d, &["start", "call", "table", "first", "last"])?;
+    let table = required(alloc, d, "table")?;
+    let first = defaulted(alloc, d, "first", Bytes::from_static(b"a"))?;
+    let last = defaulted(alloc, d, "last", Bytes::from_static(b"z"))?;
+    Ok(Call::Upload { table, first, last })
+}
+
+/// A flush with its tables and numbers.
+#[tactic(auto, unfolding(crate::specs::Calls::flush_in))]
+pub(crate) fn read_flush(alloc: Global, d: &Value) -> Result<Call, JsonError>
+    ensures { Gives result (flush_in (view d.now)) }
+{
+    only(
+        d,
+        &[
+            "start",
+            "call",
+            "tables",
+            "replay_after",
+            "next_wal",
+            "seq",
+            "tick",
+        ],
+    )?;
+    let tables = required(alloc, d, "tables")?;
+    let replay_after = defaulted(alloc, d, "replay_after", 0)?;
+    let next_wal = defaulted(alloc, d, "next_wal", 1)?;
+    let seq = defaulted(alloc, d, "seq", 0)?;
+    let tick = defaulted(alloc, d, "tick", 0)?;
+    Ok(Call::Flush {
+        tables,
+        replay_after,
+        next_wal,
+        seq,
+        tick,
+    })
+}

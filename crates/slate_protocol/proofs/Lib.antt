@@ -1,0 +1,2 @@
+pub mod TakenBack
+mod Undone

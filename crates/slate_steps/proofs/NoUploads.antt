@@ -1,0 +1,48 @@
+-- Work that puts no table doesn't end with the put of one.
+use Rattle.std.proofs.Common.{◌≡◌, ℤ, false, true≢false, List, ℕ, Some, None, Ok, Err, refl, sym, subst, inl, inr}
+use Rattle.slate_model.specs.declared.manifest.Manifest.{Manifest}
+use Rattle.slate_store.specs.Machines.{Stay, End}
+use Rattle.slate_store.specs.declared.step.Step.TheVariants.{Done}
+use Rattle.slate_store.specs.declared.store_answer.StoreAnswer.{StoreAnswer}
+use Rattle.slate_log.specs.CommitPhase.{CommitGoes, commit_goes}
+use Rattle.slate_log.specs.ReadPhase.{Reply, read_goes}
+use Rattle.slate_gc.specs.GcPass.{GcGoes}
+use Rattle.slate_gc.specs.declared.pass_options.PassOptions.{PassOptions}
+use Rattle.slate_protocol.specs.Works.{WorkGoes, goes, read_on, commit_on, pass_on}
+use Rattle.slate_protocol.specs.declared.work.Ended.{Ended}
+use Rattle.slate_protocol.specs.declared.work.Purpose.{Purpose}
+use Rattle.slate_protocol.specs.declared.work.Work.{Work}
+use Rattle.slate_protocol.specs.declared.work.Work.TheVariants.{ReadManifest, CommitManifest, PutTable, Pass}
+use Rattle.slate_steps.specs.WorkSteps.{WorkGoesOn, is_upload, is_table_put}
+
+-- it goes on, is refused, or ends with something else
+abbrev EndsElse : WorkGoes → Type 0
+EndsElse (Stay work) = Unit {0}
+EndsElse (End work (Ok end)) = is_table_put end ≡ false
+EndsElse (End work (Err e)) = Unit {0}
+
+read_else : (purpose : Purpose) (db : List ℕ) (g : Reply Manifest) → EndsElse (read_on purpose db g)
+read_else purpose db (Stay p) = tt
+read_else purpose db (End p (Ok None)) = refl
+read_else purpose db (End p (Ok (Some v))) = refl
+read_else purpose db (End p (Err e)) = tt
+
+commit_else : (purpose : Purpose) (made : ℤ) (db : List ℕ) (g : CommitGoes Manifest) → EndsElse (commit_on purpose made db g)
+commit_else purpose made db (Stay p) = tt
+commit_else purpose made db (End p (Ok v)) = refl
+commit_else purpose made db (End p (Err e)) = tt
+
+pass_else : (db : List ℕ) (options : PassOptions) (g : GcGoes) → EndsElse (pass_on db options g)
+pass_else db options (Stay p) = tt
+pass_else db options (End p (Ok counts)) = refl
+pass_else db options (End p (Err e)) = tt
+
+work_else : (work : Work) (now : ℤ) (a : StoreAnswer) → is_upload work ≡ false → EndsElse (goes work now a)
+work_else (ReadManifest purpose db phase) now a h = read_else purpose db _
+work_else (CommitManifest purpose made db phase) now a h = commit_else purpose made db _
+work_else (PutTable db upload bytes) now a h = absurd (true≢false h)
+work_else (Pass db options pass) now a h = pass_else db options _
+
+pub no_upload : (from to : Work) (now : ℤ) (a : StoreAnswer) (end : Ended) → is_upload from ≡ false → WorkGoesOn from to now a (Done (Ok end)) → is_table_put end ≡ false
+no_upload from to now a end h (inl gives) = subst (λ (g : WorkGoes). EndsElse g) gives (work_else from now a h)
+no_upload from to now a end h (inr m) = absurd (true≢false (sym m.0))
