@@ -1,4 +1,4 @@
 pub mod NoFaults
 mod ReferencedFaults
-mod Replies
+mod Missing
 mod NamedOnce

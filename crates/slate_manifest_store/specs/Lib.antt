@@ -1,4 +1,3 @@
-pub mod Replies
 pub mod Manifests
 pub mod Named
 pub mod Referenced

@@ -1,23 +1,21 @@
 -- The log of manifests: what its calls reply.
-use Rattle.std.specs.Prelude.{◌≡◌, ℕ, Bool, List, Option, Some, None, Result, Ok, Err}
+use Rattle.std.specs.Prelude.{ℕ, Bool, List, Option, Result}
 use Rattle.slate_ids.specs.declared.error.SlateDBError.{SlateDBError}
-use Rattle.slate_ids.specs.declared.error.SlateDBError.TheVariants.{LatestTransactionalObjectVersionMissing, ManifestMissing}
-use Rattle.slate_ids.specs.Answers.{OrMemory}
+use Rattle.slate_ids.specs.declared.error.SlateDBError.TheVariants.{ManifestMissing}
 use Rattle.slate_store.specs.Calls.{Told}
 use Rattle.slate_store.specs.Machines.{Goes}
 use Rattle.slate_store.specs.declared.store_answer.StoreAnswer.{StoreAnswer}
-use Rattle.slate_log.specs.ReadLatest.{Read, ReadBegan}
 use Rattle.slate_log.specs.ReadPhase.{read_goes}
 use Rattle.slate_log.specs.TryRead.{try_goes, try_reply}
 use Rattle.slate_log.specs.declared.read_phase.ReadPhase.{ReadPhase}
 use Rattle.slate_updates.specs.Checkpoints.{is_named}
-use Rattle.slate_manifest_store.specs.Replies.{goes_as}
+use Rattle.slate_replies.specs.Replies as replies
+use Rattle.slate_replies.specs.Replies.{goes_as}
 use Rattle.slate_layout.specs.Codec.{encoded}
 use Rattle.slate_layout.specs.declared.codec.ManifestCodec.{ManifestCodec}
 use Rattle.slate_log.specs.declared.log_kind.LogKind.TheVariants as logs
 use Rattle.slate_log.specs.declared.sequenced.Sequenced.{Sequenced}
 use Rattle.slate_log.specs.declared.try_read_phase.TryReadPhase.{TryReadPhase}
-use Rattle.slate_log.specs.declared.try_read_phase.TryReadPhase.TheVariants.{Getting, Over}
 use Rattle.slate_manifest_parts.specs.Decoding.{decoded_manifest}
 use Rattle.slate_model.specs.Manifests.{Version}
 use Rattle.slate_model.specs.declared.manifest.Manifest.{Manifest}
@@ -36,31 +34,23 @@ version_of v = record { id = v.0; manifest = v.1 }
 
 -- the latest version, where the log has one
 abbrev pub latest_or_none : Result (Option (ℕ × Manifest)) SlateDBError → Result (Option Version) SlateDBError
-latest_or_none (Ok (Some v)) = Ok (Some (version_of v))
-latest_or_none (Ok None) = Ok None
-latest_or_none (Err e) = Err e
+latest_or_none reply = replies.latest_or_none version_of reply
 
 -- the latest version; a log without one has none to give
 abbrev pub latest : Result (Option (ℕ × Manifest)) SlateDBError → Result Version SlateDBError
-latest (Ok (Some v)) = Ok (version_of v)
-latest (Ok None) = Err LatestTransactionalObjectVersionMissing
-latest (Err e) = Err e
+latest reply = replies.latest version_of reply
 
 -- the manifest of a number; one that isn't there is missing
 abbrev pub present : ℕ → Result (Option Manifest) SlateDBError → Result Manifest SlateDBError
-present n (Ok (Some m)) = Ok m
-present n (Ok None) = Err (ManifestMissing n)
-present n (Err e) = Err e
+present n reply = replies.present ManifestMissing n reply
 
 -- the same of the number that a read is to get
 abbrev pub present_at : TryReadPhase → Result (Option Manifest) SlateDBError → Result Manifest SlateDBError
-present_at (Getting n) reply = present n reply
-present_at Over reply = present 0 reply
+present_at phase reply = replies.present_at ManifestMissing phase reply
 
 -- the latest version was read, and its reply is told as another
 abbrev pub ReadAs : {A : Type 0} → (Result (Option (ℕ × Manifest)) SlateDBError → Result A SlateDBError) → Sequenced Manifest ManifestCodec → ℕ → Told → Told → Result A SlateDBError → Type 0
-ReadAs told_as sequenced tries old new result =
-    OrMemory result (ReadBegan manifest_decoded sequenced tries old new) ((reply : Result (Option (ℕ × Manifest)) SlateDBError) × Read manifest_decoded sequenced tries old new reply × (told_as reply ≡ result))
+ReadAs told_as sequenced tries old new result = replies.ReadAs manifest_decoded told_as sequenced tries old new result
 
 -- how such a read goes on
 abbrev pub read_goes_as : {A : Type 0} → (Result (Option (ℕ × Manifest)) SlateDBError → Result A SlateDBError) → Sequenced Manifest ManifestCodec → ReadPhase Manifest → StoreAnswer → Goes (ReadPhase Manifest) A

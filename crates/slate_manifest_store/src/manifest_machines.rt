@@ -14,7 +14,7 @@ ghost use Rattle.slate_log.specs.declared.try_read_phase.TryReadPhase.TheVariant
 ghost use Rattle.slate_checked_delete.specs.CheckedDelete.{checked_asks, checked_due, checked_goes};
 ghost use Rattle.slate_manifest_store.specs.Manifests.{latest, latest_or_none, manifest_decoded, manifest_names, needed_goes, present_at, read_goes_as};
 ghost use Rattle.slate_manifest_store.specs.Referenced.{referenced_due, referenced_open, referenced_start, ReferencedSteps};
-ghost use Rattle.slate_manifest_store.specs.Replies.{step_as};
+ghost use Rattle.slate_replies.specs.Replies.{step_as};
 ghost use Rattle.slate_checked_delete.specs.declared.checked_delete_phase.CheckedDeletePhase.TheVariants as checks;
 ghost use Rattle.slate_store.specs.Machines.{Steps};
 

@@ -2,8 +2,10 @@ use Rattle.std.proofs.Common.{w64, sym, ◌∙◌}
 use Rattle.std.proofs.lemmas.Int.{to_z-of_z}
 use Rattle.slate_log.specs.TryRead.{try_asks, try_goes}
 use Rattle.slate_manifest_store.specs.Manifests.{present_at, manifest_decoded}
+use Rattle.slate_ids.specs.declared.error.SlateDBError.TheVariants.{ManifestMissing}
+use Rattle.slate_manifest_store.proofs.Missing.{manifest_missing}
 use Rattle.slate_manifest_store.proofs.NoFaults.{decoding_fine}
-use Rattle.slate_manifest_store.proofs.Replies.{present_at_faithful, fault_as, steps_as}
+use Rattle.slate_replies.proofs.Told.{present_at_faithful, fault_as, steps_as}
 use Rattle.slate_manifest_store.proofs.manifest_machines.ReadManifestMachine.next.Goals as goal
 
 pub returns-clause-steps : goal.returns-clause-steps
@@ -11,10 +13,10 @@ returns-clause-steps g c =
     let told = g.S.ObjectStore.told in
     let log = c.log.result.now in
     let from = c.args.self.now.phase in
-    let steps = steps_as (present_at c.args.self.now.phase) (present_at_faithful c.args.self.now.phase) (told c.args.store.now) (told c.next.new.store) (try_asks log.db log.log from) c.args.moment (try_goes (manifest_decoded log.codec) c.args.self.now.phase) from c.next.new.self c.next.result (rw (to_z-of_z w64 c.args.moment c.ranges.moment) at c.next.ensures.steps) in
+    let steps = steps_as (present_at c.args.self.now.phase) (present_at_faithful ManifestMissing manifest_missing c.args.self.now.phase) (told c.args.store.now) (told c.next.new.store) (try_asks log.db log.log from) c.args.moment (try_goes (manifest_decoded log.codec) c.args.self.now.phase) from c.next.new.self c.next.result (rw (to_z-of_z w64 c.args.moment c.ranges.moment) at c.next.ensures.steps) in
     rw (sym c.present_at_step.ensures) at (rw c.log.ensures at steps)
 
 pub returns-clause-fault : goal.returns-clause-fault
 returns-clause-fault g c = λ same.
     let told = g.S.ObjectStore.told in
-    fault_as (present_at c.args.self.now.phase) (present_at_faithful c.args.self.now.phase) (told c.args.store.now) (told c.next.new.store) c.next.result (c.next.ensures.fault decoding_fine) (sym c.present_at_step.ensures ∙ same)
+    fault_as (present_at c.args.self.now.phase) (present_at_faithful ManifestMissing manifest_missing c.args.self.now.phase) (told c.args.store.now) (told c.next.new.store) c.next.result (c.next.ensures.fault decoding_fine) (sym c.present_at_step.ensures ∙ same)

@@ -1,7 +1,7 @@
 use Rattle.std.proofs.Common.{sym, ◌∙◌}
-use Rattle.slate_manifest_store.specs.Manifests.{latest}
+use Rattle.slate_manifest_store.specs.Manifests.{latest, manifest_decoded, version_of}
 use Rattle.slate_manifest_store.proofs.NoFaults.{decoding_fine}
-use Rattle.slate_manifest_store.proofs.Replies.{latest_faithful, fault_of_as, read_as}
+use Rattle.slate_replies.proofs.Told.{latest_faithful, fault_of_as, read_as}
 use Rattle.slate_manifest_store.proofs.manifest_store.ManifestStore.read_latest_manifest.Goals as goal
 
 pub returns-clause-read : goal.returns-clause-read
@@ -9,10 +9,10 @@ returns-clause-read g c =
     let told = g.S.ObjectStore.told in
     let old = told c.args.store.now in
     let new = told c.read_latest.new.store in
-    let read = read_as latest latest_faithful c.self.inside.sequenced c.args.tries old new c.read_latest.result c.read_latest.ensures.read in
+    let read = read_as manifest_decoded latest (latest_faithful version_of) c.self.inside.sequenced c.args.tries old new c.read_latest.result c.read_latest.ensures.read in
     rw (sym c.latest.ensures) at (rw c.self.view_is at read)
 
 pub returns-clause-fault : goal.returns-clause-fault
 returns-clause-fault g c = λ same.
     let told = g.S.ObjectStore.told in
-    fault_of_as latest latest_faithful (told c.args.store.now) (told c.read_latest.new.store) c.read_latest.result (c.read_latest.ensures.fault decoding_fine) (sym c.latest.ensures ∙ same)
+    fault_of_as latest (latest_faithful version_of) (told c.args.store.now) (told c.read_latest.new.store) c.read_latest.result (c.read_latest.ensures.fault decoding_fine) (sym c.latest.ensures ∙ same)

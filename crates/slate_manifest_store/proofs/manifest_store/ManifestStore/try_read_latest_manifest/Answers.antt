@@ -1,7 +1,7 @@
 use Rattle.std.proofs.Common.{sym, ◌∙◌}
-use Rattle.slate_manifest_store.specs.Manifests.{latest_or_none}
+use Rattle.slate_manifest_store.specs.Manifests.{latest_or_none, manifest_decoded, version_of}
 use Rattle.slate_manifest_store.proofs.NoFaults.{decoding_fine}
-use Rattle.slate_manifest_store.proofs.Replies.{latest_or_none_faithful, fault_of_as, read_as}
+use Rattle.slate_replies.proofs.Told.{latest_or_none_faithful, fault_of_as, read_as}
 use Rattle.slate_manifest_store.proofs.manifest_store.ManifestStore.try_read_latest_manifest.Goals as goal
 
 pub returns-clause-read : goal.returns-clause-read
@@ -9,10 +9,10 @@ returns-clause-read g c =
     let told = g.S.ObjectStore.told in
     let old = told c.args.store.now in
     let new = told c.read_latest.new.store in
-    let read = read_as latest_or_none latest_or_none_faithful c.self.inside.sequenced c.args.tries old new c.read_latest.result c.read_latest.ensures.read in
+    let read = read_as manifest_decoded latest_or_none (latest_or_none_faithful version_of) c.self.inside.sequenced c.args.tries old new c.read_latest.result c.read_latest.ensures.read in
     rw (sym c.latest_or_none.ensures) at (rw c.self.view_is at read)
 
 pub returns-clause-fault : goal.returns-clause-fault
 returns-clause-fault g c = λ same.
     let told = g.S.ObjectStore.told in
-    fault_of_as latest_or_none latest_or_none_faithful (told c.args.store.now) (told c.read_latest.new.store) c.read_latest.result (c.read_latest.ensures.fault decoding_fine) (sym c.latest_or_none.ensures ∙ same)
+    fault_of_as latest_or_none (latest_or_none_faithful version_of) (told c.args.store.now) (told c.read_latest.new.store) c.read_latest.result (c.read_latest.ensures.fault decoding_fine) (sym c.latest_or_none.ensures ∙ same)
