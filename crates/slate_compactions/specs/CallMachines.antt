@@ -13,12 +13,12 @@ use Rattle.slate_txn.specs.declared.load.TryLoadMachine.{TryLoadMachine}
 use Rattle.slate_txn.specs.declared.load.TryLoadMachine.TheVariants.{Reading}
 use Rattle.slate_record_updates.specs.declared.record_epochs.RecordEpochs.{RecordEpochs}
 use Rattle.slate_record_updates.specs.declared.record_rules.CompactionsRules.{CompactionsRules}
-use Rattle.slate_compactions_store.specs.CompactionsStore.{record_bytes}
+use Rattle.slate_compactions_store.specs.CompactionsStore.{compactions_encoded}
 use Rattle.slate_compactions.specs.Holding.{LogOf, RecordHolder, record_rules, epoch_of, with_epoch, empty_record}
 
 -- a creation begins: the record of this epoch is to be put as version 1 of a database's records
 abbrev pub CreationOf : List ℕ → ℕ → CreateMachine Record CompactionsCodec CompactionsRules → Type 0
-CreationOf db epoch machine = (of : LogOf db) × (machine ≡ create_of (first_commit (record_bytes of.log.codec) (empty_record epoch)) of.log of.rules)
+CreationOf db epoch machine = (of : LogOf db) × (machine ≡ create_of (first_commit (compactions_encoded of.log.codec) (empty_record epoch)) of.log of.rules)
 
 -- a load begins: the versions of a database's records are to be listed
 abbrev pub LoadOf : List ℕ → TryLoadMachine Record CompactionsCodec CompactionsRules → Type 0
@@ -26,8 +26,8 @@ LoadOf db machine = (of : LogOf db) × (machine ≡ Reading Listing of.log of.ru
 
 -- a fence begins: the record held is to be put with its next epoch
 abbrev pub RaiseOf : RecordHolder → InitMachine Record CompactionsCodec CompactionsRules RecordEpochs → Type 0
-RaiseOf holder machine = (epochs : RecordEpochs) × (machine ≡ init_of (raised (record_rules holder.rules) (record_bytes holder.sequenced.codec) (epoch_of epochs) (with_epoch epochs) holder.id holder.object) holder epochs)
+RaiseOf holder machine = (epochs : RecordEpochs) × (machine ≡ init_of (raised (record_rules holder.rules) (compactions_encoded holder.sequenced.codec) (epoch_of epochs) (with_epoch epochs) holder.id holder.object) holder epochs)
 
 -- the same with this epoch, unless that of the record held is greater
 abbrev pub SetOf : ℕ → RecordHolder → InitMachine Record CompactionsCodec CompactionsRules RecordEpochs → Type 0
-SetOf epoch holder machine = (epochs : RecordEpochs) × (machine ≡ init_of (epoch_commit (record_rules holder.rules) (record_bytes holder.sequenced.codec) (epoch_of epochs) (with_epoch epochs) epoch Plain holder.id holder.object) holder epochs)
+SetOf epoch holder machine = (epochs : RecordEpochs) × (machine ≡ init_of (epoch_commit (record_rules holder.rules) (compactions_encoded holder.sequenced.codec) (epoch_of epochs) (with_epoch epochs) epoch Plain holder.id holder.object) holder epochs)

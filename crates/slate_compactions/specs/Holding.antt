@@ -1,7 +1,6 @@
 -- Holders of a record of compactions: what they are generic over.
-use Rattle.std.specs.Prelude.{◌≡◌, ◌≢◌, ℕ, ℤ, List, [], Option, Result, Err}
+use Rattle.std.specs.Prelude.{◌≡◌, ℕ, ℤ, List, [], Option, Result}
 use Rattle.slate_ids.specs.declared.error.SlateDBError.{SlateDBError}
-use Rattle.slate_ids.specs.declared.error.SlateDBError.TheVariants.{StoreFault}
 use Rattle.slate_layout.specs.declared.record_codec.CompactionsCodec.{CompactionsCodec}
 use Rattle.slate_log.specs.declared.log_kind.LogKind.TheVariants as logs
 use Rattle.slate_log.specs.declared.right.Right.{Right}
@@ -15,14 +14,13 @@ use Rattle.slate_txn.specs.Changing.{Making}
 use Rattle.slate_txn.specs.Creating.{Creates}
 use Rattle.slate_txn.specs.Fence.{FencedBy, raising, setting}
 use Rattle.slate_txn.specs.FencedHolder.{FencedHolder}
-use Rattle.slate_txn.specs.Fencing.{NotFenced}
 use Rattle.slate_txn.specs.Holder.{Holder}
 use Rattle.slate_txn.specs.Loading.{LoadRan, loaded, try_loaded}
 use Rattle.slate_record_updates.specs.RecordEpochs.{record_epoch, with_record_epoch}
 use Rattle.slate_record_updates.specs.RecordRules.{record_refusal_of}
 use Rattle.slate_record_updates.specs.declared.record_epochs.RecordEpochs.{RecordEpochs}
 use Rattle.slate_record_updates.specs.declared.record_rules.CompactionsRules.{CompactionsRules}
-use Rattle.slate_compactions_store.specs.CompactionsStore.{record_decoded, record_bytes}
+use Rattle.slate_compactions_store.specs.CompactionsStore.{compactions_decoded, compactions_encoded}
 
 -- a holder of a record
 abbrev pub RecordHolder : Type 0
@@ -50,23 +48,11 @@ empty_record epoch = record { compactor_epoch = epoch; entries = [] }
 
 -- the ways of a holder that commits what a function makes of a record, under a right
 abbrev pub record_ways : Making Record → Right → Ways Record CompactionsCodec CompactionsRules
-record_ways changed right = ways_of record_decoded record_bytes record_rules changed right
-
--- what a function makes is never a fault of the store
-abbrev pub NeverFaults : Making Record → Type 0
-NeverFaults changed = (id : ℕ) (r : Record) → changed id r ≢ Err StoreFault
+record_ways changed right = ways_of compactions_decoded compactions_encoded record_rules changed right
 
 -- the ways of a holder that commits what a function may answer of a record, under a right
 abbrev pub record_ways_by : (ℕ → Record → Result (Option Record) SlateDBError → Type 0) → Right → MayWays Record CompactionsCodec CompactionsRules
-record_ways_by may right = ways_by record_decoded record_bytes record_rules may right
-
--- what a function may answer of a record is never a fault of the store
-abbrev pub MayNotFault : (ℕ → Record → Result (Option Record) SlateDBError → Type 0) → Type 0
-MayNotFault may = (id : ℕ) (r : Record) (reply : Result (Option Record) SlateDBError) → may id r reply → reply ≢ Err StoreFault
-
--- nor a fence
-abbrev pub MayNotFence : (ℕ → Record → Result (Option Record) SlateDBError → Type 0) → Type 0
-MayNotFence may = (id : ℕ) (r : Record) (reply : Result (Option Record) SlateDBError) → may id r reply → NotFenced reply
+record_ways_by may right = ways_by compactions_decoded compactions_encoded record_rules may right
 
 -- the log of a database's records, with its rules
 pub record LogOf (db : List ℕ) : Type 0 where
@@ -77,22 +63,22 @@ pub record LogOf (db : List ℕ) : Type 0 where
 
 -- the log was begun: the record of an epoch without compactions was committed as version 1
 abbrev pub CreatesLog : List ℕ → ℕ → ℤ → Told → Told → Result RecordHolder SlateDBError → Type 0
-CreatesLog db epoch moment old new result = (of : LogOf db) × Creates record_bytes moment old new of.log of.rules (empty_record epoch) result
+CreatesLog db epoch moment old new result = (of : LogOf db) × Creates compactions_encoded moment old new of.log of.rules (empty_record epoch) result
 
 -- the latest version of a database's records was read, and is held
 abbrev pub LoadsLog : List ℕ → ℕ → Told → Told → Result RecordHolder SlateDBError → Type 0
-LoadsLog db tries old new result = (of : LogOf db) × LoadRan record_decoded tries old new of.log (loaded of.log of.rules) result
+LoadsLog db tries old new result = (of : LogOf db) × LoadRan compactions_decoded tries old new of.log (loaded of.log of.rules) result
 
 -- the same, where there is one
 abbrev pub TryLoadsLog : List ℕ → ℕ → Told → Told → Result (Option RecordHolder) SlateDBError → Type 0
-TryLoadsLog db tries old new result = (of : LogOf db) × LoadRan record_decoded tries old new of.log (try_loaded of.log of.rules) result
+TryLoadsLog db tries old new result = (of : LogOf db) × LoadRan compactions_decoded tries old new of.log (try_loaded of.log of.rules) result
 
 -- a holder became a fenced one: it committed the next epoch
 abbrev pub FencesLog : ℤ → ℕ → Told → Told → RecordHolder → Result FencedRecord SlateDBError → Type 0
 FencesLog moment tries old new holder result =
-    (epochs : RecordEpochs) × FencedBy epoch_of (raising record_decoded record_bytes record_rules epoch_of with_epoch epochs) moment tries old new holder epochs result
+    (epochs : RecordEpochs) × FencedBy epoch_of (raising compactions_decoded compactions_encoded record_rules epoch_of with_epoch epochs) moment tries old new holder epochs result
 
 -- a holder became a fenced one: it committed this epoch, unless the record read has a greater one
 abbrev pub FencesLogAt : ℕ → ℤ → ℕ → Told → Told → RecordHolder → Result FencedRecord SlateDBError → Type 0
 FencesLogAt epoch moment tries old new holder result =
-    (epochs : RecordEpochs) × FencedBy epoch_of (setting record_decoded record_bytes record_rules epoch_of with_epoch epochs epoch Plain) moment tries old new holder epochs result
+    (epochs : RecordEpochs) × FencedBy epoch_of (setting compactions_decoded compactions_encoded record_rules epoch_of with_epoch epochs epoch Plain) moment tries old new holder epochs result

@@ -4,8 +4,9 @@ ghost use Rattle.slate_ids.specs.Answers.{is_memory};
 ghost use Rattle.slate_log.specs.Due.{FaultOf};
 ghost use Rattle.slate_log.specs.Fence.{unless};
 ghost use Rattle.slate_records.specs.Records.{Record};
-ghost use Rattle.slate_compactions.specs.Holding.{epoch_of, record_rules, record_ways, record_ways_by, FencesLog, FencesLogAt, MayNotFence, NeverFaults};
-ghost use Rattle.slate_compactions_store.specs.CompactionsStore.{record_decoded, record_bytes};
+ghost use Rattle.slate_compactions.specs.Holding.{epoch_of, record_rules, record_ways, record_ways_by, FencesLog, FencesLogAt};
+ghost use Rattle.slate_replies.specs.Plain.{MayNotFence, NeverFaults};
+ghost use Rattle.slate_compactions_store.specs.CompactionsStore.{compactions_decoded, compactions_encoded};
 ghost use Rattle.slate_txn.specs.Apply.{Applies};
 ghost use Rattle.slate_txn.specs.ApplyMoves.{AppliesBy};
 ghost use Rattle.slate_txn.specs.Changing.{Computes, Making, May};
@@ -139,7 +140,7 @@ impl FenceableCompactions {
         tries: u32,
     ) -> Result<(), SlateDBError>
         requires { 0 < tries }
-        ensures refresh { FencedRefreshed record_decoded epoch_of tries (S.told store.old) (S.told store.new)
+        ensures refresh { FencedRefreshed compactions_decoded epoch_of tries (S.told store.old) (S.told store.new)
             self.old self.new result }
         ensures ok { OnOk result (held_fence epoch_of self.new ≡ None) }
         ensures epoch { self.new.epoch ≡ self.old.epoch }
@@ -163,20 +164,20 @@ impl FenceableCompactions {
     ) -> Result<(), SlateDBError>
         ensures update { UnlessFenced (held_fence epoch_of self.old)
             (S.told store.old) (S.told store.new) result
-            (Updates record_rules record_bytes moment (S.told store.old) (S.told store.new)
+            (Updates record_rules compactions_encoded moment (S.told store.old) (S.told store.new)
             self.old.holder dirty right.now result) }
         ensures held { OnOk result (self.new ≡ fenced_version self.old (self.old.holder.id + 1) dirty.value) }
         ensures kept { OnErr result (self.new ≡ self.old) }
         ensures before { IfErr (unless (held_fence epoch_of self.old)
-            (started record_rules record_bytes self.old.holder dirty right.now))
+            (started record_rules compactions_encoded self.old.holder dirty right.now))
             (λ e. S.told store.new ≡ S.told store.old) }
         ensures put { OnOk result (UpdateStands self.old.holder moment (S.told store.old) (S.told store.new)
-            (started record_rules record_bytes self.old.holder dirty right.now)) }
+            (started record_rules compactions_encoded self.old.holder dirty right.now)) }
         ensures left { IfErr result (λ e. may_stand e ≡ false
             → SameContents (S.told store.old) (S.told store.new)) }
         ensures stands { OnErr result (SameContents (S.told store.old) (S.told store.new)
             ⊎ UpdateStands self.old.holder moment (S.told store.old) (S.told store.new)
-            (started record_rules record_bytes self.old.holder dirty right.now)) }
+            (started record_rules compactions_encoded self.old.holder dirty right.now)) }
         ensures epoch { self.new.epoch ≡ self.old.epoch }
         ensures fault { FaultOf (S.told store.old) (S.told store.new) result }
         ensures fenced { FencedOnly (held_fence epoch_of self.old) result }

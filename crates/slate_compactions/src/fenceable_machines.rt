@@ -5,7 +5,7 @@ ghost use Rattle.slate_log.specs.Due.{FaultRose, StillDue};
 ghost use Rattle.slate_log.specs.Fence.{unless};
 ghost use Rattle.slate_log.specs.ReadPhase.{read_due};
 ghost use Rattle.slate_log.specs.declared.read_phase.ReadPhase.TheVariants.{Listing};
-ghost use Rattle.slate_compactions_store.specs.CompactionsStore.{record_decoded, record_bytes};
+ghost use Rattle.slate_compactions_store.specs.CompactionsStore.{compactions_decoded, compactions_encoded};
 ghost use Rattle.slate_records.specs.Records.{Record};
 ghost use Rattle.slate_compactions.specs.CallMachines.{RaiseOf, SetOf};
 ghost use Rattle.slate_compactions.specs.Holding.{epoch_of, record_rules};
@@ -108,7 +108,7 @@ impl FenceableCompactions {
     ) -> Result<FencedUpdateCompactionsMachine, OutOfMemory>
         ensures open { IfOk result (λ machine. update_open machine.update ≡ true) }
         ensures update { IfOk result (λ machine. machine.update ≡ update_of (unless (held_fence epoch_of self.now)
-            (started record_rules record_bytes self.now.holder dirty right.now))) }
+            (started record_rules compactions_encoded self.now.holder dirty right.now))) }
     {
         Ok(FencedUpdateCompactionsMachine {
             update: self.fenced.start_update(alloc, dirty, right)?,
@@ -129,11 +129,11 @@ impl FenceableCompactions {
         ensures open { IfOk result (λ machine. update_open machine.update ≡ true) }
         ensures update { (changed : Making Record) → Computes (F.post f) changed
             → IfOk result (λ machine. machine.update ≡ maybe_of (unless (held_fence epoch_of self.now)
-            (renewed changed (record_rules self.now.holder.rules) (record_bytes self.now.holder.sequenced.codec)
+            (renewed changed (record_rules self.now.holder.rules) (compactions_encoded self.now.holder.sequenced.codec)
             right.now self.now.holder.id self.now.holder.object))) }
         ensures commits { IfOk result (λ machine. MaybeBy
             (FencedMay epoch_of self.now.epochs self.now.epoch (May (F.post f)))
-            (record_rules self.now.holder.rules) (record_bytes self.now.holder.sequenced.codec) right.now
+            (record_rules self.now.holder.rules) (compactions_encoded self.now.holder.sequenced.codec) right.now
             self.now.holder.id self.now.holder.object machine.update) }
     {
         Ok(FencedUpdateCompactionsMachine {
@@ -191,7 +191,7 @@ impl FencedRefreshCompactionsMachine {
         requires due { read_due self.now.refresh ≡ true }
         ensures steps { Steps (S.told store.old) (S.told store.new)
             (refresh_asks (self.old.refresh, holder.old.holder)) moment
-            (fenced_refresh_goes record_decoded epoch_of (self.old.refresh, holder.old))
+            (fenced_refresh_goes compactions_decoded epoch_of (self.old.refresh, holder.old))
             (self.old.refresh, holder.old) (self.new.refresh, holder.new) result }
         ensures due { StillDue result (read_due self.new.refresh) }
         ensures epoch { holder.new.epoch ≡ holder.old.epoch }

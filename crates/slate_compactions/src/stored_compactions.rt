@@ -4,8 +4,9 @@ ghost use Rattle.slate_ids.specs.Answers.{is_memory};
 ghost use Rattle.slate_log.specs.Due.{FaultOf};
 ghost use Rattle.slate_log.specs.declared.log_kind.LogKind.TheVariants as logs;
 ghost use Rattle.slate_records.specs.Records.{Record};
-ghost use Rattle.slate_compactions.specs.Holding.{record_rules, record_ways, record_ways_by, CreatesLog, LoadsLog, MayNotFault, NeverFaults, TryLoadsLog};
-ghost use Rattle.slate_compactions_store.specs.CompactionsStore.{record_decoded, record_bytes};
+ghost use Rattle.slate_compactions.specs.Holding.{record_rules, record_ways, record_ways_by, CreatesLog, LoadsLog, TryLoadsLog};
+ghost use Rattle.slate_replies.specs.Plain.{MayNotFault, NeverFaults};
+ghost use Rattle.slate_compactions_store.specs.CompactionsStore.{compactions_decoded, compactions_encoded};
 ghost use Rattle.slate_txn.specs.Apply.{Applies};
 ghost use Rattle.slate_txn.specs.ApplyMoves.{AppliesBy};
 ghost use Rattle.slate_txn.specs.Changing.{Computes, Making, May};
@@ -152,7 +153,7 @@ impl StoredCompactions {
         tries: u32,
     ) -> Result<(), SlateDBError>
         requires { 0 < tries }
-        ensures refresh { Refreshes record_decoded tries (S.told store.old) (S.told store.new)
+        ensures refresh { Refreshes compactions_decoded tries (S.told store.old) (S.told store.new)
             self.old self.new result }
         ensures kept { OnErr result (self.new ≡ self.old) }
         ensures fault { FaultOf (S.told store.old) (S.told store.new) result }
@@ -173,19 +174,19 @@ impl StoredCompactions {
         right: &Right,
         moment: Millis,
     ) -> Result<(), SlateDBError>
-        ensures update { Updates record_rules record_bytes moment (S.told store.old) (S.told store.new)
+        ensures update { Updates record_rules compactions_encoded moment (S.told store.old) (S.told store.new)
             self.old dirty right.now result }
         ensures held { OnOk result (self.new ≡ at_version self.old (self.old.id + 1) dirty.value) }
         ensures kept { OnErr result (self.new ≡ self.old) }
-        ensures before { IfErr (started record_rules record_bytes self.old dirty right.now)
+        ensures before { IfErr (started record_rules compactions_encoded self.old dirty right.now)
             (λ e. S.told store.new ≡ S.told store.old) }
         ensures put { OnOk result (UpdateStands self.old moment (S.told store.old) (S.told store.new)
-            (started record_rules record_bytes self.old dirty right.now)) }
+            (started record_rules compactions_encoded self.old dirty right.now)) }
         ensures left { IfErr result (λ e. may_stand e ≡ false
             → SameContents (S.told store.old) (S.told store.new)) }
         ensures stands { OnErr result (SameContents (S.told store.old) (S.told store.new)
             ⊎ UpdateStands self.old moment (S.told store.old) (S.told store.new)
-            (started record_rules record_bytes self.old dirty right.now)) }
+            (started record_rules compactions_encoded self.old dirty right.now)) }
         ensures fault { FaultOf (S.told store.old) (S.told store.new) result }
     {
         self.stored.update(alloc, store, dirty, right, moment)

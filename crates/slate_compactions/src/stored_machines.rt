@@ -4,7 +4,7 @@ ghost use Rattle.slate_log.specs.Change.{renewed};
 ghost use Rattle.slate_log.specs.Due.{FaultRose, StillDue};
 ghost use Rattle.slate_log.specs.ReadPhase.{read_due};
 ghost use Rattle.slate_log.specs.declared.read_phase.ReadPhase.TheVariants.{Listing};
-ghost use Rattle.slate_compactions_store.specs.CompactionsStore.{record_decoded, record_bytes};
+ghost use Rattle.slate_compactions_store.specs.CompactionsStore.{compactions_decoded, compactions_encoded};
 ghost use Rattle.slate_records.specs.Records.{Record};
 ghost use Rattle.slate_compactions.specs.CallMachines.{CreationOf, LoadOf};
 ghost use Rattle.slate_compactions.specs.Holding.{empty_record, record_rules};
@@ -135,7 +135,7 @@ impl StoredCompactions {
     ) -> Result<UpdateCompactionsMachine, OutOfMemory>
         ensures open { IfOk result (λ machine. update_open machine.update ≡ true) }
         ensures update { IfOk result (λ machine. machine.update ≡ update_of
-            (started record_rules record_bytes self.now dirty right.now)) }
+            (started record_rules compactions_encoded self.now dirty right.now)) }
     {
         Ok(UpdateCompactionsMachine {
             update: self.stored.start_update(alloc, dirty, right)?,
@@ -151,10 +151,10 @@ impl StoredCompactions {
         ensures open { IfOk result (λ machine. update_open machine.update ≡ true) }
         ensures update { (changed : Making Record) → Computes (F.post f) changed
             → IfOk result (λ machine. machine.update ≡ maybe_of
-            (renewed changed (record_rules self.now.rules) (record_bytes self.now.sequenced.codec) right.now
+            (renewed changed (record_rules self.now.rules) (compactions_encoded self.now.sequenced.codec) right.now
             self.now.id self.now.object)) }
         ensures commits { IfOk result (λ machine. MaybeBy (May (F.post f)) (record_rules self.now.rules)
-            (record_bytes self.now.sequenced.codec) right.now self.now.id self.now.object machine.update) }
+            (compactions_encoded self.now.sequenced.codec) right.now self.now.id self.now.object machine.update) }
     {
         Ok(UpdateCompactionsMachine {
             update: self.stored.start_maybe_apply(alloc, f, right)?,
@@ -207,7 +207,7 @@ impl LoadCompactionsMachine {
         moment: Millis,
     ) -> Step<StoredCompactions>
         requires due { load_due self.now.load ≡ true }
-        ensures steps { LoadSteps record_decoded (S.told store.old) (S.told store.new) moment
+        ensures steps { LoadSteps compactions_decoded (S.told store.old) (S.told store.new) moment
             self.old.load self.new.load result }
         ensures due { StillDue result (load_due self.new.load) }
         ensures fault { FaultRose (S.told store.old) (S.told store.new) result }
@@ -232,7 +232,7 @@ impl TryLoadCompactionsMachine {
         moment: Millis,
     ) -> Step<Option<StoredCompactions>>
         requires due { load_due self.now.load ≡ true }
-        ensures steps { TryLoadSteps record_decoded (S.told store.old) (S.told store.new) moment
+        ensures steps { TryLoadSteps compactions_decoded (S.told store.old) (S.told store.new) moment
             self.old.load self.new.load result }
         ensures due { StillDue result (load_due self.new.load) }
         ensures fault { FaultRose (S.told store.old) (S.told store.new) result }
@@ -261,7 +261,7 @@ impl RefreshCompactionsMachine {
         requires due { read_due self.now.refresh ≡ true }
         ensures steps { Steps (S.told store.old) (S.told store.new)
             (refresh_asks (self.old.refresh, holder.old)) moment
-            (refresh_goes record_decoded (self.old.refresh, holder.old))
+            (refresh_goes compactions_decoded (self.old.refresh, holder.old))
             (self.old.refresh, holder.old) (self.new.refresh, holder.new) result }
         ensures due { StillDue result (read_due self.new.refresh) }
         ensures fault { FaultRose (S.told store.old) (S.told store.new) result }

@@ -18,12 +18,12 @@ use Rattle.slate_record_bytes.specs.Records.{decoded_record}
 use Rattle.slate_records.specs.Records.{Record, Version}
 
 -- the record of bytes
-abbrev pub record_decoded : CompactionsCodec → List ℕ → Result Record SlateDBError
-record_decoded codec bytes = decoded_record bytes
+abbrev pub compactions_decoded : CompactionsCodec → List ℕ → Result Record SlateDBError
+compactions_decoded codec bytes = decoded_record bytes
 
 -- the bytes of a record
-abbrev pub record_bytes : CompactionsCodec → Record → Result (List ℕ) SlateDBError
-record_bytes codec r = record_encoded r
+abbrev pub compactions_encoded : CompactionsCodec → Record → Result (List ℕ) SlateDBError
+compactions_encoded codec r = record_encoded r
 
 -- a number and the record of that number, as a version
 abbrev pub version_of : ℕ × Record → Version
@@ -47,15 +47,15 @@ present reply = replies.present record_missing 0 reply
 
 -- the latest version was read, and its reply is told as another
 abbrev pub ReadAs : {A : Type 0} → (Result (Option (ℕ × Record)) SlateDBError → Result A SlateDBError) → Sequenced Record CompactionsCodec → ℕ → Told → Told → Result A SlateDBError → Type 0
-ReadAs told_as sequenced tries old new result = replies.ReadAs record_decoded told_as sequenced tries old new result
+ReadAs told_as sequenced tries old new result = replies.ReadAs compactions_decoded told_as sequenced tries old new result
 
 -- how such a read goes on
 abbrev pub read_goes_as : {A : Type 0} → (Result (Option (ℕ × Record)) SlateDBError → Result A SlateDBError) → Sequenced Record CompactionsCodec → ReadPhase Record → StoreAnswer → Goes (ReadPhase Record) A
-read_goes_as told_as sequenced phase answer = goes_as told_as (read_goes sequenced.log (record_decoded sequenced.codec) phase answer)
+read_goes_as told_as sequenced phase answer = goes_as told_as (read_goes sequenced.log (compactions_decoded sequenced.codec) phase answer)
 
 -- what the get of a record's number replies
 abbrev pub record_got : Sequenced Record CompactionsCodec → StoreAnswer → Result (Option Record) SlateDBError
-record_got sequenced answer = try_reply (record_decoded sequenced.codec) answer
+record_got sequenced answer = try_reply (compactions_decoded sequenced.codec) answer
 
 -- the same, where the record has to be there
 abbrev pub record_needed : Sequenced Record CompactionsCodec → StoreAnswer → Result Record SlateDBError
@@ -63,7 +63,7 @@ record_needed sequenced answer = present (record_got sequenced answer)
 
 -- how the get of a record that has to be there goes on
 abbrev pub needed_goes : Sequenced Record CompactionsCodec → TryReadPhase → StoreAnswer → Goes TryReadPhase Record
-needed_goes sequenced phase answer = goes_as present (try_goes (record_decoded sequenced.codec) phase answer)
+needed_goes sequenced phase answer = goes_as present (try_goes (compactions_decoded sequenced.codec) phase answer)
 
 -- a record names no versions
 abbrev pub names_none : Record → ℕ → Bool

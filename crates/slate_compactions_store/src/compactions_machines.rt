@@ -12,7 +12,7 @@ ghost use Rattle.slate_log.specs.declared.list_phase.ListPhase.TheVariants as li
 ghost use Rattle.slate_log.specs.declared.read_phase.ReadPhase.TheVariants as reads;
 ghost use Rattle.slate_log.specs.declared.try_read_phase.TryReadPhase.TheVariants as tries;
 ghost use Rattle.slate_checked_delete.specs.CheckedDelete.{checked_asks, checked_due, checked_goes};
-ghost use Rattle.slate_compactions_store.specs.CompactionsStore.{latest, latest_or_none, record_decoded, names_none, needed_goes, present, read_goes_as};
+ghost use Rattle.slate_compactions_store.specs.CompactionsStore.{latest, latest_or_none, compactions_decoded, names_none, needed_goes, present, read_goes_as};
 ghost use Rattle.slate_replies.specs.Replies.{step_as};
 ghost use Rattle.slate_checked_delete.specs.declared.checked_delete_phase.CheckedDeletePhase.TheVariants as checks;
 ghost use Rattle.slate_store.specs.Machines.{Steps};
@@ -149,7 +149,7 @@ impl TryReadCompactionsMachine {
         requires due { try_due self.now.phase ≡ true }
         ensures steps { Steps (S.told store.old) (S.told store.new)
             (try_asks compactions.now.db compactions.now.log self.old.phase) moment
-            (try_goes (record_decoded compactions.now.codec) self.old.phase)
+            (try_goes (compactions_decoded compactions.now.codec) self.old.phase)
             self.old.phase self.new.phase result }
         ensures due { StillDue result (try_due self.new.phase) }
         ensures fault { FaultRose (S.told store.old) (S.told store.new) result }
@@ -319,7 +319,7 @@ impl DeleteCompactionsMachine {
         requires due { checked_due self.now.phase ≡ true }
         ensures steps { Steps (S.told store.old) (S.told store.new)
             (checked_asks compactions.now.db compactions.now.log self.old.phase) moment
-            (checked_goes compactions.now.log (record_decoded compactions.now.codec) names_none self.old.phase)
+            (checked_goes compactions.now.log (compactions_decoded compactions.now.codec) names_none self.old.phase)
             self.old.phase self.new.phase result }
         ensures due { StillDue result (checked_due self.new.phase) }
         ensures fault { FaultRose (S.told store.old) (S.told store.new) result }

@@ -9,7 +9,7 @@ ghost use Rattle.slate_log.specs.Once.{Once};
 ghost use Rattle.slate_log.specs.Versions.{list_asks, list_reply, versions_of, Ascending, Within};
 ghost use Rattle.slate_log.specs.declared.log_kind.LogKind.TheVariants as logs;
 ghost use Rattle.slate_checked_delete.specs.CheckedDelete.{CheckedBegan, CheckedRan};
-ghost use Rattle.slate_compactions_store.specs.CompactionsStore.{latest, latest_or_none, record_decoded, record_got, names_none, record_needed, present, ReadAs};
+ghost use Rattle.slate_compactions_store.specs.CompactionsStore.{latest, latest_or_none, compactions_decoded, record_got, names_none, record_needed, present, ReadAs};
 ghost use Rattle.slate_store.specs.declared.store_call.StoreCall.TheVariants as calls;
 
 use crate::compactions_names::NoNames;
@@ -182,8 +182,8 @@ impl CompactionsStore {
     ) -> Result<(), SlateDBError>
         requires { 0 < tries }
         ensures delete { OrMemory result
-            (CheckedBegan record_decoded names_none self.now n tries (S.told store.old) (S.told store.new))
-            (CheckedRan record_decoded names_none self.now n tries (S.told store.old) (S.told store.new) result) }
+            (CheckedBegan compactions_decoded names_none self.now n tries (S.told store.old) (S.told store.new))
+            (CheckedRan compactions_decoded names_none self.now n tries (S.told store.old) (S.told store.new) result) }
         ensures fault { FaultOf (S.told store.old) (S.told store.new) result }
     {
         delete_checked(alloc, &self.sequenced, &NoNames, store, n, tries)

@@ -1,12 +1,9 @@
 -- Holders of a manifest: what they are generic over, and what a checkpoint call answers.
-use Rattle.std.specs.Prelude.{◌≡◌, ◌≢◌, ◌⊎◌, ℕ, ℤ, List, Option, Some, None, Result, Ok, Err, ok_or}
+use Rattle.std.specs.Prelude.{◌≡◌, ℕ, ℤ, List, Option, Result, Ok, Err, ok_or}
 use Rattle.slate_ids.specs.Answers.{Gives}
 use Rattle.slate_ids.specs.declared.error.SlateDBError.{SlateDBError}
-use Rattle.slate_ids.specs.declared.error.SlateDBError.TheVariants.{CheckpointMissing, StoreFault}
+use Rattle.slate_ids.specs.declared.error.SlateDBError.TheVariants.{CheckpointMissing}
 use Rattle.slate_layout.specs.declared.codec.ManifestCodec.{ManifestCodec}
-use Rattle.slate_log.specs.Change.{renewed}
-use Rattle.slate_log.specs.Fence.{fence, unless}
-use Rattle.slate_log.specs.declared.commit_phase.CommitPhase.{CommitPhase}
 use Rattle.slate_log.specs.declared.log_kind.LogKind.TheVariants as logs
 use Rattle.slate_log.specs.declared.right.Right.{Right}
 use Rattle.slate_log.specs.declared.sequenced.Sequenced.{Sequenced}
@@ -22,7 +19,6 @@ use Rattle.slate_txn.specs.FencedApplying.{fenced_made}
 use Rattle.slate_txn.specs.FencedHolder.{FencedHolder}
 use Rattle.slate_txn.specs.Creating.{Creates}
 use Rattle.slate_txn.specs.Fence.{FencedBy, raising}
-use Rattle.slate_txn.specs.Fencing.{NotFenced}
 use Rattle.slate_txn.specs.Loading.{LoadRan, loaded, try_loaded}
 use Rattle.slate_txn.specs.Holder.{Holder}
 use Rattle.slate_updates.specs.Changes.{made, right_of}
@@ -80,25 +76,9 @@ pub record FencedCheckpointed (id : List ℕ) (change : ManifestChange) (moment 
   pub changed : FencedChanged change moment tries old new from to reply
   pub answers : Gives result (answer_of id to.holder.object reply)
 
--- what a function makes is never a fault of the store
-abbrev pub NeverFaults : Making Manifest → Type 0
-NeverFaults changed = (id : ℕ) (m : Manifest) → changed id m ≢ Err StoreFault
-
--- nor a fence
-abbrev pub NeverFences : Making Manifest → Type 0
-NeverFences changed = (id : ℕ) (m : Manifest) → NotFenced (changed id m)
-
 -- the ways of a holder that commits what a function may answer of a manifest, under a right
 abbrev pub manifest_ways_by : (ℕ → Manifest → Result (Option Manifest) SlateDBError → Type 0) → Right → MayWays Manifest ManifestCodec ManifestRules
 manifest_ways_by may right = ways_by manifest_decoded manifest_encoded manifest_rules may right
-
--- what a function may answer of a manifest is never a fault of the store
-abbrev pub MayNotFault : (ℕ → Manifest → Result (Option Manifest) SlateDBError → Type 0) → Type 0
-MayNotFault may = (id : ℕ) (m : Manifest) (reply : Result (Option Manifest) SlateDBError) → may id m reply → reply ≢ Err StoreFault
-
--- nor a fence
-abbrev pub MayNotFence : (ℕ → Manifest → Result (Option Manifest) SlateDBError → Type 0) → Type 0
-MayNotFence may = (id : ℕ) (m : Manifest) (reply : Result (Option Manifest) SlateDBError) → may id m reply → NotFenced reply
 
 -- the log of a database's manifests, with its rules
 pub record LogOf (db : List ℕ) : Type 0 where

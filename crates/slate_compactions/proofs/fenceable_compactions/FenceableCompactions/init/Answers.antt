@@ -3,12 +3,11 @@ use Rattle.std.proofs.lemmas.Int.{to_z-of_z}
 use Rattle.slate_log.specs.Change.{next_epoch}
 use Rattle.slate_log.specs.declared.right.Right.TheVariants.{Plain}
 use Rattle.slate_compactions.specs.Holding.{epoch_of, with_epoch}
-use Rattle.slate_record_updates.specs.declared.record_epochs.RecordEpochs.TheVariants.{Compactor}
-use Rattle.slate_compactions.proofs.ChangeFaults.{raise_fine, ways_fine}
+use Rattle.slate_compactions.proofs.RecordsPlain.{raise_fine, ways_fine}
 use Rattle.slate_compactions.proofs.fenceable_compactions.FenceableCompactions.init.Goals as goal
 
 pub returns-clause-fenced : goal.returns-clause-fenced
-returns-clause-fenced g c = rw (sym c.hold.ensures) at (rw c.stored.view_is at (rw (to_z-of_z w64 c.args.moment c.ranges.moment) at c.init.ensures.fenced))
+returns-clause-fenced g c = (_, rw (sym c.hold.ensures) at (rw c.stored.view_is at (rw (to_z-of_z w64 c.args.moment c.ranges.moment) at c.init.ensures.fenced)))
 
 pub returns-clause-fault : goal.returns-clause-fault
-returns-clause-fault g c = λ same. c.init.ensures.fault (ways_fine (next_epoch (epoch_of Compactor) (with_epoch Compactor)) Plain (raise_fine Compactor)) (sym c.hold.ensures ∙ same)
+returns-clause-fault g c = λ same. c.init.ensures.fault (ways_fine (next_epoch (epoch_of _) (with_epoch _)) Plain (raise_fine _)) (sym c.hold.ensures ∙ same)

@@ -4,7 +4,7 @@ use Rattle.slate_txn.specs.Apply.{Applies}
 use Rattle.slate_txn.specs.FencedApplying.{fenced_made}
 use Rattle.slate_compactions.specs.Holding.{epoch_of}
 use Rattle.slate_compactions.specs.Holding.{FencedRecord, record_ways}
-use Rattle.slate_compactions.proofs.ChangeFaults.{any_free, fenced_fine, ways_fine}
+use Rattle.slate_compactions.proofs.RecordsPlain.{any_free, fenced_fine, ways_fine}
 use Rattle.slate_compactions.proofs.fenceable_compactions.FenceableCompactions.maybe_apply_update.Goals as goal
 
 pub returns-clause-apply : goal.returns-clause-apply

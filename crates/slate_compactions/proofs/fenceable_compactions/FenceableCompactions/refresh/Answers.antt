@@ -2,14 +2,14 @@ use Rattle.std.proofs.Common.{subst}
 use Rattle.slate_txn.specs.FencedRefreshing.{FencedRefreshed}
 use Rattle.slate_compactions.specs.Holding.{epoch_of}
 use Rattle.slate_compactions.specs.Holding.{FencedRecord}
-use Rattle.slate_compactions_store.specs.CompactionsStore.{record_decoded}
+use Rattle.slate_compactions_store.specs.CompactionsStore.{compactions_decoded}
 use Rattle.slate_compactions_store.proofs.NoFaults.{decoding_fine, decoding_free}
 use Rattle.slate_compactions.proofs.fenceable_compactions.FenceableCompactions.refresh.Goals as goal
 
 pub returns-clause-refresh : goal.returns-clause-refresh
 returns-clause-refresh g c =
     let told = g.S.ObjectStore.told in
-    subst (λ (f : FencedRecord). FencedRefreshed record_decoded epoch_of c.args.tries (told c.args.store.now) (told c.refresh.new.store) f c.refresh.new.self c.refresh.result) c.self.view_is c.refresh.ensures.refresh
+    subst (λ (f : FencedRecord). FencedRefreshed compactions_decoded epoch_of c.args.tries (told c.args.store.now) (told c.refresh.new.store) f c.refresh.new.self c.refresh.result) c.self.view_is c.refresh.ensures.refresh
 
 pub returns-clause-fault : goal.returns-clause-fault
 returns-clause-fault g c = c.refresh.ensures.fault decoding_fine

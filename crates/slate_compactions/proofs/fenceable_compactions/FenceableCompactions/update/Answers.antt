@@ -6,8 +6,8 @@ use Rattle.slate_txn.specs.Standing.{SameContents, UpdateStands}
 use Rattle.slate_txn.specs.Updating.{started, Updates}
 use Rattle.slate_compactions.specs.Holding.{epoch_of}
 use Rattle.slate_compactions.specs.Holding.{FencedRecord, record_rules}
-use Rattle.slate_compactions_store.specs.CompactionsStore.{record_bytes}
-use Rattle.slate_compactions.proofs.ChangeFaults.{started_fine, started_free}
+use Rattle.slate_compactions_store.specs.CompactionsStore.{compactions_encoded}
+use Rattle.slate_compactions.proofs.RecordsPlain.{started_fine, started_free}
 use Rattle.slate_compactions.proofs.fenceable_compactions.FenceableCompactions.update.Goals as goal
 
 pub returns-clause-update : goal.returns-clause-update
@@ -16,7 +16,7 @@ returns-clause-update g c =
     let old = told c.args.store.now in
     let new = told c.update.new.store in
     let here = rw (to_z-of_z w64 c.args.moment c.ranges.moment) at c.update.ensures.update in
-    subst (λ (f : FencedRecord). UnlessFenced (held_fence epoch_of f) old new c.update.result (Updates record_rules record_bytes c.args.moment old new f.holder c.args.dirty c.args.right.now c.update.result)) c.self.view_is here
+    subst (λ (f : FencedRecord). UnlessFenced (held_fence epoch_of f) old new c.update.result (Updates record_rules compactions_encoded c.args.moment old new f.holder c.args.dirty c.args.right.now c.update.result)) c.self.view_is here
 
 pub returns-clause-fault : goal.returns-clause-fault
 returns-clause-fault g c = c.update.ensures.fault (started_fine c.self.inside.fenced.holder c.args.dirty c.args.right.now)
@@ -28,13 +28,13 @@ pub returns-clause-put : goal.returns-clause-put
 returns-clause-put g c =
     let told = g.S.ObjectStore.told in
     let here = rw (to_z-of_z w64 c.args.moment c.ranges.moment) at c.update.ensures.put in
-    subst (λ (f : FencedRecord). OnOk c.update.result (UpdateStands f.holder c.args.moment (told c.args.store.now) (told c.update.new.store) (started record_rules record_bytes f.holder c.args.dirty c.args.right.now))) c.self.view_is here
+    subst (λ (f : FencedRecord). OnOk c.update.result (UpdateStands f.holder c.args.moment (told c.args.store.now) (told c.update.new.store) (started record_rules compactions_encoded f.holder c.args.dirty c.args.right.now))) c.self.view_is here
 
 pub returns-clause-stands : goal.returns-clause-stands
 returns-clause-stands g c =
     let told = g.S.ObjectStore.told in
     let here = rw (to_z-of_z w64 c.args.moment c.ranges.moment) at c.update.ensures.stands in
-    subst (λ (f : FencedRecord). OnErr c.update.result (SameContents (told c.args.store.now) (told c.update.new.store) ⊎ UpdateStands f.holder c.args.moment (told c.args.store.now) (told c.update.new.store) (started record_rules record_bytes f.holder c.args.dirty c.args.right.now))) c.self.view_is here
+    subst (λ (f : FencedRecord). OnErr c.update.result (SameContents (told c.args.store.now) (told c.update.new.store) ⊎ UpdateStands f.holder c.args.moment (told c.args.store.now) (told c.update.new.store) (started record_rules compactions_encoded f.holder c.args.dirty c.args.right.now))) c.self.view_is here
 
 pub returns-clause-fenced : goal.returns-clause-fenced
 returns-clause-fenced g c =

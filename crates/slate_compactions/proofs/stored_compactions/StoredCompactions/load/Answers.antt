@@ -5,7 +5,7 @@ use Rattle.slate_compactions.proofs.stored_compactions.StoredCompactions.load.Go
 
 pub returns-clause-load : goal.returns-clause-load
 returns-clause-load g c =
-    let of : LogOf c.args.db = record { log = c.manifests-log.result; rules = _; at = c.manifests-log.ensures.db; kind = c.manifests-log.ensures.log } in
+    let of : LogOf c.args.db = record { log = c.records-log.result; rules = _; at = c.records-log.ensures.db; kind = c.records-log.ensures.log } in
     (of, rw (sym c.hold.ensures) at c.load.ensures.load)
 
 pub returns-clause-fault : goal.returns-clause-fault

@@ -2,7 +2,7 @@ use Rattle.std.proofs.Common.{subst, w64}
 use Rattle.std.proofs.lemmas.Int.{to_z-of_z}
 use Rattle.slate_txn.specs.Apply.{Applies}
 use Rattle.slate_compactions.specs.Holding.{RecordHolder, record_ways}
-use Rattle.slate_compactions.proofs.ChangeFaults.{any_fine, ways_fine}
+use Rattle.slate_compactions.proofs.RecordsPlain.{any_fine, ways_fine}
 use Rattle.slate_compactions.proofs.stored_compactions.StoredCompactions.maybe_apply_update.Goals as goal
 
 pub returns-clause-apply : goal.returns-clause-apply

@@ -3,5 +3,5 @@ use Rattle.slate_compactions.proofs.stored_compactions.StoredCompactions.start_t
 
 pub returns : goal.returns
 returns c =
-    let of : LogOf c.args.db = record { log = c.manifests.result; rules = _; at = c.manifests.ensures.db; kind = c.manifests.ensures.log } in
+    let of : LogOf c.args.db = record { log = c.records.result; rules = _; at = c.records.ensures.db; kind = c.records.ensures.log } in
     (of, c.start_try_load.ensures)

@@ -4,15 +4,15 @@ use Rattle.std.specs.Prelude.{OnOk, OnErr, ◌⊎◌}
 use Rattle.slate_txn.specs.Standing.{SameContents, UpdateStands}
 use Rattle.slate_txn.specs.Updating.{started, Updates}
 use Rattle.slate_compactions.specs.Holding.{RecordHolder, record_rules}
-use Rattle.slate_compactions_store.specs.CompactionsStore.{record_bytes}
-use Rattle.slate_compactions.proofs.ChangeFaults.{started_fine}
+use Rattle.slate_compactions_store.specs.CompactionsStore.{compactions_encoded}
+use Rattle.slate_compactions.proofs.RecordsPlain.{started_fine}
 use Rattle.slate_compactions.proofs.stored_compactions.StoredCompactions.update.Goals as goal
 
 pub returns-clause-update : goal.returns-clause-update
 returns-clause-update g c =
     let told = g.S.ObjectStore.told in
     let here = rw (to_z-of_z w64 c.args.moment c.ranges.moment) at c.update.ensures.update in
-    subst (λ (h : RecordHolder). Updates record_rules record_bytes c.args.moment (told c.args.store.now) (told c.update.new.store) h c.args.dirty c.args.right.now c.update.result) c.self.view_is here
+    subst (λ (h : RecordHolder). Updates record_rules compactions_encoded c.args.moment (told c.args.store.now) (told c.update.new.store) h c.args.dirty c.args.right.now c.update.result) c.self.view_is here
 
 pub returns-clause-fault : goal.returns-clause-fault
 returns-clause-fault g c = c.update.ensures.fault (started_fine c.self.inside.stored c.args.dirty c.args.right.now)
@@ -24,10 +24,10 @@ pub returns-clause-put : goal.returns-clause-put
 returns-clause-put g c =
     let told = g.S.ObjectStore.told in
     let here = rw (to_z-of_z w64 c.args.moment c.ranges.moment) at c.update.ensures.put in
-    subst (λ (h : RecordHolder). OnOk c.update.result (UpdateStands h c.args.moment (told c.args.store.now) (told c.update.new.store) (started record_rules record_bytes h c.args.dirty c.args.right.now))) c.self.view_is here
+    subst (λ (h : RecordHolder). OnOk c.update.result (UpdateStands h c.args.moment (told c.args.store.now) (told c.update.new.store) (started record_rules compactions_encoded h c.args.dirty c.args.right.now))) c.self.view_is here
 
 pub returns-clause-stands : goal.returns-clause-stands
 returns-clause-stands g c =
     let told = g.S.ObjectStore.told in
     let here = rw (to_z-of_z w64 c.args.moment c.ranges.moment) at c.update.ensures.stands in
-    subst (λ (h : RecordHolder). OnErr c.update.result (SameContents (told c.args.store.now) (told c.update.new.store) ⊎ UpdateStands h c.args.moment (told c.args.store.now) (told c.update.new.store) (started record_rules record_bytes h c.args.dirty c.args.right.now))) c.self.view_is here
+    subst (λ (h : RecordHolder). OnErr c.update.result (SameContents (told c.args.store.now) (told c.update.new.store) ⊎ UpdateStands h c.args.moment (told c.args.store.now) (told c.update.new.store) (started record_rules compactions_encoded h c.args.dirty c.args.right.now))) c.self.view_is here

@@ -1,7 +1,7 @@
 use Rattle.std.proofs.Common.{w64, sym, ◌∙◌}
 use Rattle.std.proofs.lemmas.Int.{to_z-of_z}
 use Rattle.slate_log.specs.TryRead.{try_asks, try_goes}
-use Rattle.slate_compactions_store.specs.CompactionsStore.{present, record_missing, record_decoded}
+use Rattle.slate_compactions_store.specs.CompactionsStore.{present, record_missing, compactions_decoded}
 use Rattle.slate_compactions_store.proofs.Missing.{is_plain}
 use Rattle.slate_compactions_store.proofs.NoFaults.{decoding_fine}
 use Rattle.slate_replies.proofs.Told.{present_faithful, fault_as, steps_as}
@@ -12,7 +12,7 @@ returns-clause-steps g c =
     let told = g.S.ObjectStore.told in
     let log = c.log.result.now in
     let from = c.args.self.now.phase in
-    let steps = steps_as present (present_faithful record_missing is_plain 0) (told c.args.store.now) (told c.next.new.store) (try_asks log.db log.log from) c.args.moment (try_goes (record_decoded log.codec) c.args.self.now.phase) from c.next.new.self c.next.result (rw (to_z-of_z w64 c.args.moment c.ranges.moment) at c.next.ensures.steps) in
+    let steps = steps_as present (present_faithful record_missing is_plain 0) (told c.args.store.now) (told c.next.new.store) (try_asks log.db log.log from) c.args.moment (try_goes (compactions_decoded log.codec) c.args.self.now.phase) from c.next.new.self c.next.result (rw (to_z-of_z w64 c.args.moment c.ranges.moment) at c.next.ensures.steps) in
     rw (sym c.present_step.ensures) at (rw c.log.ensures at steps)
 
 pub returns-clause-fault : goal.returns-clause-fault

@@ -4,7 +4,7 @@ use Rattle.slate_layout.specs.declared.record_codec.CompactionsCodec.{Compaction
 use Rattle.slate_log.specs.declared.sequenced.Sequenced.{Sequenced}
 use Rattle.slate_records.specs.Records.{Record}
 use Rattle.slate_checked_delete.specs.CheckedDelete.{CheckedBegan, CheckedRan}
-use Rattle.slate_compactions_store.specs.CompactionsStore.{record_decoded, names_none}
+use Rattle.slate_compactions_store.specs.CompactionsStore.{compactions_decoded, names_none}
 use Rattle.slate_compactions_store.proofs.NoFaults.{decoding_fine}
 use Rattle.slate_compactions_store.proofs.compactions_store.CompactionsStore.delete_compactions.Goals as goal
 
@@ -14,7 +14,7 @@ returns-clause-delete g c =
     let old = told c.args.store.now in
     let new = told c.delete_checked.new.store in
     let result = c.delete_checked.result in
-    subst (λ (s : Sequenced Record CompactionsCodec). OrMemory result (CheckedBegan record_decoded names_none s c.args.n c.args.tries old new) (CheckedRan record_decoded names_none s c.args.n c.args.tries old new result)) c.self.view_is
+    subst (λ (s : Sequenced Record CompactionsCodec). OrMemory result (CheckedBegan compactions_decoded names_none s c.args.n c.args.tries old new) (CheckedRan compactions_decoded names_none s c.args.n c.args.tries old new result)) c.self.view_is
     c.delete_checked.ensures.delete
 
 pub returns-clause-fault : goal.returns-clause-fault

@@ -1,0 +1,47 @@
+-- Refusals for what a value is: neither a fault of the store nor a fence.
+use Rattle.std.specs.Prelude.{◌≡◌, ◌≢◌, ℕ, Bool, true, false, List, Option, Some, None, Result, Ok, Err}
+use Rattle.slate_ids.specs.declared.error.SlateDBError.{SlateDBError}
+use Rattle.slate_ids.specs.declared.error.SlateDBError.TheVariants.{StoreFault, Fenced}
+use Rattle.slate_log.specs.declared.right.Right.{Right}
+
+-- whether a refusal is neither
+abbrev pub is_plain : SlateDBError → Bool
+is_plain StoreFault = false
+is_plain (Fenced own read) = false
+is_plain _ = true
+
+-- whether an answer is no other refusal
+abbrev pub answers_plainly : {X : Type 0} → Result X SlateDBError → Bool
+answers_plainly (Ok x) = true
+answers_plainly (Err e) = is_plain e
+
+-- an answer that is neither a fault nor a fence
+abbrev pub Plainly : {X : Type 0} → Result X SlateDBError → Type 0
+Plainly r = answers_plainly r ≡ true
+
+-- no refusal, or one that is neither
+abbrev pub refuses_plainly : Option SlateDBError → Bool
+refuses_plainly None = true
+refuses_plainly (Some e) = is_plain e
+
+-- a codec and rules that refuse a value for what it is
+pub record PlainLog {T C R : Type 0} (decoded : C → List ℕ → Result T SlateDBError) (encoded : C → T → Result (List ℕ) SlateDBError) (refusal : R → ℕ → T → T → Right → Option SlateDBError) : Type 0 where
+  pub decodes : (codec : C) (bytes : List ℕ) → Plainly (decoded codec bytes)
+  pub encodes : (codec : C) (value : T) → Plainly (encoded codec value)
+  pub refuses : (rules : R) (id : ℕ) (old new : T) (right : Right) → refuses_plainly (refusal rules id old new right) ≡ true
+
+-- what a function makes is never a fault of the store
+abbrev pub NeverFaults : {T : Type 0} → (ℕ → T → Result (Option T) SlateDBError) → Type 0
+NeverFaults changed = (id : ℕ) (value : _) → changed id value ≢ Err StoreFault
+
+-- nor a fence
+abbrev pub NeverFences : {T : Type 0} → (ℕ → T → Result (Option T) SlateDBError) → Type 0
+NeverFences changed = (id : ℕ) (value : _) (own read : ℕ) → changed id value ≢ Err (Fenced own read)
+
+-- what a function may answer is never a fault of the store
+abbrev pub MayNotFault : {T : Type 0} → (ℕ → T → Result (Option T) SlateDBError → Type 0) → Type 0
+MayNotFault {T} may = (id : ℕ) (value : T) (reply : Result (Option T) SlateDBError) → may id value reply → reply ≢ Err StoreFault
+
+-- nor a fence
+abbrev pub MayNotFence : {T : Type 0} → (ℕ → T → Result (Option T) SlateDBError → Type 0) → Type 0
+MayNotFence {T} may = (id : ℕ) (value : T) (reply : Result (Option T) SlateDBError) → may id value reply → (own read : ℕ) → reply ≢ Err (Fenced own read)
