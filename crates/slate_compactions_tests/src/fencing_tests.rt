@@ -25,6 +25,14 @@ fn fenced_at(rt: &impl Abort, alloc: Global, store: &mut MemoryStore, epoch: u64
     }
 }
 
+/// The own and the read epoch of a fence.
+fn fence(reply: &Result<(), SlateDBError>) -> Option<(u64, u64)> {
+    match reply {
+        Err(SlateDBError::Fenced { own, read }) => Some((*own, *read)),
+        _ => None,
+    }
+}
+
 #[test]
 fn each_holder_has_the_next_epoch(rt: HostRuntime) {
     let alloc = rt.alloc();
@@ -43,7 +51,7 @@ fn the_first_of_two_holders_is_fenced(rt: HostRuntime) {
     let _ = created(&rt, alloc, &mut store, 0);
     let mut old = fenced(&rt, alloc, &mut store);
     let mut new = fenced(&rt, alloc, &mut store);
-    assert!(rt; old.refresh(alloc, &mut store, 1) == Err(SlateDBError::Fenced { own: 1, read: 2 }));
+    assert!(rt; fence(&old.refresh(alloc, &mut store, 1)) == Some((1, 2)));
     assert!(rt; old.compactions().0 == 3 && old.local_epoch() == 1);
     assert!(rt; code(old.prepare_dirty(alloc)) == 2);
     assert!(rt; code(new.refresh(alloc, &mut store, 1)) == 0);

@@ -16,6 +16,16 @@ fn a_log_is_begun_once(rt: HostRuntime) {
     assert!(rt; code(StoredCompactions::create(alloc, &mut store, db(&rt), 3, 5)) == 1);
 }
 
+/// The number that was taken, and the boundary that says so.
+fn late(reply: &Result<(), SlateDBError>) -> Option<(u64, Option<u64>)> {
+    match reply {
+        Err(SlateDBError::TransactionalObjectVersionExists { number, boundary }) => {
+            Some((*number, *boundary))
+        }
+        _ => None,
+    }
+}
+
 // The boundary is at 2 where record 2 is put: the put stands, and the answer names the boundary.
 #[test]
 fn a_put_behind_the_boundary_stands(rt: HostRuntime) {
@@ -27,11 +37,7 @@ fn a_put_behind_the_boundary_stands(rt: HostRuntime) {
         .expect(&rt, "memory");
     let dirty = holder.prepare_dirty(alloc).expect(&rt, "memory");
     let reply = holder.update(alloc, &mut store, dirty, &Right::Plain, 9);
-    let late = SlateDBError::TransactionalObjectVersionExists {
-        number: 2,
-        boundary: Some(2),
-    };
-    assert!(rt; reply == Err(late));
+    assert!(rt; late(&reply) == Some((2, Some(2))));
     assert!(rt; holder.id() == 1);
     assert!(rt; code(log(&rt).read_compactions(alloc, &mut store, 2)) == 0);
 }

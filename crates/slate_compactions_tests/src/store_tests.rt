@@ -115,7 +115,7 @@ fn refused(reply: &SlateDBError) -> (u8, u16) {
 fn read_of(rt: &impl Abort, alloc: Global, bytes: &[u8]) -> (u8, u16) {
     let mut store = empty(alloc);
     store
-        .put_new(alloc, &ObjectPath::Compactions(db(rt), 1), bytes, 5)
+        .put_new(alloc, &ObjectPath::Record(db(rt), 1), bytes, 5)
         .expect(rt, "memory");
     match log(rt).read_compactions(alloc, &mut store, 1) {
         Ok(_) => (0, 0),
@@ -154,7 +154,7 @@ fn first_bytes(rt: &impl Abort, alloc: Global, epoch: u64) -> MemoryStore {
 fn a_new_record_has_14_bytes(rt: HostRuntime) {
     let store = first_bytes(&rt, rt.alloc(), 0);
     let object = store
-        .object(&ObjectPath::Compactions(db(&rt), 1))
+        .object(&ObjectPath::Record(db(&rt), 1))
         .expect(&rt, "a record");
     assert!(rt;
         object.bytes.as_slice()
