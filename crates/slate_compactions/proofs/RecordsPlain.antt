@@ -97,10 +97,10 @@ records_plain = record {
 
 -- an update that was started
 pub started_fine : (holder : RecordHolder) (dirty : DirtyObject Record) (right : Right) → started record_rules compactions_encoded holder dirty right ≢ Err StoreFault
-started_fine holder dirty right = apart StoreFault _ refl (plain.started_so compactions_decoded compactions_encoded record_rules records_plain holder dirty right)
+started_fine holder dirty right = plain.started_fine compactions_decoded compactions_encoded record_rules records_plain holder dirty right
 
 pub started_free : (holder : RecordHolder) (dirty : DirtyObject Record) (right : Right) → NotFenced (started record_rules compactions_encoded holder dirty right)
-started_free holder dirty right own read = apart (Fenced own read) _ refl (plain.started_so compactions_decoded compactions_encoded record_rules records_plain holder dirty right)
+started_free holder dirty right = plain.started_free compactions_decoded compactions_encoded record_rules records_plain holder dirty right
 
 -- the commit of a first version
 pub first_fine : (r : Record) → first_commit record_encoded r ≢ Err StoreFault

@@ -3,6 +3,7 @@
 
 mod fenceable_compactions;
 mod fenceable_machines;
+mod laws;
 mod stored_compactions;
 mod stored_machines;
 
@@ -10,6 +11,7 @@ pub use fenceable_compactions::FenceableCompactions;
 pub use fenceable_machines::{
     FencedRefreshCompactionsMachine, FencedUpdateCompactionsMachine, InitCompactionsMachine,
 };
+pub use laws::records_are_plain;
 pub use stored_compactions::StoredCompactions;
 pub use stored_machines::{
     CreateCompactionsMachine, LoadCompactionsMachine, RefreshCompactionsMachine,

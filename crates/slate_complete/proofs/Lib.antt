@@ -15,3 +15,4 @@ pub mod HolderReads
 pub mod Inside
 pub mod OneCalls
 pub mod FirstVersions
+pub mod PlainInside

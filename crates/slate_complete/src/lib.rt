@@ -13,6 +13,7 @@ mod fences;
 mod holder_reads;
 mod moves;
 mod once_calls;
+mod plain_logs;
 mod reads;
 mod updates;
 
@@ -27,5 +28,6 @@ pub use fences::fence_ends;
 pub use holder_reads::{load_ends, refresh_ends};
 pub use moves::{fenced_moves_end, moves_end};
 pub use once_calls::once_ends;
+pub use plain_logs::plain_logs_are_inside;
 pub use reads::read_ends;
 pub use updates::update_ends;

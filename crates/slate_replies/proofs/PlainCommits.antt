@@ -98,10 +98,21 @@ any_free {T = T} decoded encoded refusal log may right free = record {
       (wanted_apart (Fenced own read) refl _ (prepared_so decoded encoded refusal log holder.rules holder.sequenced.codec right id value) by.reply (free id value by.reply by.given own read));
 }
 
--- an update that was started
-pub started_so : {T C R : Type 0} (decoded : C → List ℕ → Result T SlateDBError) (encoded : C → T → Result (List ℕ) SlateDBError) (refusal : R → ℕ → T → T → Right → Option SlateDBError) → PlainLog decoded encoded refusal
-    → (holder : Holder T C R) (dirty : DirtyObject T) (right : Right) → Plainly (started refusal encoded holder dirty right)
-started_so decoded encoded refusal log holder dirty right = either (dirty.id == holder.id) _ (Err (TransactionalObjectVersionExists dirty.id None)) (prepared_so decoded encoded refusal log holder.rules holder.sequenced.codec right holder.id holder.object dirty.value) refl
+other_apart : {X : Type 0} (x : SlateDBError) (b : Bool) (r : Result X SlateDBError) (e : SlateDBError) → r ≢ Err x → e ≢ x → (if b then r else Err e) ≢ Err x
+other_apart x true r e one other = one
+other_apart x false r e one other = λ same. other cc
+
+-- an update that was started is refused by no fault
+pub started_fine : {T C R : Type 0} (decoded : C → List ℕ → Result T SlateDBError) (encoded : C → T → Result (List ℕ) SlateDBError) (refusal : R → ℕ → T → T → Right → Option SlateDBError) → PlainLog decoded encoded refusal
+    → (holder : Holder T C R) (dirty : DirtyObject T) (right : Right) → started refusal encoded holder dirty right ≢ Err StoreFault
+started_fine decoded encoded refusal log holder dirty right = other_apart StoreFault (dirty.id == holder.id) _ (TransactionalObjectVersionExists dirty.id None)
+    (apart StoreFault _ refl (prepared_so decoded encoded refusal log holder.rules holder.sequenced.codec right holder.id holder.object dirty.value)) (λ same. absurd cc)
+
+-- nor by a fence
+pub started_free : {T C R : Type 0} (decoded : C → List ℕ → Result T SlateDBError) (encoded : C → T → Result (List ℕ) SlateDBError) (refusal : R → ℕ → T → T → Right → Option SlateDBError) → PlainLog decoded encoded refusal
+    → (holder : Holder T C R) (dirty : DirtyObject T) (right : Right) → NotFenced (started refusal encoded holder dirty right)
+started_free decoded encoded refusal log holder dirty right own read = other_apart (Fenced own read) (dirty.id == holder.id) _ (TransactionalObjectVersionExists dirty.id None)
+    (apart (Fenced own read) _ refl (prepared_so decoded encoded refusal log holder.rules holder.sequenced.codec right holder.id holder.object dirty.value)) (λ same. absurd cc)
 
 -- the commit of a first version
 pub first_so : {T : Type 0} (encoded : T → Result (List ℕ) SlateDBError) (value : T) → Plainly (encoded value) → Plainly (first_commit encoded value)

@@ -1,25 +1,27 @@
--- Refusals for what a value is: neither a fault of the store nor a fence.
+-- Refusals of a value for what it is.
 use Rattle.std.specs.Prelude.{◌≡◌, ◌≢◌, ℕ, Bool, true, false, List, Option, Some, None, Result, Ok, Err}
 use Rattle.slate_ids.specs.declared.error.SlateDBError.{SlateDBError}
-use Rattle.slate_ids.specs.declared.error.SlateDBError.TheVariants.{StoreFault, Fenced}
+use Rattle.slate_ids.specs.declared.error.SlateDBError.TheVariants.{StoreFault, Fenced, TransactionalObjectVersionExists, Contended}
 use Rattle.slate_log.specs.declared.right.Right.{Right}
 
--- whether a refusal is neither
+-- whether a refusal is of the value, and of nothing outside: no fault of the store, no fence, no number that is taken, no tries that are used up
 abbrev pub is_plain : SlateDBError → Bool
 is_plain StoreFault = false
 is_plain (Fenced own read) = false
+is_plain (TransactionalObjectVersionExists number boundary) = false
+is_plain Contended = false
 is_plain _ = true
 
--- whether an answer is no other refusal
+-- whether an answer has no other refusal
 abbrev pub answers_plainly : {X : Type 0} → Result X SlateDBError → Bool
 answers_plainly (Ok x) = true
 answers_plainly (Err e) = is_plain e
 
--- an answer that is neither a fault nor a fence
+-- an answer whose refusal is of the value
 abbrev pub Plainly : {X : Type 0} → Result X SlateDBError → Type 0
 Plainly r = answers_plainly r ≡ true
 
--- no refusal, or one that is neither
+-- no refusal, or one of the value
 abbrev pub refuses_plainly : Option SlateDBError → Bool
 refuses_plainly None = true
 refuses_plainly (Some e) = is_plain e

@@ -79,7 +79,8 @@ pub manifests_plain : PlainLog manifest_decoded manifest_encoded manifest_rules
 manifests_plain = record {
   decodes = λ codec bytes. decoded_so bytes;
   encodes = λ codec m. encoded_so m;
-  refuses = λ rules id old new right. refused_so (manifest_refusal id old new right) (causes id old new right) }
+  refuses = λ rules id old new right. refused_so (manifest_refusal id old new right) (causes id old new right);
+}
 
 -- a holder of a manifest is free of faults where what it commits is
 pub ways_fine : (changed : Making Manifest) (right : Right) → NeverFaults changed → FaultFree (manifest_ways changed right)
@@ -98,10 +99,10 @@ any_free may right free = plain.any_free manifest_decoded manifest_encoded manif
 
 -- an update that was started
 pub started_fine : (holder : ManifestHolder) (dirty : DirtyObject Manifest) (right : Right) → started manifest_rules manifest_encoded holder dirty right ≢ Err StoreFault
-started_fine holder dirty right = apart StoreFault _ refl (plain.started_so manifest_decoded manifest_encoded manifest_rules manifests_plain holder dirty right)
+started_fine holder dirty right = plain.started_fine manifest_decoded manifest_encoded manifest_rules manifests_plain holder dirty right
 
 pub started_free : (holder : ManifestHolder) (dirty : DirtyObject Manifest) (right : Right) → NotFenced (started manifest_rules manifest_encoded holder dirty right)
-started_free holder dirty right own read = apart (Fenced own read) _ refl (plain.started_so manifest_decoded manifest_encoded manifest_rules manifests_plain holder dirty right)
+started_free holder dirty right = plain.started_free manifest_decoded manifest_encoded manifest_rules manifests_plain holder dirty right
 
 -- the commit of a first version
 pub first_fine : (m : Manifest) → first_commit encoded m ≢ Err StoreFault
@@ -133,7 +134,7 @@ pushed_fine cs id options now m (Err e) h = h
 pub raise_fine : (kind : ManifestEpochs) → NeverFaults (next_epoch (epoch_of kind) (with_epoch kind))
 raise_fine kind n m = apart StoreFault _ refl (plain.raise_so (epoch_of kind) (with_epoch kind) n m)
 
-change_so : (change : ManifestChange) (now : ℤ) (n : ℕ) (m : Manifest) → Plainly (made change now n m)
+pub change_so : (change : ManifestChange) (now : ℤ) (n : ℕ) (m : Manifest) → Plainly (made change now n m)
 change_so RaiseWriter now n m = plain.raise_so (epoch_of Writer) (with_epoch Writer) n m
 change_so (Flush writer batch) now n m = floored_fine m.core.floor (Ok (Some (tables_flushed batch m))) refl
 change_so (WriteCheckpoint id options) now n m = floored_fine m.core.floor (written id options now n m) (either _ (Ok None) _ refl (pushed_fine _ id options now m _ (name_fine n options.source m)))

@@ -1,4 +1,4 @@
-mod ChangeFaults
+pub mod ChangeFaults
 mod NotBegun
 mod CheckpointsStand
 mod AnswersFence
