@@ -1,9 +1,9 @@
 -- The codec of records and the rules on them refuse a record for what it is: neither by a fault of the store nor by a fence.
-use Rattle.std.specs.Prelude.{◌≡◌, ◌≢◌, ◌&&◌, not, nat_lt, ◌==◌, length, ℕ, pos, Bool, true, false, List, [], ◌∷◌, Option, Some, None, is_some, is_none, Result, Ok, Err, if◌then◌else◌, refl}
+use Rattle.std.specs.Prelude.{◌≡◌, ◌≢◌, nat_lt, ℕ, pos, Bool, true, false, List, [], ◌∷◌, Option, Some, None, is_some, Result, Ok, Err, if◌then◌else◌, refl}
 use Rattle.std.specs.List.{list_any}
 use Rattle.std.specs.Option.{option_or}
 use Rattle.slate_ids.specs.declared.error.SlateDBError.{SlateDBError}
-use Rattle.slate_ids.specs.declared.error.SlateDBError.TheVariants.{Corrupt, Fenced, InvalidClockTick, StoreFault, UpdateRefused}
+use Rattle.slate_ids.specs.declared.error.SlateDBError.TheVariants.{Corrupt, InvalidClockTick, StoreFault}
 use Rattle.slate_ids.specs.declared.error.FieldName.{FieldName}
 use Rattle.slate_ids.specs.declared.error.FormatName.TheVariants as format
 use Rattle.slate_ids.specs.declared.error.UpdateRule.{UpdateRule}

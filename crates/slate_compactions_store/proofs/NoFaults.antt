@@ -1,6 +1,5 @@
 -- The bytes of a record are refused for what they are: never by a fault of the store, nor by a fence.
-use Rattle.std.specs.Prelude.{◌≢◌, ℕ, List, Option, Some, None, Result, Err, ◌==◌, refl}
-use Rattle.slate_ids.specs.declared.error.SlateDBError.{SlateDBError}
+use Rattle.std.specs.Prelude.{◌≢◌, ℕ, List, Option, Some, None, Err, ◌==◌, refl}
 use Rattle.slate_ids.specs.declared.error.SlateDBError.TheVariants.{StoreFault, Fenced}
 use Rattle.slate_log.specs.Due.{NoFault}
 use Rattle.slate_parts.specs.Reading.{u16_in}

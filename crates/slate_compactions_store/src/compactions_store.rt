@@ -1,5 +1,5 @@
 //! The log of a database's records of compactions.
-ghost use Rattle.std.specs.Prelude.{◌≡◌, ◌<◌, ℕ, pos, OnOk, IfOk, true};
+ghost use Rattle.std.specs.Prelude.{◌≡◌, ◌<◌, pos, OnOk, IfOk};
 ghost use Rattle.slate_ids.specs.Answers.{OrMemory};
 ghost use Rattle.slate_log.specs.Advance.{Advanced, AdvanceBegan, BoundaryKept, BoundaryReached};
 ghost use Rattle.slate_log.specs.Delete.{deleted_reply};

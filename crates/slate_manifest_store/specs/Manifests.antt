@@ -13,7 +13,6 @@ use Rattle.slate_replies.specs.Replies as replies
 use Rattle.slate_replies.specs.Replies.{goes_as}
 use Rattle.slate_layout.specs.Codec.{encoded}
 use Rattle.slate_layout.specs.declared.codec.ManifestCodec.{ManifestCodec}
-use Rattle.slate_log.specs.declared.log_kind.LogKind.TheVariants as logs
 use Rattle.slate_log.specs.declared.sequenced.Sequenced.{Sequenced}
 use Rattle.slate_log.specs.declared.try_read_phase.TryReadPhase.{TryReadPhase}
 use Rattle.slate_manifest_parts.specs.Decoding.{decoded_manifest}

@@ -1,5 +1,5 @@
 //! The machines of the calls on the log of manifests.
-ghost use Rattle.std.specs.Prelude.{◌≡◌, true, false, IfOk};
+ghost use Rattle.std.specs.Prelude.{◌≡◌, true, IfOk};
 ghost use Rattle.slate_log.specs.AdvancePhase.{advance_asks, advance_due, advance_goes};
 ghost use Rattle.slate_log.specs.DeletePhase.{delete_asks, delete_due, delete_goes};
 ghost use Rattle.slate_log.specs.Due.{FaultRose, StillDue};

@@ -1,9 +1,9 @@
 -- Neither the codec of manifests, nor the rules, nor a change that is handed in answers a fault of the store, or a fence.
-use Rattle.std.specs.Prelude.{◌≡◌, ◌≢◌, ◌+◌, ◌==◌, nat_lt, ℕ, ℤ, Bool, true, false, List, Option, Some, None, Result, Ok, Err, map, filter, not, if◌then◌else◌, refl}
-use Rattle.slate_encodable.specs.Unencodable.{early_field, late_field}
+use Rattle.std.specs.Prelude.{◌≡◌, ◌≢◌, ◌+◌, ◌==◌, ℕ, ℤ, Bool, true, List, Option, Some, None, Result, Ok, Err, map, filter, not, refl}
+use Rattle.slate_encodable.specs.Unencodable.{early_field}
 use Rattle.slate_ids.specs.Limits.{last_number}
 use Rattle.slate_ids.specs.declared.error.SlateDBError.{SlateDBError}
-use Rattle.slate_ids.specs.declared.error.SlateDBError.TheVariants.{CheckpointMissing, Corrupt, Exhausted, Fenced, InvalidDBState, StoreFault, TransactionalObjectVersionExists, Unencodable}
+use Rattle.slate_ids.specs.declared.error.SlateDBError.TheVariants.{CheckpointMissing, Corrupt, Exhausted, Fenced, InvalidClockTick, InvalidDBState, InvalidSegmentPrefix, StoreFault, UpdateRefused}
 use Rattle.slate_ids.specs.declared.error.StateCause.TheVariants.{NotInitialised}
 use Rattle.slate_ids.specs.declared.error.FieldName.{FieldName}
 use Rattle.slate_ids.specs.declared.error.FormatName.TheVariants as format
@@ -11,7 +11,7 @@ use Rattle.slate_layout.specs.Codec.{encoded, if_typed}
 use Rattle.slate_log.specs.Change.{next_epoch}
 use Rattle.slate_log.specs.declared.right.Right.{Right}
 use Rattle.slate_manifest_encoding.specs.Encoding.{encoded_manifest, encoded_with, unless_early}
-use Rattle.slate_manifest_parts.specs.Gathered.{ById, gathered}
+use Rattle.slate_manifest_parts.specs.Gathered.{ById}
 use Rattle.slate_manifest_parts.specs.TypedManifests.{is_manifest}
 use Rattle.slate_model.specs.declared.checkpoint.Checkpoint.{Checkpoint}
 use Rattle.slate_model.specs.declared.checkpoint.CheckpointOptions.{CheckpointOptions}
@@ -67,9 +67,10 @@ encoded_so m = typed_fine (is_manifest m) (encoded_manifest m) (early_fine (earl
 -- ---- the commit
 
 rules_so : (e : SlateDBError) → is_of_rules e ≡ true → is_plain e ≡ true
-rules_so StoreFault h = absurd cc
-rules_so (Fenced own read) h = absurd cc
-rules_so _ h = refl
+rules_so (UpdateRefused rule) h = refl
+rules_so (InvalidClockTick last next) h = refl
+rules_so (InvalidSegmentPrefix prefix conflict) h = refl
+rules_so _ h = absurd cc
 
 refused_so : (refusal : Option SlateDBError) → IsOfRules refusal → refuses_plainly refusal ≡ true
 refused_so None rules = refl
