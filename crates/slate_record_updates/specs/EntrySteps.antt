@@ -105,7 +105,11 @@ terminal_or status (Some d) = if is_terminal d.status then d.status else status
 abbrev pub with_local_status : List Compaction → Compaction → Compaction
 with_local_status local c = with_status (terminal_or c.status (entry_of c.id local)) c
 
--- the record with the local statuses of compactions that are over, trimmed but for those that are pending
+-- the record with the local statuses of compactions that are over; none is added
+abbrev pub with_local_statuses : Record → Record → Record
+with_local_statuses local r = record r { entries = map (with_local_status local.entries) r.entries }
+
+-- the same, trimmed but for those that are pending
 abbrev pub with_statuses : Record → List (ℕ × ℕ) → Record → Record
 with_statuses local pending r = record r { entries = retained pending (map (with_local_status local.entries) r.entries) }
 

@@ -11,4 +11,4 @@ pub use entry_steps::{claim, report, schedule, submit};
 pub use record_change::RecordChange;
 pub use record_epochs::{RecordEpochs, first_record, raise_record};
 pub use record_rules::{CompactionsRules, records_stand, refusal_of_record};
-pub use whole_records::{put_statuses, reset};
+pub use whole_records::{put_local_statuses, put_statuses, reset};

@@ -94,6 +94,19 @@ fn all_with_local_status(
     Ok(made)
 }
 
+/// The record that a compactor reads, as it holds it: each compaction of it whose local one is over has that status. No compaction is
+/// added, and none goes.
+pub fn put_local_statuses(
+    alloc: Global,
+    local: &Compactions,
+    compactions: &Compactions,
+) -> Result<Compactions, OutOfMemory>
+    ensures { IfOk result (λ made. made ≡ steps.with_local_statuses local.now compactions.now) }
+{
+    let epoch = compactions.compactor_epoch;
+    all_with_local_status(alloc, epoch, local, compactions.iter())
+}
+
 /// What a compactor makes of a record that it reads: each compaction of it whose local one is over gets that status; then those that are
 /// over go, but for the one of the greatest id and those in `pending`, which is to be short. No compaction is added.
 pub fn put_statuses(

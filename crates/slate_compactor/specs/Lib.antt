@@ -1,0 +1,4 @@
+pub mod Sources
+pub mod Finishing
+pub mod Trees
+pub mod Local

@@ -1,0 +1,10 @@
+//! What a compactor holds between its calls: its trees, its record of compactions, and those that it finished and no manifest has yet.
+#![tactic(auto)]
+
+mod finishing;
+mod local_state;
+mod local_trees;
+mod taken;
+
+pub use local_state::LocalState;
+pub use local_trees::LocalTrees;

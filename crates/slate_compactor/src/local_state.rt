@@ -1,0 +1,234 @@
+//! What a compactor holds between its calls.
+ghost use Rattle.std.specs.Prelude.{◌≡◌, ◌⊎◌, IfOk, IfErr, Ok, Err, true, option_copied};
+ghost use Rattle.slate_compactor.specs.Local as held;
+ghost use Rattle.slate_compactor.specs.Local.{opened, refreshed, scheduled, finished, failed, manifest_committed, record_committed};
+ghost use Rattle.slate_ids.specs.Answers.{Gives, is_memory};
+
+use crate::finishing::finished_tree;
+use crate::local_trees::LocalTrees;
+use slate_ids::{Listed, OutOfMemory, SlateDBError, StateCause, Ulid};
+use slate_model::{Compaction, CompactionStatus, Compactions, LsmTreeState, ManifestCore, Plain};
+use slate_record_updates::put_local_statuses;
+use std::alloc::Global;
+
+/// What a compactor holds between its calls. No call changes it in place: each makes another, which is held once the call's commits stood.
+#[derive(Debug, Drop)]
+pub struct LocalState {
+    /// Its trees.
+    pub trees: LocalTrees,
+    /// Its record of compactions.
+    pub compactions: Compactions,
+    /// The compactions that it finished and that no manifest has yet.
+    pub pending: Listed<Ulid>,
+}
+
+// Whether a compaction waits for its end.
+fn is_compacted(status: CompactionStatus) -> bool
+    ensures { result ≡ held.is_compacted status }
+{
+    matches!(status, CompactionStatus::Compacted)
+}
+
+// The tree of a compaction's segment once it is finished; none where there is no such segment, or its sources are bad.
+fn tree_finished(
+    alloc: Global,
+    compaction: &Compaction,
+    tree: Option<&LsmTreeState>,
+) -> Result<Option<LsmTreeState>, OutOfMemory>
+    ensures { IfOk result (λ made. made ≡ held.tree_finished compaction.now (option_copied tree.entry)) }
+{
+    match tree {
+        None => Ok(None),
+        Some(tree) => finished_tree(
+            alloc,
+            &compaction.spec,
+            compaction.output_ssts.as_slice(),
+            tree,
+        ),
+    }
+}
+
+// Equal ids, and one more.
+fn with_pending(
+    alloc: Global,
+    pending: &Listed<Ulid>,
+    id: Ulid,
+) -> Result<Listed<Ulid>, OutOfMemory>
+    ensures { IfOk result (λ ids. ids ≡ held.one_more_pending pending.now id) }
+{
+    let mut ids = pending.copy(alloc)?;
+    ids.push(id)?;
+    Ok(ids)
+}
+
+// An equal record, in which this compaction has another status.
+fn with_status(
+    alloc: Global,
+    compactions: &Compactions,
+    compaction: &Compaction,
+    status: CompactionStatus,
+) -> Result<Compactions, OutOfMemory>
+    ensures { IfOk result (λ r. r ≡ held.with_entry_status status compaction.now compactions.now) }
+{
+    let mut made = Plain::clone(compaction, alloc)?;
+    made.status = status;
+    let mut new = Plain::clone(compactions, alloc)?;
+    new.insert(made)?;
+    Ok(new)
+}
+
+impl LocalState {
+    /// After an open: the trees of the manifest that its raise put, and the record that it committed last; nothing is pending.
+    pub fn opened(
+        alloc: Global,
+        core: &ManifestCore,
+        compactions: Compactions,
+    ) -> Result<LocalState, OutOfMemory>
+        ensures { IfOk result (λ local. local ≡ opened core.now compactions) }
+    {
+        Ok(LocalState {
+            trees: LocalTrees::of(alloc, core)?,
+            compactions,
+            pending: Listed::new(alloc),
+        })
+    }
+
+    /// After a refresh: the record read with the local statuses of compactions that are over, and the trees merged with those of the
+    /// manifest read. What is pending stays. Refused with `SegmentWithoutWriter`, as the merge is.
+    pub fn refreshed(
+        &self,
+        alloc: Global,
+        compactions: &Compactions,
+        core: &ManifestCore,
+    ) -> Result<LocalState, SlateDBError>
+        ensures ok { IfOk result (λ local. refreshed compactions.now core.now self.now ≡ Ok local) }
+        ensures err { IfErr result
+            (λ e. (refreshed compactions.now core.now self.now ≡ Err e) ⊎ (is_memory e ≡ true)) }
+    {
+        let trees = self.trees.merged(alloc, core)?;
+        Ok(LocalState {
+            trees,
+            compactions: put_local_statuses(alloc, &self.compactions, compactions)?,
+            pending: self.pending.copy(alloc)?,
+        })
+    }
+
+    /// After a schedule: the record committed, with the local statuses of compactions that are over. All else stays.
+    pub fn scheduled(
+        self,
+        alloc: Global,
+        committed: &Compactions,
+    ) -> Result<LocalState, OutOfMemory>
+        ensures { IfOk result (λ local. local ≡ scheduled committed.now self) }
+    {
+        let compactions = put_local_statuses(alloc, &self.compactions, committed)?;
+        Ok(LocalState {
+            trees: self.trees,
+            compactions,
+            pending: self.pending,
+        })
+    }
+
+    /// After the commit of the manifest with its trees: the trees committed, and nothing is pending. The record stays.
+    pub fn manifest_committed(
+        self,
+        alloc: Global,
+        core: &ManifestCore,
+    ) -> Result<LocalState, OutOfMemory>
+        ensures { IfOk result (λ local. local ≡ manifest_committed core.now self) }
+    {
+        let trees = LocalTrees::of(alloc, core)?;
+        Ok(LocalState {
+            trees,
+            compactions: self.compactions,
+            pending: Listed::new(alloc),
+        })
+    }
+
+    /// After the commit of the record with its statuses: the record committed. All else stays. Takes no memory.
+    pub fn record_committed(self, committed: Compactions) -> LocalState
+        ensures { result ≡ record_committed committed self }
+    {
+        LocalState {
+            trees: self.trees,
+            compactions: committed,
+            pending: self.pending,
+        }
+    }
+
+    // The end of a compaction that is compacted.
+    fn finish_found(
+        &self,
+        alloc: Global,
+        compaction: &Compaction,
+    ) -> Result<LocalState, SlateDBError>
+        ensures { Gives result (held.finish_found self.now compaction.now) }
+    {
+        let prefix = compaction.spec.segment();
+        let tree = self.trees.tree_at(prefix.as_slice());
+        match tree_finished(alloc, compaction, tree)? {
+            None => Err(SlateDBError::InvalidDBState(StateCause::BadSources(compaction.id))),
+            Some(tree) => Ok(LocalState {
+                trees: self.trees.with_tree(alloc, prefix, tree)?,
+                compactions: with_status(
+                    alloc,
+                    &self.compactions,
+                    compaction,
+                    CompactionStatus::Completed,
+                )?,
+                pending: with_pending(alloc, &self.pending, compaction.id)?,
+            }),
+        }
+    }
+
+    /// With the compaction of this id finished: its sources leave the tree of its segment, and a merge's outputs are a run of their own
+    /// there; it is Completed, and pending. Where a source is a view, the newest of these becomes the tree's view marker. Refused with
+    /// `InvalidDBState`: `NoSuchCompaction` where the local record lacks it, `CompactionState` where it isn't Compacted, and `BadSources`
+    /// where there is no such segment, its tree lacks a source, the views among the sources aren't the oldest of its L0, or a run that
+    /// stays has the number of the run that is written.
+    pub fn finished(&self, alloc: Global, id: Ulid) -> Result<LocalState, SlateDBError>
+        ensures { Gives result (finished id self.now) }
+    {
+        match self.compactions.get(id) {
+            None => Err(SlateDBError::InvalidDBState(StateCause::NoSuchCompaction(id))),
+            Some(compaction) => {
+                if !is_compacted(compaction.status) {
+                    return Err(SlateDBError::InvalidDBState(StateCause::CompactionState(id)));
+                }
+                self.finish_found(alloc, compaction)
+            }
+        }
+    }
+
+    // The failure of a compaction that isn't over.
+    fn fail_found(&self, alloc: Global, compaction: &Compaction) -> Result<LocalState, SlateDBError>
+        ensures { Gives result (Ok (held.fail_found self.now compaction.now)) }
+    {
+        Ok(LocalState {
+            trees: Plain::clone(&self.trees, alloc)?,
+            compactions: with_status(
+                alloc,
+                &self.compactions,
+                compaction,
+                CompactionStatus::Failed,
+            )?,
+            pending: self.pending.copy(alloc)?,
+        })
+    }
+
+    /// With the compaction of this id Failed. Refused with `InvalidDBState`: `NoSuchCompaction` where the local record lacks it,
+    /// `CompactionState` where it is over.
+    pub fn failed(&self, alloc: Global, id: Ulid) -> Result<LocalState, SlateDBError>
+        ensures { Gives result (failed id self.now) }
+    {
+        match self.compactions.get(id) {
+            None => Err(SlateDBError::InvalidDBState(StateCause::NoSuchCompaction(id))),
+            Some(compaction) => {
+                if compaction.status.is_terminal() {
+                    return Err(SlateDBError::InvalidDBState(StateCause::CompactionState(id)));
+                }
+                self.fail_found(alloc, compaction)
+            }
+        }
+    }
+}

@@ -1,0 +1,105 @@
+//! The trees that a compactor holds.
+ghost use Rattle.std.specs.Prelude.{◌≡◌, ◌⊎◌, IfOk, IfErr, is_some, true, option_copied, Ok, Err};
+ghost use Rattle.slate_compactor.specs.Trees as trees_spec;
+ghost use Rattle.slate_compactor.specs.Trees.{trees_of, trees_merged, tree_of};
+ghost use Rattle.slate_ids.specs.Answers.{is_memory};
+
+use bytes::Bytes;
+use slate_ids::{OutOfMemory, SlateDBError, are_same, copies};
+use slate_merges::{merge_segments_from_writer, merge_writer_and_compactor};
+use slate_model::{LsmTreeState, ManifestCore, Plain, Segment};
+use std::alloc::Global;
+use std::marker::Model;
+
+/// The trees of a database: the root's and those of its segments, whose prefixes ascend strictly.
+#[derive(Debug, Drop)]
+pub struct LocalTrees {
+    // All that isn't a tree or a segment is as in a new database.
+    core: ManifestCore,
+}
+
+impl Model for LocalTrees {
+    ghost use Rattle.slate_compactor.specs.Trees.{Trees, trees_of};
+
+    ghost Value = { Trees };
+
+    ghost view = { λ a. trees_of a.core };
+}
+
+impl LocalTrees {
+    /// The trees of a manifest.
+    pub fn of(alloc: Global, core: &ManifestCore) -> Result<LocalTrees, OutOfMemory>
+        ensures { IfOk result (λ trees. trees ≡ trees_of core.now) }
+    {
+        let mut copied = ManifestCore::new(alloc);
+        copied.tree = Plain::clone(&core.tree, alloc)?;
+        copied.set_segments(copies(alloc, core.segments().iter())?);
+        Ok(LocalTrees { core: copied })
+    }
+
+    /// The root's tree.
+    pub fn root(&self) -> &LsmTreeState
+        ensures { result.now ≡ self.now.tree }
+    {
+        &self.core.tree
+    }
+
+    /// The segments, ascending by prefix.
+    pub fn segments(&self) -> &[Segment]
+        ensures { result.now ≡ self.now.segments }
+    {
+        self.core.segments()
+    }
+
+    /// The tree of a prefix: the root's of the empty one, and else that of the segment of exactly this prefix. Takes no memory.
+    pub fn tree_at(&self, prefix: &[u8]) -> Option<&LsmTreeState>
+        ensures { option_copied result ≡ tree_of prefix.now self.now }
+    {
+        self.core.tree_for_segment(prefix)
+    }
+
+    /// Equal trees, with another one at a prefix that has one.
+    #[tactic(auto, using(crate::proofs::Trees::replaced))]
+    pub(crate) fn with_tree(
+        &self,
+        alloc: Global,
+        prefix: &Bytes,
+        tree: LsmTreeState,
+    ) -> Result<LocalTrees, OutOfMemory>
+        requires there { is_some (tree_of prefix.now self.now) ≡ true }
+        ensures { IfOk result (λ trees. trees ≡ trees_spec.with_tree prefix.now tree self.now) }
+    {
+        let mut core = Plain::clone(&self.core, alloc)?;
+        match core.maybe_insert_tree(alloc, prefix) {
+            Ok(old) => {
+                *old = tree;
+                Ok(LocalTrees { core })
+            }
+            Err(_) => Err(OutOfMemory),
+        }
+    }
+
+    /// These trees merged with those of the manifest that was read, as a compactor follows a writer. Refused with `SegmentWithoutWriter`
+    /// where a segment here holds tables and the manifest has none of its prefix.
+    pub fn merged(&self, alloc: Global, writer: &ManifestCore) -> Result<LocalTrees, SlateDBError>
+        ensures ok { IfOk result (λ trees. trees_merged writer.now self.now ≡ Ok trees) }
+        ensures err { IfErr result (λ e. (trees_merged writer.now self.now ≡ Err e) ⊎ (is_memory e ≡ true)) }
+    {
+        let segments = merge_segments_from_writer(alloc, self.core.segments(), writer.segments())?;
+        let mut core = ManifestCore::new(alloc);
+        core.tree = merge_writer_and_compactor(alloc, &writer.tree, &self.core.tree)?;
+        core.set_segments(segments);
+        Ok(LocalTrees { core })
+    }
+}
+
+impl Plain for LocalTrees {
+    fn clone(&self, alloc: Global) -> Result<LocalTrees, OutOfMemory> {
+        LocalTrees::of(alloc, &self.core)
+    }
+
+    fn is(&self, other: &LocalTrees) -> bool {
+        self.core.tree.is(&other.core.tree)
+            && are_same(self.core.segments().iter(), other.core.segments().iter())
+    }
+}
