@@ -115,6 +115,15 @@ fn reachable_from(rt: &impl Abort, alloc: Global, number: u64, manifest: &Manife
     reachable
 }
 
+// How many tables the trees of a manifest have.
+fn tables_of(manifest: &Manifest) -> u64 {
+    let mut tables = 0u64;
+    for _ in manifest.core.views() {
+        tables = tables.saturating_add(1);
+    }
+    tables
+}
+
 // The next version is committed.
 fn commit(rt: &impl Abort, alloc: Global, audit: &mut Audit, put: Option<usize>, bytes: &[u8]) {
     let number = (audit.versions.len() as u64).saturating_add(1);
@@ -126,7 +135,7 @@ fn commit(rt: &impl Abort, alloc: Global, audit: &mut Audit, put: Option<usize>,
     audit.versions.push(version).expect(rt, "memory");
     let manifest = decode_manifest(alloc, bytes).expect(rt, "a manifest");
     audit.reachable = reachable_from(rt, alloc, number, &manifest);
-    audit.counts.tables = manifest.core.views().count() as u64;
+    audit.counts.tables = tables_of(&manifest);
 }
 
 // A put has its effect: of the next number it commits, and of one that was committed and collected it is late.

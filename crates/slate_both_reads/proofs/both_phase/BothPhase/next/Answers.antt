@@ -2,6 +2,7 @@ use Rattle.std.proofs.Common.{w64}
 use Rattle.std.proofs.lemmas.Int.{to_z-of_z}
 use Rattle.slate_log.proofs.Faults.{step_rose}
 use Rattle.slate_log.proofs.Steps.{goes_steps}
+use Rattle.slate_both_reads.specs.BothReads.{both_asks, both_goes}
 use Rattle.slate_both_reads.proofs.BothFaults.{both_faults, both_reads}
 use Rattle.slate_both_reads.proofs.both_phase.BothPhase.next.Goals as goal
 
@@ -9,10 +10,12 @@ pub returns-in-Ok : goal.returns-in-Ok
 returns-in-Ok g c =
     let first = c.args.first.now in
     let second = c.args.second.now in
-    let steps = goes_steps _ _ _ _ _ c.asks-call.ensures (both_reads first second c.args.self.now) (rw (to_z-of_z w64 c.args.moment c.ranges.moment) at c.in-Ok.ensures) c.goes_on.result c.goes_on.ensures.goes in
+    let one = g.C.ObjectCodec.decoded in
+    let other = g.D.ObjectCodec.decoded in
+    let steps = goes_steps (both_asks first second c.args.self.now) c.args.moment (both_goes one other first second c.args.self.now) c.args.self.now c.goes_on.new.self c.asks-call.ensures (both_reads first second c.args.self.now) (rw (to_z-of_z w64 c.args.moment c.ranges.moment) at c.in-Ok.ensures) c.goes_on.result c.goes_on.ensures.goes in
     record {
       steps = steps;
       falls = c.goes_on.ensures.falls;
       due = c.goes_on.ensures.due;
-      fault = λ good fine. step_rose (g.S.ObjectStore.told c.args.store.now) (g.S.ObjectStore.told c.perform.new.store) c.args.moment c.args.self.now c.goes_on.new.self c.goes_on.result (both_faults g.C.ObjectCodec.decoded g.D.ObjectCodec.decoded first second good fine) c.requires.due steps;
+      fault = λ good fine. step_rose (g.S.ObjectStore.told c.args.store.now) (g.S.ObjectStore.told c.perform.new.store) c.args.moment c.args.self.now c.goes_on.new.self c.goes_on.result (both_faults one other first second good fine) c.requires.due steps;
     }

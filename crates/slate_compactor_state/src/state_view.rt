@@ -1,0 +1,67 @@
+//! The record and the manifest of a database, as they were read together.
+ghost use Rattle.std.specs.Prelude.{◌≡◌, option_copied};
+ghost use Rattle.slate_compactor_state.specs.Views as views;
+
+use slate_both_reads::Both;
+use slate_ids::SlateDBError;
+use slate_model::{Compactions, Manifest, VersionedCompactions, VersionedManifest};
+use std::marker::Model;
+
+/// The latest version of a database's record of compactions, where there is one, and that of its manifest, which was read after it.
+#[derive(Debug, Drop)]
+pub struct CompactorStateView {
+    compactions: Option<VersionedCompactions>,
+    manifest: VersionedManifest,
+}
+
+impl Model for CompactorStateView {
+    ghost use Rattle.slate_compactor_state.specs.Views.{View};
+
+    ghost Value = { View };
+
+    ghost view = { λ a. record { compactions = a.compactions; manifest = a.manifest } };
+}
+
+impl CompactorStateView {
+    /// The version of the record, where there is one.
+    pub fn compactions(&self) -> Option<&VersionedCompactions>
+        ensures { option_copied result ≡ self.now.compactions }
+    {
+        self.compactions.as_ref()
+    }
+
+    /// The version of the manifest.
+    pub fn manifest(&self) -> &VersionedManifest
+        ensures { result.now ≡ self.now.manifest }
+    {
+        &self.manifest
+    }
+}
+
+// The version of a record that was read.
+fn record_version(read: Option<(u64, Compactions)>) -> Option<VersionedCompactions>
+    ensures { result ≡ views.record_version read }
+{
+    match read {
+        Some((id, compactions)) => Some(VersionedCompactions::new(id, compactions)),
+        None => None,
+    }
+}
+
+/// The view of what was read, which has to have a manifest.
+pub(crate) fn viewed(
+    reply: Result<Both<Compactions, Manifest>, SlateDBError>,
+) -> Result<CompactorStateView, SlateDBError>
+    ensures { result ≡ views.viewed reply }
+{
+    match reply {
+        Ok(Both { one, other }) => match other {
+            None => Err(SlateDBError::LatestTransactionalObjectVersionMissing),
+            Some((id, manifest)) => Ok(CompactorStateView {
+                compactions: record_version(one),
+                manifest: VersionedManifest::new(id, manifest),
+            }),
+        },
+        Err(e) => Err(e),
+    }
+}

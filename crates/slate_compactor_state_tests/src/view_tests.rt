@@ -1,0 +1,136 @@
+//! Reads of a compactor's state.
+
+use slate_compactions::StoredCompactions;
+use slate_compactor_state::{CompactorStateReader, CompactorStateView, ReadViewMachine};
+use slate_ids::{DbPath, SlateDBError};
+use slate_log::Right;
+use slate_manifest_store::ManifestStore;
+use slate_model::ManifestCore;
+use slate_state::StoredManifest;
+use slate_store::{MemoryStore, Step};
+use std::alloc::Global;
+use std::process::Abort;
+
+fn db(rt: &impl Abort) -> DbPath {
+    DbPath::from_text("db")
+        .expect(rt, "memory")
+        .expect(rt, "a path of a database")
+}
+
+fn empty(alloc: Global) -> MemoryStore {
+    MemoryStore::new(alloc, Vec::new(alloc))
+}
+
+/// A store with a first manifest.
+fn with_manifest(rt: &impl Abort, alloc: Global) -> MemoryStore {
+    let mut store = empty(alloc);
+    let core = ManifestCore::new(alloc);
+    let _ = StoredManifest::create_new_db(alloc, &mut store, db(rt), core, 5).expect(rt, "memory");
+    store
+}
+
+/// One more version of the manifest.
+fn more_manifest(rt: &impl Abort, alloc: Global, store: &mut MemoryStore) {
+    let mut holder = StoredManifest::load(alloc, store, db(rt), 1).expect(rt, "memory");
+    let dirty = holder.prepare_dirty(alloc).expect(rt, "memory");
+    holder
+        .update(alloc, store, dirty, &Right::Plain, 6)
+        .expect(rt, "memory");
+}
+
+/// A first record.
+fn first_record(rt: &impl Abort, alloc: Global, store: &mut MemoryStore) {
+    let _ = StoredCompactions::create(alloc, store, db(rt), 4, 5).expect(rt, "memory");
+}
+
+/// One more version of the record.
+fn more_record(rt: &impl Abort, alloc: Global, store: &mut MemoryStore) {
+    let mut holder = StoredCompactions::load(alloc, store, db(rt), 1).expect(rt, "memory");
+    let dirty = holder.prepare_dirty(alloc).expect(rt, "memory");
+    holder
+        .update(alloc, store, dirty, &Right::Plain, 6)
+        .expect(rt, "memory");
+}
+
+/// The numbers of the record, or 0, and of the manifest.
+fn numbers(view: &CompactorStateView) -> (u64, u64) {
+    let record = match view.compactions() {
+        Some(version) => version.id(),
+        None => 0,
+    };
+    (record, view.manifest().id())
+}
+
+/// What a read answers: the numbers, or 100 and the number of the refusal.
+fn read(rt: &impl Abort, alloc: Global, store: &mut MemoryStore, tries: u32) -> (u64, u64) {
+    let reader = CompactorStateReader::new(db(rt));
+    assert!(rt; tries > 0);
+    told(reader.read_view(alloc, store, tries))
+}
+
+fn told(reply: Result<CompactorStateView, SlateDBError>) -> (u64, u64) {
+    match reply {
+        Ok(view) => numbers(&view),
+        Err(e) => (100, u64::from(e.code())),
+    }
+}
+
+#[test]
+fn a_view_has_the_record_and_the_manifest(rt: HostRuntime) {
+    let alloc = rt.alloc();
+    let mut store = empty(alloc);
+    assert!(rt; read(&rt, alloc, &mut store, 1) == (100, 3));
+    first_record(&rt, alloc, &mut store);
+    assert!(rt; read(&rt, alloc, &mut store, 1) == (100, 3));
+    let mut store = with_manifest(&rt, alloc);
+    assert!(rt; read(&rt, alloc, &mut store, 1) == (0, 1));
+    first_record(&rt, alloc, &mut store);
+    more_record(&rt, alloc, &mut store);
+    assert!(rt; read(&rt, alloc, &mut store, 1) == (2, 1));
+}
+
+/// A step of a read: 0 where it goes on.
+fn step(
+    rt: &impl Abort,
+    alloc: Global,
+    store: &mut MemoryStore,
+    machine: &mut ReadViewMachine,
+) -> (u64, u64) {
+    let reader = CompactorStateReader::new(db(rt));
+    assert!(rt; machine.due());
+    match machine.next(alloc, &reader, store, 0) {
+        Step::Again => (0, 0),
+        Step::Done(reply) => told(reply),
+    }
+}
+
+// What others commit between the two reads is seen of the manifest alone.
+#[test]
+fn the_record_is_read_first(rt: HostRuntime) {
+    let alloc = rt.alloc();
+    let mut store = with_manifest(&rt, alloc);
+    first_record(&rt, alloc, &mut store);
+    let mut machine = CompactorStateReader::new(db(&rt)).start_read_view();
+    assert!(rt; step(&rt, alloc, &mut store, &mut machine) == (0, 0));
+    assert!(rt; step(&rt, alloc, &mut store, &mut machine) == (0, 0));
+    assert!(rt; step(&rt, alloc, &mut store, &mut machine) == (0, 0));
+    more_record(&rt, alloc, &mut store);
+    more_manifest(&rt, alloc, &mut store);
+    assert!(rt; step(&rt, alloc, &mut store, &mut machine) == (0, 0));
+    assert!(rt; step(&rt, alloc, &mut store, &mut machine) == (0, 0));
+    assert!(rt; step(&rt, alloc, &mut store, &mut machine) == (1, 2));
+    assert!(rt; !machine.due());
+}
+
+// The manifest's boundary is at its only version, so that each try starts again.
+#[test]
+fn tries_are_used_up(rt: HostRuntime) {
+    let alloc = rt.alloc();
+    let mut store = with_manifest(&rt, alloc);
+    first_record(&rt, alloc, &mut store);
+    ManifestStore::new(db(&rt))
+        .advance_boundary(alloc, &mut store, 1, 8, 1)
+        .expect(&rt, "memory");
+    assert!(rt; read(&rt, alloc, &mut store, 1) == (100, 21));
+    assert!(rt; read(&rt, alloc, &mut store, 3) == (100, 21));
+}
