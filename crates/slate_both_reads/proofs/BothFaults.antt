@@ -1,5 +1,5 @@
 -- A read of two logs only reads, and ends in a fault only where the store faults.
-use Rattle.std.specs.Prelude.{◌≡◌, ℕ, Bool, true, false, List, Option, Some, None, Result, Ok, Err, refl}
+use Rattle.std.specs.Prelude.{◌≡◌, ℕ, true, List, Option, Result, Ok, Err, refl}
 use Rattle.std.proofs.Common.{ap, ◌⊎◌, inl, inr, subst, sym}
 use Rattle.slate_ids.specs.declared.error.SlateDBError.{SlateDBError}
 use Rattle.slate_ids.specs.declared.error.SlateDBError.TheVariants.{StoreFault}
@@ -8,7 +8,7 @@ use Rattle.slate_store.specs.Machines.{Goes, Stay, End, IsEnd}
 use Rattle.slate_store.specs.declared.store_answer.StoreAnswer.{StoreAnswer}
 use Rattle.slate_store.specs.declared.store_answer.StoreAnswer.TheVariants.{Fault}
 use Rattle.slate_log.specs.Due.{NoFault}
-use Rattle.slate_log.specs.ReadPhase.{read_asks, read_goes, read_due}
+use Rattle.slate_log.specs.ReadPhase.{read_goes, read_due}
 use Rattle.slate_log.specs.declared.log_kind.LogKind.{LogKind}
 use Rattle.slate_log.specs.declared.read_phase.ReadPhase.{ReadPhase}
 use Rattle.slate_log.specs.declared.read_phase.ReadPhase.TheVariants as reads
@@ -16,7 +16,7 @@ use Rattle.slate_log.specs.declared.sequenced.Sequenced.{Sequenced}
 use Rattle.slate_log.proofs.Faults.{OnlyFaults, Fine, fine_stay, fine_ok, fine_err}
 use Rattle.slate_log.proofs.ReadFaults.{read_faults}
 use Rattle.slate_log.proofs.Steps.{reads_only}
-use Rattle.slate_both_reads.specs.BothReads.{BothGoes, after_first, after_second, both_asks, both_due, both_goes}
+use Rattle.slate_both_reads.specs.BothReads.{after_first, after_second, both_asks, both_due, both_goes}
 use Rattle.slate_both_reads.specs.declared.both_phase.BothPhase.{BothPhase}
 use Rattle.slate_both_reads.specs.declared.both_phase.BothPhase.TheVariants.{First, Between, Second, Over}
 
