@@ -9,7 +9,11 @@ use Rattle.slate_records.specs.Compactions.{segment_of, is_terminal}
 use Rattle.slate_records.specs.Records.{Record, entry_of}
 use Rattle.slate_records.specs.declared.compaction.Compaction.{Compaction}
 use Rattle.slate_records.specs.declared.compaction_status.CompactionStatus.{CompactionStatus}
-use Rattle.slate_records.specs.declared.compaction_status.CompactionStatus.TheVariants.{Compacted, Completed, Failed}
+use Rattle.slate_records.specs.declared.compaction_status.CompactionStatus.TheVariants.{Compacted as IsCompacted, Completed, Failed}
+use Rattle.slate_records.specs.Retaining.{has_id}
+use Rattle.slate_tables.specs.declared.ss_table_handle.SsTableHandle.{SsTableHandle}
+use Rattle.slate_tables.specs.declared.ss_table_id.SsTableId.{SsTableId}
+use Rattle.slate_tables.specs.declared.ss_table_id.SsTableId.TheVariants.{Wal, Compacted}
 use Rattle.slate_record_updates.specs.EntrySteps.{with_local_statuses, with_entry, with_status, no_such}
 use Rattle.slate_compactor.specs.Finishing.{finished_tree}
 use Rattle.slate_compactor.specs.Trees.{Trees, trees_of, tree_of, with_tree, trees_merged}
@@ -44,7 +48,7 @@ record_committed committed local = record local { compactions = committed }
 -- ---- the end of a compaction
 
 abbrev pub is_compacted : CompactionStatus → Bool
-is_compacted Compacted = true
+is_compacted IsCompacted = true
 is_compacted _ = false
 
 -- the ids that are pending, and one more
@@ -98,3 +102,24 @@ fail_of local id (Some c) = if is_terminal c.status then Err (InvalidDBState (Co
 -- the compaction of an id fails
 abbrev pub failed : ℕ × ℕ → LocalState → Result LocalState SlateDBError
 failed id local = fail_of local id (entry_of id local.compactions.entries)
+
+-- ---- what is pending
+
+-- ids with that of a compacted table in front
+abbrev pub with_compacted : SsTableId → List (ℕ × ℕ) → List (ℕ × ℕ)
+with_compacted (Compacted id) ids = id ∷ ids
+with_compacted (Wal number) ids = ids
+
+-- the compacted tables of handles; a file of the write-ahead log is none
+abbrev pub compacted_ids : List SsTableHandle → List (ℕ × ℕ)
+compacted_ids [] = []
+compacted_ids (sst ∷ ssts) = with_compacted sst.id (compacted_ids ssts)
+
+-- the outputs of those of the compactions whose ids are pending
+abbrev pub outputs_among : List (ℕ × ℕ) → List Compaction → List (ℕ × ℕ)
+outputs_among pending [] = []
+outputs_among pending (c ∷ entries) = if has_id pending c.id then compacted_ids c.output_ssts ++ outputs_among pending entries else outputs_among pending entries
+
+-- the outputs that are pending: those that the manifest with a compactor's trees may bring
+abbrev pub pending_outputs : LocalState → List (ℕ × ℕ)
+pending_outputs local = outputs_among local.pending local.compactions.entries

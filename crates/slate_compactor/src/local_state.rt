@@ -1,13 +1,17 @@
 //! What a compactor holds between its calls.
-ghost use Rattle.std.specs.Prelude.{◌≡◌, ◌⊎◌, IfOk, IfErr, Ok, Err, true, option_copied};
+ghost use Rattle.std.specs.Prelude.{◌≡◌, ◌⊎◌, ◌++◌, IfOk, IfErr, OnOk, Ok, Err, true, option_copied};
 ghost use Rattle.slate_compactor.specs.Local as held;
-ghost use Rattle.slate_compactor.specs.Local.{opened, refreshed, scheduled, finished, failed, manifest_committed, record_committed};
+ghost use Rattle.slate_compactor.specs.Local.{opened, refreshed, scheduled, finished, failed, manifest_committed, pending_outputs, record_committed};
 ghost use Rattle.slate_ids.specs.Answers.{Gives, is_memory};
+ghost use Rattle.slate_records.specs.Retaining.{has_id};
 
 use crate::finishing::finished_tree;
 use crate::local_trees::LocalTrees;
 use slate_ids::{Listed, OutOfMemory, SlateDBError, StateCause, Ulid};
-use slate_model::{Compaction, CompactionStatus, Compactions, LsmTreeState, ManifestCore, Plain};
+use slate_model::{
+    Compaction, CompactionStatus, Compactions, LsmTreeState, ManifestCore, Plain, SsTableHandle,
+    SsTableId,
+};
 use slate_record_updates::put_local_statuses;
 use std::alloc::Global;
 
@@ -75,6 +79,25 @@ fn with_status(
     let mut new = Plain::clone(compactions, alloc)?;
     new.insert(made)?;
     Ok(new)
+}
+
+// Adds the compacted tables of these.
+fn push_compacted(ids: &mut Listed<Ulid>, tables: &[SsTableHandle]) -> Result<(), OutOfMemory>
+    ensures { OnOk result (ids.new ≡ ids.old ++ held.compacted_ids tables.now) }
+{
+    for table in tables {
+        if let SsTableId::Compacted(id) = table.id {
+            ids.push(id)?;
+        }
+    }
+    Ok(())
+}
+
+// Whether ids have this one.
+fn has(ids: &[Ulid], id: Ulid) -> bool
+    ensures { result ≡ has_id ids.now id }
+{
+    ids.iter().any(|other| *other == id)
 }
 
 impl LocalState {
@@ -230,5 +253,19 @@ impl LocalState {
                 self.fail_found(alloc, compaction)
             }
         }
+    }
+
+    /// The tables that the manifest with these trees may bring: the outputs of the compactions that are pending. For each compaction it
+    /// looks through `pending`, which is to be short.
+    pub fn pending_outputs(&self, alloc: Global) -> Result<Listed<Ulid>, OutOfMemory>
+        ensures { IfOk result (λ ids. ids ≡ pending_outputs self.now) }
+    {
+        let mut ids = Listed::new(alloc);
+        for compaction in self.compactions.iter() {
+            if has(self.pending.as_slice(), compaction.id) {
+                push_compacted(&mut ids, compaction.output_ssts.as_slice())?;
+            }
+        }
+        Ok(ids)
     }
 }

@@ -1,13 +1,13 @@
 //! The trees that a compactor holds.
 ghost use Rattle.std.specs.Prelude.{◌≡◌, ◌⊎◌, IfOk, IfErr, is_some, true, option_copied, Ok, Err};
 ghost use Rattle.slate_compactor.specs.Trees as trees_spec;
-ghost use Rattle.slate_compactor.specs.Trees.{trees_of, trees_merged, tree_of};
+ghost use Rattle.slate_compactor.specs.Trees.{manifest_merged, trees_merged, tree_of, trees_of};
 ghost use Rattle.slate_ids.specs.Answers.{is_memory};
 
 use bytes::Bytes;
 use slate_ids::{OutOfMemory, SlateDBError, are_same, copies};
 use slate_merges::{merge_segments_from_writer, merge_writer_and_compactor};
-use slate_model::{LsmTreeState, ManifestCore, Plain, Segment};
+use slate_model::{LsmTreeState, Manifest, ManifestCore, Plain, Segment};
 use std::alloc::Global;
 use std::marker::Model;
 
@@ -90,6 +90,29 @@ impl LocalTrees {
         core.tree = merge_writer_and_compactor(alloc, &writer.tree, &self.core.tree)?;
         core.set_segments(segments);
         Ok(LocalTrees { core })
+    }
+
+    /// What a compactor makes of a manifest: these trees merged with the manifest's, as `merged`; the entries of other databases then list
+    /// only the tables that some view uses, and the floor is the greater of the old one and the new watermark. All else is as it was.
+    /// Refused with `SegmentWithoutWriter`, as `merged`.
+    pub fn merged_manifest(
+        &self,
+        alloc: Global,
+        manifest: &Manifest,
+    ) -> Result<Manifest, SlateDBError>
+        ensures ok { IfOk result (λ made. manifest_merged manifest.now self.now ≡ Ok made) }
+        ensures err { IfErr result
+            (λ e. (manifest_merged manifest.now self.now ≡ Err e) ⊎ (is_memory e ≡ true)) }
+    {
+        let writer = manifest.core.segments();
+        let segments = merge_segments_from_writer(alloc, self.core.segments(), writer)?;
+        let tree = merge_writer_and_compactor(alloc, &manifest.core.tree, &self.core.tree)?;
+        let mut made = Plain::clone(manifest, alloc)?;
+        made.core.tree = tree;
+        made.core.set_segments(segments);
+        made.prune_external_sst_ids();
+        made.core.floor = manifest.core.floor.max(made.core.watermark());
+        Ok(made)
     }
 }
 

@@ -1,10 +1,12 @@
 //! What is held after an open, a refresh, a schedule and the commits.
 
-use crate::test_states::{core, has_segments, id, opened, record, shown, status, tree, tree_at};
+use crate::test_states::{
+    compaction, core, has_segments, id, opened, record, shown, spec, status, tree, tree_at,
+};
 use slate_compactor::LocalState;
 use slate_ids::SlateDBError;
 use slate_model::CompactionStatus::{Completed, Failed, Running, Scheduled, Submitted};
-use slate_model::{CompactionStatus, ManifestCore};
+use slate_model::{CompactionStatus, Manifest, ManifestCore};
 use std::alloc::Global;
 use std::process::Abort;
 
@@ -123,4 +125,64 @@ fn commits_are_held(rt: HostRuntime) {
     let last = after.record_committed(record(&rt, alloc, 9, &[(4, Completed)]));
     assert!(rt; last.compactions.compactor_epoch == 9 && last.compactions.len() == 1);
     assert!(rt; shown(last.trees.root()) == (6, 87));
+}
+
+// The tables of the trees are all of 300 ms, so that the watermark is: above the old floor, and below another.
+#[test]
+fn a_manifest_gets_the_trees(rt: HostRuntime) {
+    let alloc = rt.alloc();
+    let mut own = tree(&rt, alloc, &[3], &[6, 5]);
+    own.last_compacted_l0_sst_view_id = Some(id(2));
+    let local = opened(
+        &rt,
+        alloc,
+        &core(&rt, alloc, own, None),
+        record(&rt, alloc, 4, &[]),
+    );
+    for (floor, wanted) in &[(0u64, 300u64), (299, 300), (301, 301)] {
+        let made = merged_over(&rt, alloc, &local, *floor);
+        assert!(rt; shown(&made.core.tree) == (543, 65), "{floor}");
+        assert!(rt;
+            made.core.floor == *wanted && made.writer_epoch == 7,
+            "{floor}"
+        );
+    }
+}
+
+/// The manifest of the views 5 to 1 and of this floor, merged with what is held.
+fn merged_over(rt: &impl Abort, alloc: Global, local: &LocalState, floor: u64) -> Manifest {
+    let core = core(rt, alloc, tree(rt, alloc, &[5, 4, 3, 2, 1], &[5]), None);
+    let mut manifest = Manifest::initial(alloc, core);
+    manifest.core.floor = floor;
+    manifest.writer_epoch = 7;
+    local
+        .trees
+        .merged_manifest(alloc, &manifest)
+        .expect(rt, "merged")
+}
+
+#[test]
+fn outputs_of_what_is_pending_are_told(rt: HostRuntime) {
+    let alloc = rt.alloc();
+    let mut record = record(&rt, alloc, 4, &[(1, Completed)]);
+    for (tail, outputs) in &[(2u8, 2u8), (3, 1), (4, 3)] {
+        let spec = spec(&rt, alloc, "", &[], None);
+        record
+            .insert(compaction(&rt, alloc, *tail, Completed, spec, *outputs))
+            .expect(&rt, "memory");
+    }
+    let mut local = opened(&rt, alloc, &first(&rt, alloc), record);
+    assert!(rt;
+        local
+            .pending_outputs(alloc)
+            .expect(&rt, "memory")
+            .as_slice()
+            .is_empty()
+    );
+    for tail in &[4u8, 2, 9] {
+        local.pending.push(id(*tail)).expect(&rt, "memory");
+    }
+    let ids = local.pending_outputs(alloc).expect(&rt, "memory");
+    let wanted = [id(0), id(1), id(0), id(1), id(2)];
+    assert!(rt; ids.as_slice() == wanted.as_slice());
 }
