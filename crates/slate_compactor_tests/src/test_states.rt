@@ -165,7 +165,9 @@ pub(crate) fn opened(
 pub(crate) fn shown(tree: &LsmTreeState) -> (u64, u64) {
     let mut l0 = 0u64;
     for view in tree.l0.as_deque().iter() {
-        l0 = l0.wrapping_mul(10).wrapping_add(view.id.tail() as u64);
+        l0 = l0
+            .wrapping_mul(10)
+            .wrapping_add((view.id.tail() % 10) as u64);
     }
     let mut runs = 0u64;
     for run in tree.compacted.as_slice() {
