@@ -151,30 +151,62 @@ fn statuses_decide(rt: HostRuntime) {
     }
 }
 
+/// What is held once the merge of the view 1 into the run 0 was finished.
+fn after_end(rt: &impl Abort, alloc: Global) -> LocalState {
+    let local = held(rt, alloc, "", &[V1], Some(0), CompactionStatus::Compacted);
+    local.finished(alloc, id(1)).expect(rt, "finished")
+}
+
 #[test]
 fn a_finished_compaction_is_completed_and_pending(rt: HostRuntime) {
-    let alloc = rt.alloc();
-    let local = held(&rt, alloc, "", &[V1], Some(0), CompactionStatus::Compacted);
-    let after = local.finished(alloc, id(1)).expect(&rt, "finished");
+    let after = after_end(&rt, rt.alloc());
     assert!(rt; status(&after.compactions, 1) == Some(CompactionStatus::Completed));
-    assert!(rt;
-        after.pending.as_slice() == [id(1)].as_slice() && after.compactions.compactor_epoch == 4
-    );
-    assert!(rt; told(&rt, &after.finished(alloc, id(1)), "") == Answer::State);
-    assert!(rt; told(&rt, &local.finished(alloc, id(2)), "") == Answer::NoSuch);
-    let runs = tree_at(&rt, &after, "").compacted.as_slice();
-    let written = runs.last().expect(&rt, "a run");
-    assert!(rt; written.id == 0 && written.sst_views().len() == 2);
+    assert!(rt; after.pending.as_slice() == [id(1)].as_slice());
+    assert!(rt; after.compactions.compactor_epoch == 4);
     assert!(rt; shown(tree_at(&rt, &after, "p")) == (321, 52));
+}
+
+/// The number of the run that was written, and how many views it has.
+fn written(rt: &impl Abort, local: &LocalState) -> (u32, usize) {
+    let runs = tree_at(rt, local, "").compacted.as_slice();
+    let last = runs.last().expect(rt, "a run");
+    (last.id, last.sst_views().len())
+}
+
+#[test]
+fn a_run_has_the_outputs(rt: HostRuntime) {
+    let after = after_end(&rt, rt.alloc());
+    assert!(rt; written(&rt, &after) == (0, 2));
+}
+
+#[test]
+fn a_compaction_ends_once(rt: HostRuntime) {
+    let after = after_end(&rt, rt.alloc());
+    assert!(rt; told(&rt, &after.finished(rt.alloc(), id(1)), "") == Answer::State);
+}
+
+#[test]
+fn a_compaction_that_is_not_there_does_not_end(rt: HostRuntime) {
+    let after = after_end(&rt, rt.alloc());
+    assert!(rt; told(&rt, &after.finished(rt.alloc(), id(2)), "") == Answer::NoSuch);
+}
+
+#[test]
+fn a_compaction_that_is_not_there_does_not_fail(rt: HostRuntime) {
+    let after = after_end(&rt, rt.alloc());
+    assert!(rt; told(&rt, &after.failed(rt.alloc(), id(2)), "") == Answer::NoSuch);
+}
+
+/// What is held once the compaction failed.
+fn after_failure(rt: &impl Abort, alloc: Global) -> LocalState {
+    let local = held(rt, alloc, "", &[V1], Some(0), CompactionStatus::Running);
+    local.failed(alloc, id(1)).expect(rt, "failed")
 }
 
 #[test]
 fn a_failed_compaction_leaves_the_trees(rt: HostRuntime) {
-    let alloc = rt.alloc();
-    let local = held(&rt, alloc, "", &[V1], Some(0), CompactionStatus::Running);
-    let after = local.failed(alloc, id(1)).expect(&rt, "failed");
+    let after = after_failure(&rt, rt.alloc());
     assert!(rt; status(&after.compactions, 1) == Some(CompactionStatus::Failed));
     assert!(rt; after.pending.as_slice().is_empty());
     assert!(rt; shown(tree_at(&rt, &after, "")) == (321, 52));
-    assert!(rt; told(&rt, &local.failed(alloc, id(2)), "") == Answer::NoSuch);
 }

@@ -6,7 +6,7 @@ use crate::test_states::{
 use slate_compactor::LocalState;
 use slate_ids::SlateDBError;
 use slate_model::CompactionStatus::{Completed, Failed, Running, Scheduled, Submitted};
-use slate_model::{CompactionStatus, Manifest, ManifestCore};
+use slate_model::{CompactionStatus, Compactions, Manifest, ManifestCore};
 use std::alloc::Global;
 use std::process::Abort;
 
@@ -17,7 +17,12 @@ fn first(rt: &impl Abort, alloc: Global) -> ManifestCore {
     core(rt, alloc, root, Some(other))
 }
 
-/// What is held of it, with a compaction that is over, one that failed, and one that runs.
+/// The manifest with these views and runs in the root alone.
+fn root(rt: &impl Abort, alloc: Global, l0: &[u8], runs: &[u32]) -> ManifestCore {
+    core(rt, alloc, tree(rt, alloc, l0, runs), None)
+}
+
+/// What is held of the first one, with compactions that are over, one that failed, and one that runs.
 fn held(rt: &impl Abort, alloc: Global) -> LocalState {
     let own = record(
         rt,
@@ -30,159 +35,215 @@ fn held(rt: &impl Abort, alloc: Global) -> LocalState {
 
 #[test]
 fn an_open_holds_what_it_committed(rt: HostRuntime) {
-    let alloc = rt.alloc();
-    let local = held(&rt, alloc);
+    let local = held(&rt, rt.alloc());
     assert!(rt; shown(local.trees.root()) == (321, 5));
     assert!(rt; has_segments(local.trees.segments(), 1));
     assert!(rt; shown(tree_at(&rt, &local, "p")) == (321, 5));
     assert!(rt; local.trees.tree_at(b"q").is_none() && local.pending.as_slice().is_empty());
 }
 
-/// The statuses of the record that is read, and those that are held after a refresh or a schedule.
-const READ: [(u8, CompactionStatus, CompactionStatus); 4] = [
-    (1, Submitted, Completed),
-    (2, Running, Failed),
-    (3, Scheduled, Scheduled),
-    (5, Submitted, Submitted),
+// ---- the record
+
+/// The compactions of the record that is read, and the statuses that are held of them then.
+const READ: [(u8, CompactionStatus, Option<CompactionStatus>); 5] = [
+    (1, Submitted, Some(Completed)),
+    (2, Running, Some(Failed)),
+    (3, Scheduled, Some(Scheduled)),
+    (4, Submitted, Some(Completed)),
+    (5, Submitted, Some(Submitted)),
 ];
 
-#[test]
-fn a_refresh_puts_statuses_and_adds_none(rt: HostRuntime) {
-    let alloc = rt.alloc();
-    let local = held(&rt, alloc);
-    let read = record(
-        &rt,
+fn read(rt: &impl Abort, alloc: Global) -> Compactions {
+    record(
+        rt,
         alloc,
         6,
-        &[(1, Submitted), (2, Running), (3, Scheduled), (5, Submitted)],
-    );
-    let core = first(&rt, alloc);
-    let after = local
-        .refreshed(alloc, &read, &core)
-        .expect(&rt, "refreshed");
-    let scheduled = local.scheduled(alloc, &read).expect(&rt, "memory");
-    for (tail, _, wanted) in &READ {
-        assert!(rt;
-            status(&after.compactions, *tail) == Some(*wanted),
-            "{tail}"
-        );
-        assert!(rt;
-            status(&scheduled.compactions, *tail) == Some(*wanted),
-            "{tail}"
-        );
-    }
-    assert!(rt; after.compactions.compactor_epoch == 6 && after.compactions.len() == 4);
-    assert!(rt; status(&after.compactions, 4).is_none());
-    assert!(rt; status(&scheduled.compactions, 4).is_none());
+        &[
+            (1, Submitted),
+            (2, Running),
+            (3, Scheduled),
+            (4, Submitted),
+            (5, Submitted),
+        ],
+    )
 }
 
-// The writer has two newer views, and the local tree took the two oldest: its marker is the view 2.
+/// The record that is held after a refresh.
+fn refreshed(rt: &impl Abort, alloc: Global) -> Compactions {
+    let local = held(rt, alloc);
+    let core = first(rt, alloc);
+    let after = local
+        .refreshed(alloc, &read(rt, alloc), &core)
+        .expect(rt, "refreshed");
+    after.compactions
+}
+
+/// The record that is held after a schedule.
+fn scheduled(rt: &impl Abort, alloc: Global, committed: &Compactions) -> Compactions {
+    let local = held(rt, alloc);
+    let after = local.scheduled(alloc, committed).expect(rt, "memory");
+    after.compactions
+}
+
+#[test]
+fn a_refresh_puts_statuses(rt: HostRuntime) {
+    let after = refreshed(&rt, rt.alloc());
+    for (tail, _, wanted) in &READ {
+        assert!(rt; status(&after, *tail) == *wanted, "{tail}");
+    }
+    assert!(rt; after.compactor_epoch == 6 && after.len() == 5);
+}
+
+#[test]
+fn a_schedule_puts_statuses(rt: HostRuntime) {
+    let committed = read(&rt, rt.alloc());
+    let after = scheduled(&rt, rt.alloc(), &committed);
+    for (tail, _, wanted) in &READ {
+        assert!(rt; status(&after, *tail) == *wanted, "{tail}");
+    }
+}
+
+#[test]
+fn no_compaction_is_added(rt: HostRuntime) {
+    let committed = record(&rt, rt.alloc(), 6, &[(3, Scheduled)]);
+    let after = scheduled(&rt, rt.alloc(), &committed);
+    assert!(rt; after.len() == 1 && status(&after, 1).is_none());
+}
+
+// ---- the trees
+
+/// What is held where the two oldest views were compacted into the run 6: the marker is the view 2.
+fn compacted(rt: &impl Abort, alloc: Global) -> LocalState {
+    let mut own = tree(rt, alloc, &[3], &[6, 5]);
+    own.last_compacted_l0_sst_view_id = Some(id(2));
+    let core = core(rt, alloc, own, None);
+    opened(rt, alloc, &core, record(rt, alloc, 4, &[]))
+}
+
+/// The root after a refresh by the manifest of a writer that has two newer views.
+fn root_merged(rt: &impl Abort, alloc: Global) -> (u64, u64) {
+    let writer = root(rt, alloc, &[5, 4, 3, 2, 1], &[5]);
+    let after = compacted(rt, alloc)
+        .refreshed(alloc, &record(rt, alloc, 4, &[]), &writer)
+        .expect(rt, "refreshed");
+    shown(after.trees.root())
+}
+
 #[test]
 fn a_refresh_merges_the_trees(rt: HostRuntime) {
-    let alloc = rt.alloc();
-    let mut own = tree(&rt, alloc, &[3], &[6, 5]);
-    own.last_compacted_l0_sst_view_id = Some(id(2));
-    let local = opened(
-        &rt,
-        alloc,
-        &core(&rt, alloc, own, None),
-        record(&rt, alloc, 4, &[]),
-    );
-    let writer = core(&rt, alloc, tree(&rt, alloc, &[5, 4, 3, 2, 1], &[5]), None);
-    let read = record(&rt, alloc, 4, &[]);
-    let after = local
-        .refreshed(alloc, &read, &writer)
-        .expect(&rt, "refreshed");
-    assert!(rt; shown(after.trees.root()) == (543, 65));
+    assert!(rt; root_merged(&rt, rt.alloc()) == (543, 65));
+}
+
+/// The number of the refusal, or 0.
+fn code(reply: &Result<LocalState, SlateDBError>) -> u8 {
+    match reply {
+        Ok(_) => 0,
+        Err(e) => e.code(),
+    }
+}
+
+/// What a refresh by a manifest without the segment answers.
+fn without_segment(rt: &impl Abort, alloc: Global) -> u8 {
+    let local = held(rt, alloc);
+    let writer = root(rt, alloc, &[3], &[]);
+    let read = record(rt, alloc, 4, &[]);
+    code(&local.refreshed(alloc, &read, &writer))
 }
 
 #[test]
 fn a_segment_without_a_writer_is_refused(rt: HostRuntime) {
-    let alloc = rt.alloc();
-    let local = held(&rt, alloc);
-    let writer = core(&rt, alloc, tree(&rt, alloc, &[3], &[]), None);
-    let read = record(&rt, alloc, 4, &[]);
-    match local.refreshed(alloc, &read, &writer) {
-        Err(SlateDBError::SegmentWithoutWriter(prefix)) => {
-            assert!(rt; prefix.as_slice() == b"p".as_slice());
-        }
-        _ => assert!(rt; false, "not refused"),
-    }
+    assert!(rt; without_segment(&rt, rt.alloc()) == 15);
+}
+
+// ---- the commits
+
+/// What is held after the commit of a manifest, where a compaction was pending.
+fn manifest_committed(rt: &impl Abort, alloc: Global) -> LocalState {
+    let mut local = held(rt, alloc);
+    local.pending.push(id(1)).expect(rt, "memory");
+    let committed = root(rt, alloc, &[6], &[8, 7]);
+    local
+        .manifest_committed(alloc, &committed)
+        .expect(rt, "memory")
 }
 
 #[test]
-fn commits_are_held(rt: HostRuntime) {
-    let alloc = rt.alloc();
-    let mut local = held(&rt, alloc);
-    local.pending.push(id(1)).expect(&rt, "memory");
-    let committed = core(&rt, alloc, tree(&rt, alloc, &[6], &[8, 7]), None);
-    let after = local
-        .manifest_committed(alloc, &committed)
-        .expect(&rt, "memory");
+fn a_committed_manifest_is_held(rt: HostRuntime) {
+    let after = manifest_committed(&rt, rt.alloc());
     assert!(rt; shown(after.trees.root()) == (6, 87));
     assert!(rt; has_segments(after.trees.segments(), 0) && after.pending.as_slice().is_empty());
     assert!(rt; after.compactions.len() == 4);
-    let last = after.record_committed(record(&rt, alloc, 9, &[(4, Completed)]));
-    assert!(rt; last.compactions.compactor_epoch == 9 && last.compactions.len() == 1);
-    assert!(rt; shown(last.trees.root()) == (6, 87));
 }
 
-// The tables of the trees are all of 300 ms, so that the watermark is: above the old floor, and below another.
+#[test]
+fn a_committed_record_is_held(rt: HostRuntime) {
+    let committed = record(&rt, rt.alloc(), 9, &[(4, Completed)]);
+    let after = held(&rt, rt.alloc()).record_committed(committed);
+    assert!(rt; after.compactions.compactor_epoch == 9 && after.compactions.len() == 1);
+    assert!(rt; shown(after.trees.root()) == (321, 5));
+}
+
+/// The manifest of the views 5 to 1 and of this floor.
+fn with_floor(rt: &impl Abort, alloc: Global, floor: u64) -> Manifest {
+    let mut manifest = Manifest::initial(alloc, root(rt, alloc, &[5, 4, 3, 2, 1], &[5]));
+    manifest.core.floor = floor;
+    manifest.writer_epoch = 7;
+    manifest
+}
+
+/// The root, the floor and the writer's epoch of that manifest once the trees are merged into it.
+fn merged_into(rt: &impl Abort, alloc: Global, floor: u64) -> ((u64, u64), u64, u64) {
+    let manifest = with_floor(rt, alloc, floor);
+    let made = compacted(rt, alloc)
+        .trees
+        .merged_manifest(alloc, &manifest)
+        .expect(rt, "merged");
+    (shown(&made.core.tree), made.core.floor, made.writer_epoch)
+}
+
+/// The tables of the trees are all of 300 ms, and so is the watermark: an old floor, and the new one.
+const FLOORS: [(u64, u64); 3] = [(0, 300), (299, 300), (301, 301)];
+
 #[test]
 fn a_manifest_gets_the_trees(rt: HostRuntime) {
-    let alloc = rt.alloc();
-    let mut own = tree(&rt, alloc, &[3], &[6, 5]);
-    own.last_compacted_l0_sst_view_id = Some(id(2));
-    let local = opened(
-        &rt,
-        alloc,
-        &core(&rt, alloc, own, None),
-        record(&rt, alloc, 4, &[]),
-    );
-    for (floor, wanted) in &[(0u64, 300u64), (299, 300), (301, 301)] {
-        let made = merged_over(&rt, alloc, &local, *floor);
-        assert!(rt; shown(&made.core.tree) == (543, 65), "{floor}");
-        assert!(rt;
-            made.core.floor == *wanted && made.writer_epoch == 7,
-            "{floor}"
-        );
+    for (floor, wanted) in &FLOORS {
+        let made = merged_into(&rt, rt.alloc(), *floor);
+        assert!(rt; made == ((543, 65), *wanted, 7), "{floor}");
     }
 }
 
-/// The manifest of the views 5 to 1 and of this floor, merged with what is held.
-fn merged_over(rt: &impl Abort, alloc: Global, local: &LocalState, floor: u64) -> Manifest {
-    let core = core(rt, alloc, tree(rt, alloc, &[5, 4, 3, 2, 1], &[5]), None);
-    let mut manifest = Manifest::initial(alloc, core);
-    manifest.core.floor = floor;
-    manifest.writer_epoch = 7;
-    local
-        .trees
-        .merged_manifest(alloc, &manifest)
-        .expect(rt, "merged")
+// ---- what is pending
+
+/// A record with three compactions that are over: of 2, 1 and 3 outputs.
+fn with_outputs(rt: &impl Abort, alloc: Global) -> Compactions {
+    let mut made = record(rt, alloc, 4, &[(1, Completed)]);
+    for (tail, outputs) in &[(2u8, 2u8), (3, 1), (4, 3)] {
+        let spec = spec(rt, alloc, "", &[], None);
+        let one = compaction(rt, alloc, *tail, Completed, spec, *outputs);
+        made.insert(one).expect(rt, "memory");
+    }
+    made
+}
+
+/// The tails of the outputs that are pending with these compactions, as digits.
+fn outputs(rt: &impl Abort, alloc: Global, pending: &[u8]) -> u64 {
+    let mut local = opened(rt, alloc, &first(rt, alloc), with_outputs(rt, alloc));
+    for tail in pending {
+        local.pending.push(id(*tail)).expect(rt, "memory");
+    }
+    let ids = local.pending_outputs(alloc).expect(rt, "memory");
+    let mut digits = 1u64;
+    for id in ids.as_slice() {
+        digits = digits
+            .wrapping_mul(10)
+            .wrapping_add((id.tail() % 10) as u64);
+    }
+    digits
 }
 
 #[test]
 fn outputs_of_what_is_pending_are_told(rt: HostRuntime) {
-    let alloc = rt.alloc();
-    let mut record = record(&rt, alloc, 4, &[(1, Completed)]);
-    for (tail, outputs) in &[(2u8, 2u8), (3, 1), (4, 3)] {
-        let spec = spec(&rt, alloc, "", &[], None);
-        record
-            .insert(compaction(&rt, alloc, *tail, Completed, spec, *outputs))
-            .expect(&rt, "memory");
-    }
-    let mut local = opened(&rt, alloc, &first(&rt, alloc), record);
-    assert!(rt;
-        local
-            .pending_outputs(alloc)
-            .expect(&rt, "memory")
-            .as_slice()
-            .is_empty()
-    );
-    for tail in &[4u8, 2, 9] {
-        local.pending.push(id(*tail)).expect(&rt, "memory");
-    }
-    let ids = local.pending_outputs(alloc).expect(&rt, "memory");
-    let wanted = [id(0), id(1), id(0), id(1), id(2)];
-    assert!(rt; ids.as_slice() == wanted.as_slice());
+    assert!(rt; outputs(&rt, rt.alloc(), &[]) == 1);
+    assert!(rt; outputs(&rt, rt.alloc(), &[3]) == 10);
+    assert!(rt; outputs(&rt, rt.alloc(), &[4, 2, 9]) == 101012);
 }
