@@ -57,7 +57,8 @@ fn the_first_of_two_holders_is_fenced(rt: HostRuntime) {
     assert!(rt; code(new.refresh(alloc, &mut store, 1)) == 0);
     let dirty = new.prepare_dirty(alloc).expect(&rt, "memory");
     assert!(rt; code(new.update(alloc, &mut store, dirty, &Right::Plain, 8)) == 0);
-    assert!(rt; new.compactions().0 == 4 && new.compactions().1.compactor_epoch == 2);
+    let (at, held) = new.compactions();
+    assert!(rt; at == 4 && held.compactor_epoch == 2);
 }
 
 #[test]
