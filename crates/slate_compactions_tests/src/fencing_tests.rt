@@ -42,6 +42,7 @@ fn each_holder_has_the_next_epoch(rt: HostRuntime) {
         assert!(rt; fenced(&rt, alloc, &mut store).local_epoch() == epoch);
     }
     assert!(rt; latest(&rt, alloc, &mut store) == 5);
+    drop(store);
 }
 
 #[test]
@@ -59,6 +60,9 @@ fn the_first_of_two_holders_is_fenced(rt: HostRuntime) {
     assert!(rt; code(new.update(alloc, &mut store, dirty, &Right::Plain, 8)) == 0);
     let (at, held) = new.compactions();
     assert!(rt; at == 4 && held.compactor_epoch == 2);
+    drop(new);
+    drop(old);
+    drop(store);
 }
 
 #[test]
@@ -71,6 +75,8 @@ fn a_fenced_holder_commits_nothing(rt: HostRuntime) {
     let same = |_n: u64, record: &Compactions| Ok(Some(Plain::clone(record, alloc)?));
     assert!(rt; code(old.maybe_apply_update(alloc, &mut store, same, &Right::Plain, 8, 2)) == 2);
     assert!(rt; latest(&rt, alloc, &mut store) == 3);
+    drop(old);
+    drop(store);
 }
 
 /// An epoch that is given to the record of epoch 3, and the epoch that is held then; or the own and the read one, and the refusal.
@@ -88,6 +94,7 @@ fn an_epoch_is_given(rt: HostRuntime) {
         );
     }
     assert!(rt; latest(&rt, alloc, &mut store) == 3);
+    drop(store);
 }
 
 #[test]
@@ -98,4 +105,5 @@ fn nothing_follows_the_last_epoch(rt: HostRuntime) {
         &rt, "memory",
     );
     assert!(rt; code(FenceableCompactions::init(alloc, stored, &mut store, 7, 1)) == 22);
+    drop(store);
 }

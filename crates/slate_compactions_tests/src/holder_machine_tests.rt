@@ -166,6 +166,9 @@ fn a_machine_begins_a_log_once(rt: HostRuntime) {
     let mut other = StoredCompactions::start_create(alloc, db(&rt), 4).expect(&rt, "memory");
     assert!(rt; create(&rt, alloc, &mut store, &mut other) == 101);
     assert!(rt; loaded(&rt, alloc, &mut store).compactions().compactor_epoch == 3);
+    drop(other);
+    drop(first);
+    drop(store);
 }
 
 #[test]
@@ -186,6 +189,10 @@ fn a_machine_loads_what_is_there(rt: HostRuntime) {
     assert!(rt; try_load(&rt, alloc, &mut store, &mut machine) == 0);
     assert!(rt; try_load(&rt, alloc, &mut store, &mut machine) == 0);
     assert!(rt; try_load(&rt, alloc, &mut store, &mut machine) == 2);
+    drop(machine);
+    drop(holder);
+    drop(early);
+    drop(store);
 }
 
 #[test]
@@ -200,6 +207,10 @@ fn a_machine_refreshes(rt: HostRuntime) {
     assert!(rt; refresh(&rt, alloc, &mut store, &mut stale, &mut machine) == 99);
     assert!(rt; refresh(&rt, alloc, &mut store, &mut stale, &mut machine) == 0);
     assert!(rt; stale.id() == 2);
+    drop(machine);
+    drop(other);
+    drop(stale);
+    drop(store);
 }
 
 #[test]
@@ -220,6 +231,10 @@ fn a_machine_updates(rt: HostRuntime) {
         .expect(&rt, "memory");
     assert!(rt; !refused.due());
     assert!(rt; ended(refused.next(alloc, &mut holder, &mut store, 5)) == 1);
+    drop(refused);
+    drop(first);
+    drop(holder);
+    drop(store);
 }
 
 #[test]
@@ -234,6 +249,9 @@ fn a_machine_commits_what_is_made(rt: HostRuntime) {
     assert!(rt; update(&rt, alloc, &mut store, &mut holder, &mut some) == 99);
     assert!(rt; update(&rt, alloc, &mut store, &mut holder, &mut some) == 0);
     assert!(rt; holder.id() == 2 && holder.compactions().compactor_epoch == 7);
+    drop(some);
+    drop(holder);
+    drop(store);
 }
 
 #[test]
@@ -248,6 +266,9 @@ fn a_machine_commits_nothing_where_none_is_made(rt: HostRuntime) {
     assert!(rt; !none.due());
     assert!(rt; ended(none.next(alloc, &mut holder, &mut store, 5)) == 0);
     assert!(rt; latest(&rt, alloc, &mut store) == 1);
+    drop(none);
+    drop(holder);
+    drop(store);
 }
 
 #[test]
@@ -268,6 +289,10 @@ fn machines_fence(rt: HostRuntime) {
     assert!(rt; refresh_fenced(&rt, alloc, &mut store, &mut old, &mut machine) == 99);
     assert!(rt; refresh_fenced(&rt, alloc, &mut store, &mut old, &mut machine) == 2);
     assert!(rt; old.compactions().0 == 3 && old.local_epoch() == 1);
+    drop(machine);
+    drop(given);
+    drop(old);
+    drop(store);
 }
 
 #[test]
@@ -280,6 +305,8 @@ fn a_machine_of_a_greater_epoch_is_not_due(rt: HostRuntime) {
     );
     assert!(rt; !machine.due());
     assert!(rt; latest(&rt, alloc, &mut store) == 1);
+    drop(machine);
+    drop(store);
 }
 
 #[test]
@@ -301,4 +328,8 @@ fn a_machine_updates_a_fenced_holder(rt: HostRuntime) {
         .expect(&rt, "memory");
     assert!(rt; !none.due());
     assert!(rt; ended(none.next(alloc, &mut holder, &mut store, 5)) == 0);
+    drop(none);
+    drop(machine);
+    drop(holder);
+    drop(store);
 }

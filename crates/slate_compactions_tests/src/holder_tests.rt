@@ -14,6 +14,8 @@ fn a_log_is_begun_once(rt: HostRuntime) {
     assert!(rt; first.id() == 1 && first.compactions().compactor_epoch == 3);
     assert!(rt; first.compactions().is_empty());
     assert!(rt; code(StoredCompactions::create(alloc, &mut store, db(&rt), 3, 5)) == 1);
+    drop(first);
+    drop(store);
 }
 
 /// The number that was taken, and the boundary that says so.
@@ -40,6 +42,9 @@ fn a_put_behind_the_boundary_stands(rt: HostRuntime) {
     assert!(rt; late(&reply) == Some((2, Some(2))));
     assert!(rt; holder.id() == 1);
     assert!(rt; code(log(&rt).read_compactions(alloc, &mut store, 2)) == 0);
+    drop(reply);
+    drop(holder);
+    drop(store);
 }
 
 #[test]
@@ -56,6 +61,9 @@ fn a_stale_holder_is_refused_until_it_refreshes(rt: HostRuntime) {
     assert!(rt; stale.id() == 2);
     again(&rt, alloc, &mut store, &mut stale);
     assert!(rt; stale.id() == 3 && latest(&rt, alloc, &mut store) == 3);
+    drop(other);
+    drop(stale);
+    drop(store);
 }
 
 #[test]
@@ -71,6 +79,9 @@ fn what_is_made_is_committed_after_a_conflict(rt: HostRuntime) {
     let none = |_n: u64, _record: &Compactions| Ok(None);
     assert!(rt; code(stale.maybe_apply_update(alloc, &mut store, none, &Right::Plain, 6, 1)) == 0);
     assert!(rt; latest(&rt, alloc, &mut store) == 3);
+    drop(other);
+    drop(stale);
+    drop(store);
 }
 
 #[test]
@@ -84,4 +95,7 @@ fn compactions_are_read_back(rt: HostRuntime) {
     let read = loaded(&rt, alloc, &mut store);
     assert!(rt; read.id() == 2 && read.compactions().is(holder.compactions()));
     assert!(rt; read.compactions().len() == 2 && read.compactions().compactor_epoch == 2);
+    drop(read);
+    drop(holder);
+    drop(store);
 }

@@ -111,6 +111,9 @@ fn a_machine_reads_in_three_steps(rt: HostRuntime) {
     assert!(rt; try_read(&rt, alloc, &mut store, &log, &mut machine) == 0);
     assert!(rt; try_read(&rt, alloc, &mut store, &log, &mut machine) == 0);
     assert!(rt; try_read(&rt, alloc, &mut store, &log, &mut machine) == 2);
+    drop(machine);
+    drop(log);
+    drop(store);
 }
 
 #[test]
@@ -122,6 +125,9 @@ fn a_machine_finds_no_record(rt: HostRuntime) {
     assert!(rt; read(&rt, alloc, &mut store, &log, &mut machine) == 103);
     let mut machine = log.start_try_read_latest_compactions();
     assert!(rt; try_read(&rt, alloc, &mut store, &log, &mut machine) == 1000);
+    drop(machine);
+    drop(log);
+    drop(store);
 }
 
 #[test]
@@ -149,6 +155,8 @@ fn a_machine_gets_a_number(rt: HostRuntime) {
     );
     assert!(rt; needs(&rt, alloc, &mut store, &log, log.start_read_compactions(1)) == 0);
     assert!(rt; needs(&rt, alloc, &mut store, &log, log.start_read_compactions(9)) == 3);
+    drop(log);
+    drop(store);
 }
 
 #[test]
@@ -167,6 +175,11 @@ fn a_machine_lists_and_deletes_by_one_call(rt: HostRuntime) {
     assert!(rt; delete.due());
     assert!(rt; ended(delete.next(alloc, &log, &mut store, 0)) == 0);
     assert!(rt; listed(&rt, alloc, &mut store, all()) == 23);
+    drop(delete);
+    drop(found);
+    drop(list);
+    drop(log);
+    drop(store);
 }
 
 /// A step of an advance: the number of the refusal at the end, or 0; 99 where it isn't the end.
@@ -208,6 +221,10 @@ fn machines_advance_and_delete(rt: HostRuntime) {
     assert!(rt; delete(&rt, alloc, &mut store, &log, &mut gone) == 0);
     assert!(rt; latest(&rt, alloc, &mut store) == 2);
     assert!(rt; listed(&rt, alloc, &mut store, all()) == 2);
+    drop(gone);
+    drop(up);
+    drop(log);
+    drop(store);
 }
 
 #[test]
@@ -219,4 +236,7 @@ fn a_machine_keeps_the_latest(rt: HostRuntime) {
     assert!(rt; delete(&rt, alloc, &mut store, &log, &mut kept) == 99);
     assert!(rt; delete(&rt, alloc, &mut store, &log, &mut kept) == 99);
     assert!(rt; delete(&rt, alloc, &mut store, &log, &mut kept) == 9);
+    drop(kept);
+    drop(log);
+    drop(store);
 }

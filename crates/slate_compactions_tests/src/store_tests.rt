@@ -31,6 +31,7 @@ fn records_are_listed_by_number(rt: HostRuntime) {
             "{start:?} {end:?}"
         );
     }
+    drop(store);
 }
 
 /// Of the records 1, 2 and 3 with the boundary 1: the deletes in this order, and the number that each refusal names.
@@ -53,6 +54,7 @@ fn the_latest_and_those_above_the_boundary_stay(rt: HostRuntime) {
         assert!(rt; kept(reply) == *refused, "at {n}");
     }
     assert!(rt; listed(&rt, alloc, &mut store, all()) == 23);
+    drop(store);
 }
 
 #[test]
@@ -73,6 +75,8 @@ fn a_log_without_a_record(rt: HostRuntime) {
             .is_none()
     );
     assert!(rt; code(StoredCompactions::load(alloc, &mut store, db(&rt), 1)) == 3);
+    drop(log);
+    drop(store);
 }
 
 #[test]
@@ -96,6 +100,8 @@ fn a_number_that_is_not_there(rt: HostRuntime) {
         .expect(&rt, "memory");
     assert!(rt; listed(&rt, alloc, &mut store, all()) == 2);
     assert!(rt; latest(&rt, alloc, &mut store) == 2);
+    drop(log);
+    drop(store);
 }
 
 /// What a read says of bytes: the number of its refusal and the version that it names.
@@ -160,4 +166,6 @@ fn a_new_record_has_14_bytes(rt: HostRuntime) {
         object.bytes.as_slice()
             == b"\x00\x02\x00\x00\x00\x00\x00\x00\x00\x00\x00\x00\x00\x00".as_slice()
     );
+    drop(object);
+    drop(store);
 }

@@ -41,9 +41,13 @@ trees_merged core trees = with_segments (merged core.tree trees.tree) (from_writ
 abbrev pub floor_raised : ℕ → Manifest → Manifest
 floor_raised floor m = record m { core = record m.core { floor = raised_floor floor m.core } }
 
+-- a manifest with these trees
+abbrev pub manifest_with : Trees → Manifest → Manifest
+manifest_with trees m = record m { core = record m.core { tree = trees.tree; segments = trees.segments } }
+
 -- a manifest with merged trees: its entries list only the tables that are used then, and its floor is the greater of its own and the new watermark
 abbrev pub with_merged : Manifest → Result Trees SlateDBError → Result Manifest SlateDBError
-with_merged m (Ok trees) = Ok (floor_raised m.core.floor (pruned (record m { core = record m.core { tree = trees.tree; segments = trees.segments } })))
+with_merged m (Ok trees) = Ok (floor_raised m.core.floor (pruned (manifest_with trees m)))
 with_merged m (Err e) = Err e
 
 -- what a compactor makes of a manifest: its trees are merged with those of the manifest; all else stays

@@ -1,5 +1,5 @@
 //! What a compactor holds between its calls.
-ghost use Rattle.std.specs.Prelude.{◌≡◌, ◌⊎◌, ◌++◌, IfOk, IfErr, OnOk, Ok, Err, true, option_copied};
+ghost use Rattle.std.specs.Prelude.{◌≡◌, ◌⊎◌, ◌++◌, IfOk, IfErr, OnOk, OnErr, Ok, Err, true, option_copied};
 ghost use Rattle.slate_compactor.specs.Local as held;
 ghost use Rattle.slate_compactor.specs.Local.{opened, refreshed, scheduled, finished, failed, manifest_committed, pending_outputs, record_committed};
 ghost use Rattle.slate_ids.specs.Answers.{Gives, is_memory};
@@ -15,7 +15,7 @@ use slate_model::{
 use slate_record_updates::put_local_statuses;
 use std::alloc::Global;
 
-/// What a compactor holds between its calls. No call changes it in place: each makes another, which is held once the call's commits stood.
+/// What a compactor holds between its calls. A refresh and the end of a compaction make another; what a commit put is taken in place.
 #[derive(Debug, Drop)]
 pub struct LocalState {
     /// Its trees.
@@ -136,47 +136,36 @@ impl LocalState {
         })
     }
 
-    /// After a schedule: the record committed, with the local statuses of compactions that are over. All else stays.
-    pub fn scheduled(
-        self,
+    /// After a schedule: the record committed, with the local statuses of compactions that are over. All else stays. Running out of
+    /// memory leaves all as it was.
+    pub fn take_scheduled(
+        &mut self,
         alloc: Global,
         committed: &Compactions,
-    ) -> Result<LocalState, OutOfMemory>
-        ensures { IfOk result (λ local. local ≡ scheduled committed.now self) }
+    ) -> Result<(), OutOfMemory>
+        ensures ok { OnOk result (self.new ≡ scheduled committed.now self.old) }
+        ensures err { OnErr result (self.new ≡ self.old) }
     {
-        let compactions = put_local_statuses(alloc, &self.compactions, committed)?;
-        Ok(LocalState {
-            trees: self.trees,
-            compactions,
-            pending: self.pending,
-        })
+        self.compactions = put_local_statuses(alloc, &self.compactions, committed)?;
+        Ok(())
     }
 
-    /// After the commit of the manifest with its trees: the trees committed, and nothing is pending. The record stays.
-    pub fn manifest_committed(
-        self,
-        alloc: Global,
-        core: &ManifestCore,
-    ) -> Result<LocalState, OutOfMemory>
-        ensures { IfOk result (λ local. local ≡ manifest_committed core.now self) }
+    /// After the commit of the manifest with its trees: the trees committed, and nothing is pending. The record stays. Running out of
+    /// memory leaves all as it was.
+    pub fn take_manifest(&mut self, alloc: Global, core: &ManifestCore) -> Result<(), OutOfMemory>
+        ensures ok { OnOk result (self.new ≡ manifest_committed core.now self.old) }
+        ensures err { OnErr result (self.new ≡ self.old) }
     {
-        let trees = LocalTrees::of(alloc, core)?;
-        Ok(LocalState {
-            trees,
-            compactions: self.compactions,
-            pending: Listed::new(alloc),
-        })
+        self.trees = LocalTrees::of(alloc, core)?;
+        self.pending = Listed::new(alloc);
+        Ok(())
     }
 
     /// After the commit of the record with its statuses: the record committed. All else stays. Takes no memory.
-    pub fn record_committed(self, committed: Compactions) -> LocalState
-        ensures { result ≡ record_committed committed self }
+    pub fn take_record(&mut self, committed: Compactions)
+        ensures { self.new ≡ record_committed committed self.old }
     {
-        LocalState {
-            trees: self.trees,
-            compactions: committed,
-            pending: self.pending,
-        }
+        self.compactions = committed;
     }
 
     // The end of a compaction that is compacted.

@@ -1,7 +1,7 @@
 //! The trees that a compactor holds.
 ghost use Rattle.std.specs.Prelude.{◌≡◌, ◌⊎◌, IfOk, IfErr, is_some, true, option_copied, Ok, Err};
 ghost use Rattle.slate_compactor.specs.Trees as trees_spec;
-ghost use Rattle.slate_compactor.specs.Trees.{manifest_merged, trees_merged, tree_of, trees_of};
+ghost use Rattle.slate_compactor.specs.Trees.{manifest_merged, manifest_with, trees_merged, tree_of, trees_of};
 ghost use Rattle.slate_ids.specs.Answers.{is_memory};
 
 use bytes::Bytes;
@@ -56,6 +56,17 @@ impl LocalTrees {
         ensures { option_copied result ≡ tree_of prefix.now self.now }
     {
         self.core.tree_for_segment(prefix)
+    }
+
+    /// A manifest equal to this one, but with these trees.
+    pub fn put_in(&self, alloc: Global, manifest: &Manifest) -> Result<Manifest, OutOfMemory>
+        ensures { IfOk result (λ made. made ≡ manifest_with self.now manifest.now) }
+    {
+        let mut made = Plain::clone(manifest, alloc)?;
+        made.core.tree = Plain::clone(&self.core.tree, alloc)?;
+        made.core
+            .set_segments(copies(alloc, self.core.segments().iter())?);
+        Ok(made)
     }
 
     /// Equal trees, with another one at a prefix that has one.

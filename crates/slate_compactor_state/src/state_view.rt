@@ -1,13 +1,16 @@
 //! The record and the manifest of a database, as they were read together.
-ghost use Rattle.std.specs.Prelude.{◌≡◌, option_copied};
+ghost use Rattle.std.specs.Prelude.{◌≡◌, option_copied, IfOk};
 ghost use Rattle.slate_compactor_state.specs.Views as views;
 
 use slate_both_reads::Both;
-use slate_ids::SlateDBError;
-use slate_model::{Compactions, Manifest, VersionedCompactions, VersionedManifest};
+use slate_compactor_writer::CompactorStateWriter;
+use slate_ids::{OutOfMemory, SlateDBError};
+use slate_model::{Compactions, Manifest, Plain, VersionedCompactions, VersionedManifest};
+use std::alloc::Global;
 use std::marker::Model;
 
-/// The latest version of a database's record of compactions, where there is one, and that of its manifest, which was read after it.
+/// The latest version of a database's record of compactions, where there is one, and that of its manifest, which was read after it; or what
+/// a compactor has of both.
 #[derive(Debug, Drop)]
 pub struct CompactorStateView {
     compactions: Option<VersionedCompactions>,
@@ -23,6 +26,24 @@ impl Model for CompactorStateView {
 }
 
 impl CompactorStateView {
+    /// What a compactor has of its state: its local record, under the number of the record that it holds, and the manifest that it holds
+    /// with its local trees, under that one's number.
+    pub fn from_state(
+        alloc: Global,
+        writer: &CompactorStateWriter,
+    ) -> Result<CompactorStateView, OutOfMemory>
+        ensures { IfOk result (λ view. view ≡ views.of_state writer.now) }
+    {
+        let local = writer.local();
+        let compactions = Plain::clone(&local.compactions, alloc)?;
+        let (manifest_id, held) = writer.manifest();
+        let manifest = local.trees.put_in(alloc, held)?;
+        Ok(CompactorStateView {
+            compactions: Some(VersionedCompactions::new(writer.compactions().0, compactions)),
+            manifest: VersionedManifest::new(manifest_id, manifest),
+        })
+    }
+
     /// The version of the record, where there is one.
     pub fn compactions(&self) -> Option<&VersionedCompactions>
         ensures { option_copied result ≡ self.now.compactions }

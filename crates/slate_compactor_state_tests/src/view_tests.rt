@@ -5,8 +5,8 @@ use slate_compactor_state::{CompactorStateReader, CompactorStateView, ReadViewMa
 use slate_ids::{DbPath, SlateDBError};
 use slate_log::Right;
 use slate_manifest_store::ManifestStore;
+use slate_manifests::StoredManifest;
 use slate_model::ManifestCore;
-use slate_state::StoredManifest;
 use slate_store::{MemoryStore, Step};
 use std::alloc::Global;
 use std::process::Abort;
@@ -87,6 +87,7 @@ fn a_view_has_the_record_and_the_manifest(rt: HostRuntime) {
     first_record(&rt, alloc, &mut store);
     more_record(&rt, alloc, &mut store);
     assert!(rt; read(&rt, alloc, &mut store, 1) == (2, 1));
+    drop(store);
 }
 
 /// A step of a read: 0 where it goes on.
@@ -120,6 +121,8 @@ fn the_record_is_read_first(rt: HostRuntime) {
     assert!(rt; step(&rt, alloc, &mut store, &mut machine) == (0, 0));
     assert!(rt; step(&rt, alloc, &mut store, &mut machine) == (1, 2));
     assert!(rt; !machine.due());
+    drop(machine);
+    drop(store);
 }
 
 // The manifest's boundary is at its only version, so that each try starts again.
@@ -133,4 +136,5 @@ fn tries_are_used_up(rt: HostRuntime) {
         .expect(&rt, "memory");
     assert!(rt; read(&rt, alloc, &mut store, 1) == (100, 21));
     assert!(rt; read(&rt, alloc, &mut store, 3) == (100, 21));
+    drop(store);
 }

@@ -164,6 +164,7 @@ fn a_finished_compaction_is_completed_and_pending(rt: HostRuntime) {
     assert!(rt; after.pending.as_slice() == [id(1)].as_slice());
     assert!(rt; after.compactions.compactor_epoch == 4);
     assert!(rt; shown(tree_at(&rt, &after, "p")) == (321, 52));
+    drop(after);
 }
 
 /// The number of the run that was written, and how many views it has.
@@ -177,24 +178,28 @@ fn written(rt: &impl Abort, local: &LocalState) -> (u32, usize) {
 fn a_run_has_the_outputs(rt: HostRuntime) {
     let after = after_end(&rt, rt.alloc());
     assert!(rt; written(&rt, &after) == (0, 2));
+    drop(after);
 }
 
 #[test]
 fn a_compaction_ends_once(rt: HostRuntime) {
     let after = after_end(&rt, rt.alloc());
     assert!(rt; told(&rt, &after.finished(rt.alloc(), id(1)), "") == Answer::State);
+    drop(after);
 }
 
 #[test]
 fn a_compaction_that_is_not_there_does_not_end(rt: HostRuntime) {
     let after = after_end(&rt, rt.alloc());
     assert!(rt; told(&rt, &after.finished(rt.alloc(), id(2)), "") == Answer::NoSuch);
+    drop(after);
 }
 
 #[test]
 fn a_compaction_that_is_not_there_does_not_fail(rt: HostRuntime) {
     let after = after_end(&rt, rt.alloc());
     assert!(rt; told(&rt, &after.failed(rt.alloc(), id(2)), "") == Answer::NoSuch);
+    drop(after);
 }
 
 /// What is held once the compaction failed.
@@ -209,4 +214,5 @@ fn a_failed_compaction_leaves_the_trees(rt: HostRuntime) {
     assert!(rt; status(&after.compactions, 1) == Some(CompactionStatus::Failed));
     assert!(rt; after.pending.as_slice().is_empty());
     assert!(rt; shown(tree_at(&rt, &after, "")) == (321, 52));
+    drop(after);
 }

@@ -40,6 +40,7 @@ fn an_open_holds_what_it_committed(rt: HostRuntime) {
     assert!(rt; has_segments(local.trees.segments(), 1));
     assert!(rt; shown(tree_at(&rt, &local, "p")) == (321, 5));
     assert!(rt; local.trees.tree_at(b"q").is_none() && local.pending.as_slice().is_empty());
+    drop(local);
 }
 
 // ---- the record
@@ -80,9 +81,9 @@ fn refreshed(rt: &impl Abort, alloc: Global) -> Compactions {
 
 /// The record that is held after a schedule.
 fn scheduled(rt: &impl Abort, alloc: Global, committed: &Compactions) -> Compactions {
-    let local = held(rt, alloc);
-    let after = local.scheduled(alloc, committed).expect(rt, "memory");
-    after.compactions
+    let mut local = held(rt, alloc);
+    local.take_scheduled(alloc, committed).expect(rt, "memory");
+    local.compactions
 }
 
 #[test]
@@ -92,6 +93,7 @@ fn a_refresh_puts_statuses(rt: HostRuntime) {
         assert!(rt; status(&after, *tail) == *wanted, "{tail}");
     }
     assert!(rt; after.compactor_epoch == 6 && after.len() == 5);
+    drop(after);
 }
 
 #[test]
@@ -101,6 +103,8 @@ fn a_schedule_puts_statuses(rt: HostRuntime) {
     for (tail, _, wanted) in &READ {
         assert!(rt; status(&after, *tail) == *wanted, "{tail}");
     }
+    drop(after);
+    drop(committed);
 }
 
 #[test]
@@ -108,6 +112,8 @@ fn no_compaction_is_added(rt: HostRuntime) {
     let committed = record(&rt, rt.alloc(), 6, &[(3, Scheduled)]);
     let after = scheduled(&rt, rt.alloc(), &committed);
     assert!(rt; after.len() == 1 && status(&after, 1).is_none());
+    drop(after);
+    drop(committed);
 }
 
 // ---- the trees
@@ -162,9 +168,8 @@ fn manifest_committed(rt: &impl Abort, alloc: Global) -> LocalState {
     let mut local = held(rt, alloc);
     local.pending.push(id(1)).expect(rt, "memory");
     let committed = root(rt, alloc, &[6], &[8, 7]);
+    local.take_manifest(alloc, &committed).expect(rt, "memory");
     local
-        .manifest_committed(alloc, &committed)
-        .expect(rt, "memory")
 }
 
 #[test]
@@ -173,14 +178,17 @@ fn a_committed_manifest_is_held(rt: HostRuntime) {
     assert!(rt; shown(after.trees.root()) == (6, 87));
     assert!(rt; has_segments(after.trees.segments(), 0) && after.pending.as_slice().is_empty());
     assert!(rt; after.compactions.len() == 4);
+    drop(after);
 }
 
 #[test]
 fn a_committed_record_is_held(rt: HostRuntime) {
     let committed = record(&rt, rt.alloc(), 9, &[(4, Completed)]);
-    let after = held(&rt, rt.alloc()).record_committed(committed);
+    let mut after = held(&rt, rt.alloc());
+    after.take_record(committed);
     assert!(rt; after.compactions.compactor_epoch == 9 && after.compactions.len() == 1);
     assert!(rt; shown(after.trees.root()) == (321, 5));
+    drop(after);
 }
 
 /// The manifest of the views 5 to 1 and of this floor.

@@ -47,6 +47,7 @@ fn manifests_are_put_as_their_bytes(rt: HostRuntime) {
     assert!(rt; cluster.trail().len() == 13);
     assert!(rt; is_version(&rt, &cluster, 2, RAISED.as_slice(), 1000));
     assert!(rt; is_version(&rt, &cluster, 3, FLUSHED.as_slice(), 2000));
+    drop(cluster);
 }
 
 const COMES: &str =
@@ -65,6 +66,9 @@ fn a_cluster_goes_on_after_a_bad_event(rt: HostRuntime) {
     assert!(rt; cluster.trail().len() == 1);
     does(&rt, rt.alloc(), &mut cluster, opens.events.as_slice());
     assert!(rt; cluster.trail().len() == 3);
+    drop(cluster);
+    drop(opens);
+    drop(comes);
 }
 
 const COLLECTOR: &str =

@@ -71,6 +71,9 @@ fn flushed_tables_stand_in_front_of_their_trees(rt: HostRuntime) {
     assert!(rt; second.core.segments().len() == 2);
     assert!(rt; second.core.replay_after_wal_id == 3 && second.core.next_wal_sst_id == 8);
     assert!(rt; second.core.last_l0_seq == 20 && second.core.last_l0_clock_tick == -7);
+    drop(second);
+    drop(first);
+    drop(cluster);
 }
 
 // The object of a table is its info, and its handle has the format version 1 and that info.
@@ -86,6 +89,13 @@ fn a_flushed_table_has_the_info_of_its_upload(rt: HostRuntime) {
     assert!(rt; view.sst.format_version == 1 && view.sst.info.is(&info));
     assert!(rt; info.first_entry.as_ref().expect(&rt, "a key").as_slice() == b"b".as_slice());
     assert!(rt; info.last_entry.as_ref().expect(&rt, "a key").as_slice() == b"k".as_slice());
+    drop(view);
+    drop(views);
+    drop(manifest);
+    drop(info);
+    drop(object);
+    drop(path);
+    drop(cluster);
 }
 
 // A flush of a table that wasn't uploaded, before the open and after it.
@@ -117,4 +127,6 @@ fn a_party_without_an_open_is_refused_before_its_tables_are_looked_up(rt: HostRu
     assert!(rt; cause_at(&cluster, 1) == Some(StateCause::NotOpen));
     let missing = StateCause::NotUploaded(Ulid::from_parts(100, 1));
     assert!(rt; cause_at(&cluster, 10) == Some(missing));
+    drop(missing);
+    drop(cluster);
 }

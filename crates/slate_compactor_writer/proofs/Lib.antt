@@ -1,0 +1,11 @@
+mod CommitEnds
+mod ReadEnds
+mod Ranks
+mod Measures
+mod Retries
+mod Owns
+mod Sound
+mod PutFaults
+mod OpenFaults
+mod StateFaults
+mod StateLaws

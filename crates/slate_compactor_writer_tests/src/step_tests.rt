@@ -1,0 +1,209 @@
+//! What stands where one store call fails or loses its answer, and the machines step by step.
+
+use crate::test_lives::{
+    checkpoint, code, db, finished, id, latest, opened, submitted, with_manifest, with_marks,
+};
+use slate_compactor_writer::{CompactorStateMachine, CompactorStateWriter, OpenStateMachine};
+use slate_store::{Mark, MemoryStore, Step};
+use std::alloc::Global;
+use std::process::Abort;
+
+/// Of the store call of this place in a write of the whole state, that has no effect and that loses its answer: the greatest numbers of
+/// the manifest and of the record that stand.
+const STANDS: [((u64, u64), (u64, u64)); 12] = [
+    ((2, 7), (2, 7)),
+    ((2, 7), (2, 7)),
+    ((2, 7), (2, 7)),
+    ((2, 7), (3, 7)),
+    ((3, 7), (3, 7)),
+    ((3, 7), (4, 7)),
+    ((4, 7), (4, 7)),
+    ((4, 7), (4, 7)),
+    ((4, 7), (4, 7)),
+    ((4, 7), (4, 7)),
+    ((4, 7), (4, 8)),
+    ((4, 8), (4, 8)),
+];
+
+/// And what the compactor has then: the number of the manifest that it holds, and how many compactions are pending.
+const HELD: [(u64, usize); 12] = [
+    (2, 1),
+    (2, 1),
+    (2, 1),
+    (2, 1),
+    (2, 1),
+    (3, 1),
+    (3, 1),
+    (4, 0),
+    (4, 0),
+    (4, 0),
+    (4, 0),
+    (4, 0),
+];
+
+/// The calls before the write of a state: of the first manifest, the open, the submission, the schedule, the claim, the report and the
+/// refresh.
+const BEFORE: usize = 2 + 12 + 5 + 5 + 5 + 5 + 6;
+
+/// What the write of a state answers and leaves, where the call of this place goes under the mark.
+fn marked(
+    rt: &impl Abort,
+    alloc: Global,
+    place: usize,
+    mark: Mark,
+) -> (u8, (u64, u64), (u64, usize)) {
+    let mut store = with_marks(rt, alloc, BEFORE + place, mark);
+    let mut writer = finished(rt, alloc, &mut store);
+    let reply = writer.write_state_safely(alloc, &mut store, checkpoint(), 61_500, 2);
+    let held = (writer.manifest().0, writer.local().pending.as_slice().len());
+    assert!(rt; writer.compactions().0 == 7);
+    (code(reply), latest(rt, alloc, &mut store), held)
+}
+
+#[test]
+fn a_call_without_effect_leaves_what_stood(rt: HostRuntime) {
+    for (place, ((stands, _), held)) in STANDS.iter().zip(HELD.iter()).enumerate() {
+        let left = marked(&rt, rt.alloc(), place, Mark::Fail);
+        assert!(rt; left == (20, *stands, *held), "{place}");
+    }
+}
+
+#[test]
+fn a_lost_answer_leaves_its_put(rt: HostRuntime) {
+    for (place, ((_, stands), held)) in STANDS.iter().zip(HELD.iter()).enumerate() {
+        let left = marked(&rt, rt.alloc(), place, Mark::Lost);
+        assert!(rt; left == (20, *stands, *held), "{place}");
+    }
+}
+
+/// Whether an open that loses the answer of its call of this place ends in a fault, and another one opens with this epoch.
+fn opens_after(rt: &impl Abort, alloc: Global, place: usize) -> u64 {
+    let mut store = with_marks(rt, alloc, 2 + place, Mark::Lost);
+    assert!(rt; code(CompactorStateWriter::new(alloc, &mut store, db(rt), 1000, 1)) == 20);
+    opened(rt, alloc, &mut store).local_epoch()
+}
+
+// The fourth of its calls puts the epoch.
+#[test]
+fn an_open_goes_on_after_a_lost_answer(rt: HostRuntime) {
+    for place in 0..12usize {
+        let epoch = if place < 3 { 1 } else { 2 };
+        assert!(rt; opens_after(&rt, rt.alloc(), place) == epoch, "{place}");
+    }
+}
+
+// ---- machines
+
+/// A step: 99 where it goes on, and else the number of its refusal, or 0.
+fn told<T: Drop>(step: Step<T>) -> u8 {
+    match step {
+        Step::Again => 99,
+        Step::Done(reply) => code(reply),
+    }
+}
+
+/// A step of a call on the state.
+fn step(
+    rt: &impl Abort,
+    alloc: Global,
+    store: &mut MemoryStore,
+    writer: &mut CompactorStateWriter,
+    machine: &mut CompactorStateMachine,
+) -> u8 {
+    assert!(rt; machine.due());
+    told(machine.next(alloc, writer, store, 61_500))
+}
+
+/// A step of an open.
+fn open_step(
+    rt: &impl Abort,
+    alloc: Global,
+    store: &mut MemoryStore,
+    machine: &mut OpenStateMachine,
+) -> u8 {
+    assert!(rt; machine.due());
+    told(machine.next(alloc, store, 1000))
+}
+
+#[test]
+fn an_open_takes_twelve_steps(rt: HostRuntime) {
+    let alloc = rt.alloc();
+    let mut store = with_manifest(&rt, alloc);
+    let mut machine = CompactorStateWriter::start_new(db(&rt));
+    for _ in 0..11u8 {
+        assert!(rt; open_step(&rt, alloc, &mut store, &mut machine) == 99);
+    }
+    assert!(rt; open_step(&rt, alloc, &mut store, &mut machine) == 0);
+    assert!(rt; !machine.due() && latest(&rt, alloc, &mut store) == (2, 3));
+    drop(machine);
+    drop(store);
+}
+
+#[test]
+fn a_write_of_a_state_takes_twelve_steps(rt: HostRuntime) {
+    let alloc = rt.alloc();
+    let mut store = with_manifest(&rt, alloc);
+    let mut writer = finished(&rt, alloc, &mut store);
+    let mut machine = writer.start_write_state_safely(checkpoint());
+    for _ in 0..11u8 {
+        assert!(rt; step(&rt, alloc, &mut store, &mut writer, &mut machine) == 99);
+    }
+    assert!(rt; step(&rt, alloc, &mut store, &mut writer, &mut machine) == 0);
+    assert!(rt; !machine.due() && latest(&rt, alloc, &mut store) == (4, 8));
+    drop(machine);
+    drop(writer);
+    drop(store);
+}
+
+// The rival opens after the manifest was read.
+#[test]
+fn a_machine_ends_at_a_conflict(rt: HostRuntime) {
+    let alloc = rt.alloc();
+    let mut store = with_manifest(&rt, alloc);
+    let mut writer = finished(&rt, alloc, &mut store);
+    let mut machine = writer.start_write_manifest_safely(checkpoint());
+    for _ in 0..3u8 {
+        assert!(rt; step(&rt, alloc, &mut store, &mut writer, &mut machine) == 99);
+    }
+    let _ = opened(&rt, alloc, &mut store);
+    assert!(rt; step(&rt, alloc, &mut store, &mut writer, &mut machine) == 1);
+    assert!(rt; !machine.due() && writer.local().pending.as_slice().len() == 1);
+    let mut again = writer.start_write_manifest_safely(checkpoint());
+    for _ in 0..2u8 {
+        assert!(rt; step(&rt, alloc, &mut store, &mut writer, &mut again) == 99);
+    }
+    assert!(rt; step(&rt, alloc, &mut store, &mut writer, &mut again) == 2);
+    drop(again);
+    drop(machine);
+    drop(writer);
+    drop(store);
+}
+
+#[test]
+fn the_other_machines_end_well(rt: HostRuntime) {
+    let alloc = rt.alloc();
+    let mut store = with_manifest(&rt, alloc);
+    let mut writer = opened(&rt, alloc, &mut store);
+    assert!(rt; submitted(&rt, alloc, &mut store) == 0);
+    let mut schedule = writer.start_schedule(id(20));
+    for _ in 0..4u8 {
+        assert!(rt; step(&rt, alloc, &mut store, &mut writer, &mut schedule) == 99);
+    }
+    assert!(rt; step(&rt, alloc, &mut store, &mut writer, &mut schedule) == 0);
+    let mut refresh = writer.start_refresh();
+    for _ in 0..5u8 {
+        assert!(rt; step(&rt, alloc, &mut store, &mut writer, &mut refresh) == 99);
+    }
+    assert!(rt; step(&rt, alloc, &mut store, &mut writer, &mut refresh) == 0);
+    let mut record = writer.start_write_compactions_safely();
+    for _ in 0..4u8 {
+        assert!(rt; step(&rt, alloc, &mut store, &mut writer, &mut record) == 99);
+    }
+    assert!(rt; step(&rt, alloc, &mut store, &mut writer, &mut record) == 0);
+    assert!(rt; latest(&rt, alloc, &mut store) == (2, 6));
+    drop(record);
+    drop(refresh);
+    drop(schedule);
+    drop(writer);
+    drop(store);
+}

@@ -1,0 +1,22 @@
+-- Why a call on manifests may find its number taken.
+use Rattle.std.specs.Prelude.{◌≡◌, ◌≢◌, ◌<◌, ◌+◌, ℕ, List, Option, Some, None}
+use Rattle.slate_ids.specs.declared.error.SlateDBError.{SlateDBError}
+use Rattle.slate_ids.specs.declared.error.SlateDBError.TheVariants.{TransactionalObjectVersionExists}
+use Rattle.slate_store.specs.Store.{Store}
+use Rattle.slate_log.specs.declared.log_kind.LogKind.TheVariants as logs
+use Rattle.slate_model.specs.declared.manifest.Manifest.{Manifest}
+use Rattle.slate_txn.specs.declared.stored.DirtyObject.{DirtyObject}
+use Rattle.slate_complete.specs.Ready.{top_of}
+use Rattle.slate_manifests.specs.Holding.{ManifestHolder}
+
+-- of a creation: the log of manifests has a version, and the refusal is that the number 1 is taken
+pub record IsFirstTaken (db : List ℕ) (s : Store) (e : SlateDBError) : Type 0 where
+  pub top : ℕ
+  pub boundary : Option ℕ
+  pub at : top_of db logs.Manifest s ≡ Some top
+  pub is : e ≡ TransactionalObjectVersionExists 1 boundary
+
+-- of an update: the dirty value was made of another number than the version held, or that is not the latest
+pub data IsNextTaken (s : Store) (holder : ManifestHolder) (dirty : DirtyObject Manifest) (e : SlateDBError) : Type 0 where
+  IsOther : dirty.id ≢ holder.id → e ≡ TransactionalObjectVersionExists dirty.id None → IsNextTaken s holder dirty e
+  IsBehind : (top : ℕ) (boundary : Option ℕ) → top_of holder.sequenced.db holder.sequenced.log s ≡ Some top → holder.id < top → e ≡ TransactionalObjectVersionExists (holder.id + 1) boundary → IsNextTaken s holder dirty e
