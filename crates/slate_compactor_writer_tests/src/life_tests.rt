@@ -19,9 +19,10 @@ fn an_open_raises_gives_and_resets(rt: HostRuntime) {
     let mut store = with_manifest(&rt, alloc);
     let writer = opened(&rt, alloc, &mut store);
     assert!(rt; writer.local_epoch() == 1 && latest(&rt, alloc, &mut store) == (2, 3));
-    assert!(rt; writer.manifest().0 == 2 && writer.compactions().0 == 3);
-    assert!(rt; writer.manifest().1.compactor_epoch == 1);
-    assert!(rt; writer.compactions().1.compactor_epoch == 1);
+    let (manifest_id, manifest) = writer.manifest();
+    assert!(rt; manifest_id == 2 && manifest.compactor_epoch == 1);
+    let (record_id, record) = writer.compactions();
+    assert!(rt; record_id == 3 && record.compactor_epoch == 1);
     assert!(rt; writer.local().pending.as_slice().is_empty());
     let again = opened(&rt, alloc, &mut store);
     assert!(rt; again.local_epoch() == 2 && latest(&rt, alloc, &mut store) == (3, 5));

@@ -127,6 +127,5 @@ fn a_party_without_an_open_is_refused_before_its_tables_are_looked_up(rt: HostRu
     assert!(rt; cause_at(&cluster, 1) == Some(StateCause::NotOpen));
     let missing = StateCause::NotUploaded(Ulid::from_parts(100, 1));
     assert!(rt; cause_at(&cluster, 10) == Some(missing));
-    drop(missing);
     drop(cluster);
 }
