@@ -106,7 +106,7 @@ fn written(
     rt: &impl Abort,
     alloc: Global,
     store: &mut MemoryStore,
-) -> (usize, Option<(u64, i64, Option<i64>)>) {
+) -> ((usize, usize), Option<(u64, i64, Option<i64>)>) {
     let holder = StoredManifest::load(alloc, store, db(rt), 1).expect(rt, "a manifest");
     (
         shape(holder.db_state()),
@@ -122,7 +122,7 @@ fn a_state_is_written_manifest_first(rt: HostRuntime) {
     assert!(rt; writer.local().pending.as_slice().len() == 1);
     let reply = writer.write_state_safely(alloc, &mut store, checkpoint(), 61_500, 1);
     assert!(rt; code(reply) == 0 && latest(&rt, alloc, &mut store) == (4, 8));
-    assert!(rt; written(&rt, alloc, &mut store) == (31, Some((3, 61_000, Some(961_000)))));
+    assert!(rt; written(&rt, alloc, &mut store) == ((3, 1), Some((3, 61_000, Some(961_000)))));
     assert!(rt; stands(&rt, alloc, &mut store, CompactionStatus::Completed, true));
     assert!(rt; writer.local().pending.as_slice().is_empty());
     assert!(rt; writer.manifest().0 == 4 && writer.compactions().0 == 8);
@@ -158,7 +158,7 @@ fn a_failed_compaction_is_recorded(rt: HostRuntime) {
 }
 
 /// The numbers of a view, the shape of its manifest, and the status in its record.
-fn seen(view: &CompactorStateView) -> (u64, u64, usize, Option<CompactionStatus>) {
+fn seen(view: &CompactorStateView) -> (u64, u64, (usize, usize), Option<CompactionStatus>) {
     let (number, status) = match view.compactions() {
         Some(version) => (version.id(), status(version.compactions())),
         None => (0, None),
@@ -174,8 +174,8 @@ fn a_view_is_made_of_what_is_local(rt: HostRuntime) {
     let mut store = with_manifest(&rt, alloc);
     let writer = finished(&rt, alloc, &mut store);
     let view = CompactorStateView::from_state(alloc, &writer).expect(&rt, "memory");
-    assert!(rt; seen(&view) == (7, 2, 31, Some(CompactionStatus::Completed)));
-    assert!(rt; shape(&writer.manifest().1.core) == 50);
+    assert!(rt; seen(&view) == (7, 2, (3, 1), Some(CompactionStatus::Completed)));
+    assert!(rt; shape(&writer.manifest().1.core) == (5, 0));
     drop(view);
     drop(writer);
     drop(store);

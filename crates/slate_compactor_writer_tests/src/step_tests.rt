@@ -52,7 +52,7 @@ fn marked(
     place: usize,
     mark: Mark,
 ) -> (u8, (u64, u64), (u64, usize)) {
-    let mut store = with_marks(rt, alloc, BEFORE + place, mark);
+    let mut store = with_marks(rt, alloc, BEFORE.wrapping_add(place), mark);
     let mut writer = finished(rt, alloc, &mut store);
     let reply = writer.write_state_safely(alloc, &mut store, checkpoint(), 61_500, 2);
     let held = (writer.manifest().0, writer.local().pending.as_slice().len());
@@ -78,7 +78,7 @@ fn a_lost_answer_leaves_its_put(rt: HostRuntime) {
 
 /// Whether an open that loses the answer of its call of this place ends in a fault, and another one opens with this epoch.
 fn opens_after(rt: &impl Abort, alloc: Global, place: usize) -> u64 {
-    let mut store = with_marks(rt, alloc, 2 + place, Mark::Lost);
+    let mut store = with_marks(rt, alloc, place.wrapping_add(2), Mark::Lost);
     assert!(rt; code(CompactorStateWriter::new(alloc, &mut store, db(rt), 1000, 1)) == 20);
     opened(rt, alloc, &mut store).local_epoch()
 }

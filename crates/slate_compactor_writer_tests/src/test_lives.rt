@@ -192,7 +192,10 @@ pub(crate) fn latest<S: ObjectStore>(rt: &impl Abort, alloc: Global, store: &mut
     (manifest.id(), record.id())
 }
 
-/// The lengths of the root's L0 and of its runs, as a pair of digits.
-pub(crate) fn shape(core: &ManifestCore) -> usize {
-    core.tree.l0.as_deque().len() * 10 + core.tree.compacted.as_slice().len()
+/// The lengths of the root's L0 and of its runs.
+pub(crate) fn shape(core: &ManifestCore) -> (usize, usize) {
+    (
+        core.tree.l0.as_deque().len(),
+        core.tree.compacted.as_slice().len(),
+    )
 }
