@@ -6,8 +6,9 @@ use slate_script::ClusterCause;
 
 // Databases beside one another: objects go by path text, databases by their paths, and `-` is below `/`. The last epoch, after
 // which there is none. The table of a tree, which has the first tag, since its path comes first. A segment with a marker and a
-// run of two tables, both written once more in the manifest that an open puts.
-const OPENED: [(&str, &str); 4] = [
+// run of two tables, both written once more in the manifest that an open puts. A record with an output, whose
+// table comes before it, and both before the manifest.
+const OPENED: [(&str, &str); 5] = [
     (
         r#"{"databases":[{"path":"a"},{"path":"a-b","modified":5,"checkpoints":[{"id":3,"expire":2000,"name":"n"}]}],"events":[
   {"open":1,"kind":"holder","db":"a-b"},{"start":1,"call":"write_checkpoint","id":4,"source":3},
@@ -83,6 +84,30 @@ left db/manifest/00000000000000000002.manifest
 ok
 ",
     ),
+    (
+        r#"{"databases":[{"path":"db","compactor_epoch":3,"record":{"epoch":3,"compactions":[
+  {"id":"100:1","status":"compacted","views":[],"runs":[7],"destination":7,"outputs":["100:2"]},
+  {"id":"99:1","status":"submitted","segment":"a","views":["5:1"],"runs":[],"drain":true,"outputs":[]}]}},{"path":"b"}],"events":[
+  {"open":1,"kind":"writer","db":"db"},{"start":1,"call":"open_writer"},{"step":1,"at":1000,"times":5}]}"#,
+        "\
+0 open 1
+1 start 1
+2 call 1 list db/manifest/ -> found 1
+3 call 1 get db/manifest/00000000000000000001.manifest -> object 97
+4 call 1 get db/gc/manifest.boundary -> none
+5 call 1 put_new db/manifest/00000000000000000002.manifest 97 -> created 5
+6 call 1 get db/gc/manifest.boundary -> none reply epoch 1
+commits b manifest 1 compactions 0
+commits db manifest 2 compactions 1
+deleted 0
+left b/manifest/00000000000000000001.manifest
+left db/compacted/00000000340000000000000002.sst
+left db/compactions/00000000000000000001.compactions
+left db/manifest/00000000000000000001.manifest
+left db/manifest/00000000000000000002.manifest
+ok
+",
+    ),
 ];
 
 #[test]
@@ -93,7 +118,7 @@ fn databases_begin_a_run(rt: HostRuntime) {
 }
 
 // Databases that begin no run, each with the first cause; and none at all, which do.
-const REFUSED: [(&str, Status, &str); 12] = [
+const REFUSED: [(&str, Status, &str); 19] = [
     (
         r#"{"databases":[],"events":[]}"#,
         Status::Ok,
@@ -157,11 +182,76 @@ ok
         Status::BadCluster(ClusterCause::Floor),
         "bad cluster floor\n",
     ),
+    (
+        r#"{"databases":[{"path":"db","compactor_epoch":2,"record":{"epoch":3,"compactions":[]}}],"events":[]}"#,
+        Status::BadCluster(ClusterCause::Epoch),
+        "bad cluster epoch\n",
+    ),
+    (
+        r#"{"databases":[{"path":"db","record":{"epoch":0,"compactions":[{"id":"100:1","status":"compacted","views":[],"runs":[],"destination":7,"outputs":["100:2","99:1"]}]}}],"events":[]}"#,
+        Status::BadCluster(ClusterCause::Outputs),
+        "bad cluster outputs\n",
+    ),
+    (
+        r#"{"databases":[{"path":"a","floor":9,"l0":[{"view":"1:1","table":"10:1"}]},{"path":"b","record":{"epoch":1,"compactions":[{"id":"100:1","status":"failed","views":[],"runs":[],"drain":true,"outputs":["99:1"]}]}}],"events":[]}"#,
+        Status::BadCluster(ClusterCause::Epoch),
+        "bad cluster epoch\n",
+    ),
+    (
+        r#"{"databases":[{"path":"a","floor":9,"l0":[{"view":"1:1","table":"10:1"}]},{"path":"b","record":{"epoch":0,"compactions":[{"id":"100:1","status":"failed","views":[],"runs":[],"drain":true,"outputs":["99:1"]}]}}],"events":[]}"#,
+        Status::BadCluster(ClusterCause::Outputs),
+        "bad cluster outputs\n",
+    ),
+    (
+        r#"{"databases":[{"path":"db","record":{"epoch":9,"compactions":[{"id":"1:1","status":"running","views":[],"runs":[],"drain":true,"outputs":["1:2"]}]}}],"events":[]}"#,
+        Status::BadCluster(ClusterCause::Value),
+        "bad cluster value\n",
+    ),
+    (
+        r#"{"databases":[{"path":"a","record":{"epoch":0,"compactions":[{"id":"1:1","status":"submitted","views":[],"runs":[],"drain":true,"outputs":[]}]}},{"path":"b","record":{"epoch":0,"compactions":[{"id":"1:1","status":"failed","views":[],"runs":[],"drain":true,"outputs":[]}]}}],"events":[]}"#,
+        Status::BadCluster(ClusterCause::Ids),
+        "bad cluster ids\n",
+    ),
+    (
+        r#"{"databases":[{"path":"a","record":{"epoch":0,"compactions":[{"id":"1:1","status":"failed","views":[],"runs":[],"drain":true,"outputs":["1:2"]}]}},{"path":"b","floor":9,"l0":[{"view":"1:1","table":"1:2"}]}],"events":[]}"#,
+        Status::BadCluster(ClusterCause::Ids),
+        "bad cluster ids\n",
+    ),
 ];
 
 #[test]
 fn databases_are_refused(rt: HostRuntime) {
     for (script, status, text) in &REFUSED {
         assert!(rt; runs(&rt, rt.alloc(), script, *status, text), "{script}");
+    }
+}
+
+// A start that brings an id anew which the record has: of a compaction, of a view that it reads, or of a table that it has written.
+const CARRIED: [&str; 3] = [
+    r#"{"databases":[{"path":"db","record":{"epoch":0,"compactions":[{"id":"9:1","status":"failed","views":["9:2"],"runs":[],"drain":true,"outputs":["9:3"]}]}}],"events":[
+  {"open":1,"kind":"writer","db":"db"},{"start":1,"call":"upload","table":"9:1"}]}"#,
+    r#"{"databases":[{"path":"db","record":{"epoch":0,"compactions":[{"id":"9:1","status":"failed","views":["9:2"],"runs":[],"drain":true,"outputs":["9:3"]}]}}],"events":[
+  {"open":1,"kind":"writer","db":"db"},{"start":1,"call":"upload","table":"9:2"}]}"#,
+    r#"{"databases":[{"path":"db","record":{"epoch":0,"compactions":[{"id":"9:1","status":"failed","views":["9:2"],"runs":[],"drain":true,"outputs":["9:3"]}]}}],"events":[
+  {"open":1,"kind":"writer","db":"db"},{"start":1,"call":"upload","table":"9:3"}]}"#,
+];
+
+const CARRIED_TEXT: &str = "\
+0 open 1
+commits db manifest 1 compactions 1
+deleted 0
+left db/compacted/00000000090000000000000003.sst
+left db/compactions/00000000000000000001.compactions
+left db/manifest/00000000000000000001.manifest
+bad event 1
+";
+
+#[test]
+fn ids_of_records_are_carried(rt: HostRuntime) {
+    for script in &CARRIED {
+        assert!(rt;
+            runs(&rt, rt.alloc(), script, Status::BadEvent(1), CARRIED_TEXT),
+            "{script}"
+        );
     }
 }

@@ -88,8 +88,9 @@ the paths of the objects left, and then ok or the first bad event.
 
   database  {\"path\":\"db\"}, and where wanted \"modified\",
             \"initialized\", \"writer_epoch\", \"compactor_epoch\",
-            \"floor\", \"replay_after\", \"next_wal\", \"extractor\" and
+            \"floor\", \"replay_after\", \"next_wal\", \"extractor\",
             the arrays \"l0\", \"runs\", \"markers\", \"checkpoints\"
+            and the object \"record\" of compactions
   open      {\"open\":1,\"kind\":\"writer\",\"db\":\"db\"}
   start     {\"start\":1,\"call\":\"open_writer\"}
   upload    {\"start\":1,\"call\":\"upload\",\"table\":\"9:1\"}, and where
@@ -109,7 +110,7 @@ delete_checkpoint; a collector has pass. A script has at most
     ),
     (
         &["--version"],
-        "buqtarel 0.1.0\nrattle-kit-13b logic dac8208d650f15bf\n",
+        "buqtarel 0.1.0\nrattle-kit-13f logic dac8208d650f15bf\n",
     ),
 ];
 

@@ -7,6 +7,8 @@ use Rattle.slate_json.specs.Fields.{◌>>=◌, only, required, optional, default
 use Rattle.slate_json.specs.WrittenIds.{id_in}
 use Rattle.slate_json.specs.Checkpoints.{checkpoint_in}
 use Rattle.slate_databases.specs.Databases.{is_marker_of, tables_of, manifest_of}
+use Rattle.slate_databases.specs.OpeningRecords.{first_record, named_outputs}
+use Rattle.slate_databases.specs.RecordFields.{record_item_in}
 use Rattle.slate_events.specs.declared.db_spec.DbSpec.{DbSpec}
 use Rattle.slate_databases.specs.declared.tree_items.L0Item.{L0Item}
 use Rattle.slate_databases.specs.declared.tree_items.RunItem.{RunItem}
@@ -72,7 +74,7 @@ opening_fields_in d = do
 
 -- the names of a database's fields
 abbrev pub database_fields : List (List ℕ)
-database_fields = codes "path" ∷ codes "modified" ∷ codes "initialized" ∷ codes "writer_epoch" ∷ codes "compactor_epoch" ∷ codes "floor" ∷ codes "replay_after" ∷ codes "next_wal" ∷ codes "extractor" ∷ codes "l0" ∷ codes "runs" ∷ codes "markers" ∷ codes "checkpoints" ∷ []
+database_fields = codes "path" ∷ codes "modified" ∷ codes "initialized" ∷ codes "writer_epoch" ∷ codes "compactor_epoch" ∷ codes "floor" ∷ codes "replay_after" ∷ codes "next_wal" ∷ codes "extractor" ∷ codes "l0" ∷ codes "runs" ∷ codes "markers" ∷ codes "checkpoints" ∷ codes "record" ∷ []
 
 -- a database with exactly such fields
 unfoldable pub database_in : Data → Option DbSpec
@@ -83,4 +85,6 @@ database_in d = do
   fields ← opening_fields_in d
   items ← tree_items_in d
   checkpoints ← defaulted [] (list_in checkpoint_in) (codes "checkpoints") d
-  Some (record { path = path; manifest = manifest_of fields items checkpoints; tables = tables_of items; modified = modified })
+  item ← optional record_item_in (codes "record") d
+  compactions ← first_record item
+  Some (record { path = path; manifest = manifest_of fields items checkpoints; compactions = compactions; tables = tables_of items (named_outputs item); modified = modified })

@@ -98,7 +98,7 @@ with_id ids id = if list_any (same_id id) ids then ids else ids ++ id ∷ []
 abbrev pub once : List (ℕ × ℕ) → List (ℕ × ℕ)
 once ids = fold with_id [] ids
 
--- the tables that are named, as often as they are
+-- the tables that trees name, as often as they do
 abbrev pub named_tables : TreeItems → List (ℕ × ℕ)
 named_tables items = map (λ (i : L0Item). i.table_id) items.l0 ++ flat_map (λ (i : RunItem). i.table_ids) items.runs
 
@@ -106,9 +106,9 @@ named_tables items = map (λ (i : L0Item). i.table_id) items.l0 ++ flat_map (λ 
 abbrev pub with_info : ℕ × ℕ → (ℕ × ℕ) × SsTableInfo
 with_info id = (id, opening_info)
 
--- the tables that are named, each once, with what is known of them
-abbrev pub tables_of : TreeItems → List ((ℕ × ℕ) × SsTableInfo)
-tables_of items = map with_info (once (named_tables items))
+-- the tables that trees name, and these outputs, each once, with what is known of them
+abbrev pub tables_of : TreeItems → List (ℕ × ℕ) → List ((ℕ × ℕ) × SsTableInfo)
+tables_of items outputs = map with_info (once (named_tables items ++ outputs))
 
 -- ---- the manifest
 

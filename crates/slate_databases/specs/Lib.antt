@@ -1,3 +1,5 @@
 pub mod Databases
 pub mod Groups
+pub mod RecordFields
+pub mod OpeningRecords
 pub mod DatabaseFields

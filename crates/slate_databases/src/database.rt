@@ -5,6 +5,7 @@ ghost use Rattle.slate_json.specs.Fields.{Gives};
 ghost use Rattle.slate_databases.specs.Databases as databases;
 ghost use Rattle.slate_databases.specs.DatabaseFields.{opening_fields_in, database_in};
 
+use crate::opening_record::first_record;
 use crate::opening_tables::tables_of;
 use crate::tree_items::{TreeItems, read_tree_items};
 use crate::trees::{segments_of, tree_of};
@@ -88,7 +89,7 @@ fn manifest_of(
     Ok(manifest)
 }
 
-/// A database, with its first manifest and the tables that stand in the store.
+/// A database, with its first manifest, its first record where it has one, and the tables that stand in the store.
 #[tactic(auto, unfolding(crate::specs::DatabaseFields::database_in))]
 pub fn read_database(alloc: Global, d: &Value) -> Result<DbSpec, JsonError>
     ensures { Gives result (database_in (view d.now)) }
@@ -109,6 +110,7 @@ pub fn read_database(alloc: Global, d: &Value) -> Result<DbSpec, JsonError>
             "runs",
             "markers",
             "checkpoints",
+            "record",
         ],
     )?;
     let path = required(alloc, d, "path")?;
@@ -116,9 +118,12 @@ pub fn read_database(alloc: Global, d: &Value) -> Result<DbSpec, JsonError>
     let fields = opening_fields(alloc, d)?;
     let items = read_tree_items(alloc, d)?;
     let checkpoints = defaulted(alloc, d, "checkpoints", Listed::new(alloc))?;
+    let item = optional(alloc, d, "record")?;
+    let compactions = first_record(alloc, &item)?;
     Ok(DbSpec {
         path,
-        tables: tables_of(alloc, &items)?,
+        tables: tables_of(alloc, &items, &item)?,
+        compactions,
         manifest: manifest_of(alloc, fields, &items, checkpoints)?,
         modified,
     })

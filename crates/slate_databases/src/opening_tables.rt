@@ -2,7 +2,9 @@
 ghost use Rattle.std.specs.Prelude.{◌≡◌, ◌++◌, ◌∷◌, [], map, IfOk, OnOk, if◌then◌else◌};
 ghost use Rattle.std.specs.List.{flat_map};
 ghost use Rattle.slate_databases.specs.Databases as databases;
+ghost use Rattle.slate_databases.specs.OpeningRecords.{named_outputs};
 
+use crate::record_items::{CompactionItem, RecordItem};
 use crate::tree_items::{L0Item, RunItem, TreeItems};
 use bytes::Bytes;
 use slate_ids::{Listed, OutOfMemory, Ulid};
@@ -63,7 +65,7 @@ fn push_run_tables(ids: &mut Listed<Ulid>, items: &[RunItem]) -> Result<(), OutO
     Ok(())
 }
 
-// The tables that are named, as often as they are.
+// The tables that trees name, as often as they do.
 fn named_tables(alloc: Global, items: &TreeItems) -> Result<Listed<Ulid>, OutOfMemory>
     ensures { IfOk result (λ ids. ids ≡ databases.named_tables items.now) }
 {
@@ -107,14 +109,36 @@ fn with_infos(alloc: Global, ids: &[Ulid]) -> Result<Listed<(Ulid, SsTableInfo)>
     Ok(tables)
 }
 
-/// The tables that are named, each once, with what is known of them.
+// Adds the outputs of these compactions.
+fn push_outputs(ids: &mut Listed<Ulid>, items: &[CompactionItem]) -> Result<(), OutOfMemory>
+    ensures { OnOk result (ids.new ≡ ids.old ++ flat_map (λ c. c.outputs) items.now) }
+{
+    for item in items {
+        push_ids(ids, item.outputs.as_slice())?;
+    }
+    Ok(())
+}
+
+// Adds the outputs that a record names, where there is one.
+fn push_named_outputs(ids: &mut Listed<Ulid>, item: &Option<RecordItem>) -> Result<(), OutOfMemory>
+    ensures { OnOk result (ids.new ≡ ids.old ++ named_outputs item.now) }
+{
+    match item {
+        None => Ok(()),
+        Some(item) => push_outputs(ids, item.compactions.as_slice()),
+    }
+}
+
+/// The tables that trees and the record name, each once, with what is known of them.
 pub(crate) fn tables_of(
     alloc: Global,
     items: &TreeItems,
+    item: &Option<RecordItem>,
 ) -> Result<Listed<(Ulid, SsTableInfo)>, OutOfMemory>
-    ensures { IfOk result (λ tables. tables ≡ databases.tables_of items.now) }
+    ensures { IfOk result (λ tables. tables ≡ databases.tables_of items.now (named_outputs item.now)) }
 {
-    let named = named_tables(alloc, items)?;
+    let mut named = named_tables(alloc, items)?;
+    push_named_outputs(&mut named, item)?;
     let ids = once(alloc, named.as_slice())?;
     with_infos(alloc, ids.as_slice())
 }

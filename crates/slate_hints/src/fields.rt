@@ -1,6 +1,6 @@
 //! The fields of a script, a table for each kind of object: a later field or object is a line here.
 
-use crate::fields::Holds::{Each, Objects, One};
+use crate::fields::Holds::{Each, Nested, Objects, One};
 use crate::fields::Presence::{Needed, Optional};
 use crate::name::Name;
 use crate::plain::Plain;
@@ -14,6 +14,8 @@ pub(crate) enum Holds {
     Each(Plain),
     /// An array of objects.
     Objects(Object),
+    /// An object.
+    Nested(Object),
 }
 
 /// Whether a field has to be there.
@@ -36,6 +38,8 @@ pub(crate) enum Object {
     Run,
     Marker,
     Checkpoint,
+    Record,
+    Compaction,
     Open,
     Step,
     Stop,
@@ -55,7 +59,7 @@ static WHOLE: [Field; 2] = [
     Field(Name::Events, Needed, One(Plain::List)),
 ];
 
-static DATABASE: [Field; 13] = [
+static DATABASE: [Field; 14] = [
     Field(Name::Path, Needed, One(Plain::Path)),
     Field(Name::Modified, Optional, One(Plain::Moment)),
     Field(Name::Initialized, Optional, One(Plain::Flag)),
@@ -69,6 +73,7 @@ static DATABASE: [Field; 13] = [
     Field(Name::Runs, Optional, Objects(Object::Run)),
     Field(Name::Markers, Optional, Objects(Object::Marker)),
     Field(Name::Checkpoints, Optional, Objects(Object::Checkpoint)),
+    Field(Name::Record, Optional, Nested(Object::Record)),
 ];
 
 static L0: [Field; 3] = [
@@ -92,6 +97,22 @@ static CHECKPOINT: [Field; 3] = [
     Field(Name::Id, Needed, One(Plain::Checkpoint)),
     Field(Name::Expire, Optional, One(Plain::Moment)),
     Field(Name::Name, Optional, One(Plain::Text)),
+];
+
+static RECORD: [Field; 2] = [
+    Field(Name::Epoch, Needed, One(Plain::Whole64)),
+    Field(Name::Compactions, Needed, Objects(Object::Compaction)),
+];
+
+static COMPACTION: [Field; 8] = [
+    Field(Name::Id, Needed, One(Plain::Id)),
+    Field(Name::Status, Needed, One(Plain::Status)),
+    Field(Name::Segment, Optional, One(Plain::Text)),
+    Field(Name::Views, Needed, Each(Plain::Id)),
+    Field(Name::Runs, Needed, Each(Plain::Whole32)),
+    Field(Name::Destination, Optional, One(Plain::Whole32)),
+    Field(Name::Drain, Optional, One(Plain::Drain)),
+    Field(Name::Outputs, Needed, Each(Plain::Id)),
 ];
 
 static OPEN: [Field; 3] = [
@@ -189,6 +210,8 @@ impl Object {
             Object::Run => &RUN,
             Object::Marker => &MARKER,
             Object::Checkpoint => &CHECKPOINT,
+            Object::Record => &RECORD,
+            Object::Compaction => &COMPACTION,
             Object::Open => &OPEN,
             Object::Step => &STEP,
             Object::Stop => &STOP,

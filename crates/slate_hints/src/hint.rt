@@ -24,6 +24,8 @@ pub(crate) enum Fault {
     Unknown(Option<Text>),
     /// It lacks a field.
     Lacks(Name),
+    /// It has to have one of two fields, and not both.
+    OneOf(Name, Name),
     /// It has to be something else.
     HasToBe(&'static str),
     /// It has none of the fields that say what an event is.
@@ -98,6 +100,15 @@ fn write_unknown<W: fmt::Write>(f: &mut fmt::Formatter<W>, name: &Option<Text>) 
     }
 }
 
+// Writes the names of two fields, of which one has to be there.
+fn write_one_of<W: fmt::Write>(f: &mut fmt::Formatter<W>, a: Name, b: Name) -> fmt::Result {
+    let (a, b) = (a.text(), b.text());
+    write!(
+        f,
+        " has to have one of the fields \"{a}\" and \"{b}\", and not both"
+    )
+}
+
 // Writes the name of a field that isn't there.
 fn write_lacks<W: fmt::Write>(f: &mut fmt::Formatter<W>, name: Name) -> fmt::Result {
     let name = name.text();
@@ -116,6 +127,7 @@ impl fmt::Display for At {
             Fault::NoObject => f.write_str(" has to be an object"),
             Fault::Unknown(name) => write_unknown(f, name),
             Fault::Lacks(name) => write_lacks(f, *name),
+            Fault::OneOf(a, b) => write_one_of(f, *a, *b),
             Fault::HasToBe(words) => write!(f, " has to be {words}"),
             Fault::NoEvent => f.write_str(" has none of the fields open, start, step and stop"),
             Fault::TooMany => f.write_str(" goes past 1000000 events, with times written out"),

@@ -103,6 +103,7 @@ fn held_fault(
         Holds::One(plain) => plain_fault(alloc, spot.at(field.0), plain, value),
         Holds::Each(plain) => each_fault(alloc, spot, field.0, plain, value),
         Holds::Objects(_) => plain_fault(alloc, spot.at(field.0), Plain::List, value),
+        Holds::Nested(_) => Ok(None),
     }
 }
 
@@ -159,8 +160,8 @@ fn inner_fault(
     Ok(None)
 }
 
-// What is wrong with the objects that stand in a field, where some do.
-fn objects_fault(
+// What is wrong with the objects of the array that stands in a field, where one does.
+fn array_fault(
     alloc: Global,
     spot: Spot,
     field: &Field,
@@ -169,6 +170,37 @@ fn objects_fault(
     match (field.2, object.get(field.0.text())) {
         (Holds::Objects(kind), Some(value)) => inner_fault(alloc, spot, field.0, kind, value),
         _ => Ok(None),
+    }
+}
+
+// What is wrong with an object that stands in a field, or with those in its arrays.
+fn nested_fault(
+    alloc: Global,
+    spot: Spot,
+    kind: Object,
+    value: &Value,
+) -> Result<Option<Hint>, OutOfMemory> {
+    if let Some(hint) = object_fault(alloc, spot, kind, value)? {
+        return Ok(Some(hint));
+    }
+    for field in kind.fields() {
+        if let Some(hint) = array_fault(alloc, spot, field, value)? {
+            return Ok(Some(hint));
+        }
+    }
+    Ok(None)
+}
+
+// What is wrong with the objects that stand in a field, where some do.
+fn objects_fault(
+    alloc: Global,
+    spot: Spot,
+    field: &Field,
+    object: &Value,
+) -> Result<Option<Hint>, OutOfMemory> {
+    match (field.2, object.get(field.0.text())) {
+        (Holds::Nested(kind), Some(value)) => nested_fault(alloc, spot.at(field.0), kind, value),
+        _ => array_fault(alloc, spot, field, object),
     }
 }
 

@@ -8,6 +8,7 @@ mod hint;
 mod items;
 mod name;
 mod plain;
+mod records;
 mod refused;
 mod repeats;
 mod scripts;

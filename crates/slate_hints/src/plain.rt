@@ -5,6 +5,7 @@ use serde_json::Value;
 use slate_events::{FilterWord, PartyKind};
 use slate_ids::{CheckpointId, DbPath, GcMessage, OutOfMemory, Text, Ulid};
 use slate_json::{FromJson, JsonError};
+use slate_model::CompactionStatus;
 use slate_store::Mark;
 use std::alloc::Global;
 
@@ -22,6 +23,8 @@ pub(crate) enum Plain {
     Id,
     Checkpoint,
     Kind,
+    Status,
+    Drain,
     Mark,
     Pass,
     Filter,
@@ -65,6 +68,8 @@ impl Plain {
             Plain::Id => was_read(Ulid::from_json(alloc, value)),
             Plain::Checkpoint => was_read(CheckpointId::from_json(alloc, value)),
             Plain::Kind => was_read(PartyKind::from_json(alloc, value)),
+            Plain::Status => was_read(CompactionStatus::from_json(alloc, value)),
+            Plain::Drain => Ok(value.as_bool() == Some(true)),
             Plain::Mark => was_read(Mark::from_json(alloc, value)),
             Plain::Pass => was_read(GcMessage::from_json(alloc, value)),
             Plain::Filter => was_read(FilterWord::from_json(alloc, value)),
@@ -86,6 +91,9 @@ impl Plain {
             Plain::Id =>
                 "a text \"ms:tail\" of two whole numbers, the first below 2^48, the second below 2^80",
             Plain::Kind => "\"writer\", \"holder\" or \"collector\"",
+            Plain::Status =>
+                "\"submitted\", \"scheduled\", \"running\", \"compacted\", \"completed\" or \"failed\"",
+            Plain::Drain => "true",
             Plain::Mark => "\"fail\" or \"lost\"",
             Plain::Pass => "\"manifest\"",
             Plain::Filter => "\"all\" or \"none\"",

@@ -2,7 +2,8 @@
 
 use crate::hint::{Fault, Hint};
 use crate::name::Name;
-use crate::repeats::{checkpoint_fault, database_spot, path_fault, table_fault};
+use crate::records::{epoch_fault, outputs_fault, unkept_fault};
+use crate::repeats::{checkpoint_fault, compaction_fault, database_spot, path_fault, table_fault};
 use crate::scripts::{items_of, value_of};
 use crate::spot::Spot;
 use crate::trees::{run_fault, segment_fault, view_fault};
@@ -42,7 +43,10 @@ fn value_fault(spot: Spot, database: &Value) -> Option<Hint> {
             spot.at(Name::NextWal),
             Fault::HasToBe("a whole number from 1 to 2^64 - 1"),
         )),
-        _ => expiry_fault(spot, database),
+        _ => match expiry_fault(spot, database) {
+            Some(hint) => Some(hint),
+            None => unkept_fault(spot, database),
+        },
     }
 }
 
@@ -81,9 +85,22 @@ fn own_fault(
         ClusterCause::Ids => tree_fault(alloc, spot, database),
         ClusterCause::Value => Ok(value_fault(spot, database)),
         ClusterCause::Segments => segment_fault(alloc, spot, database),
+        ClusterCause::Epoch => Ok(epoch_fault(spot, database)),
+        ClusterCause::Outputs => outputs_fault(alloc, spot, database),
         ClusterCause::Floor => floor_fault(alloc, spot, database),
         ClusterCause::Path | ClusterCause::Checkpoints | ClusterCause::Tables => Ok(None),
     }
+}
+
+// An id of a checkpoint, of a table or of a compaction that comes twice.
+fn id_fault(alloc: Global, databases: &[Value]) -> Result<Option<Hint>, OutOfMemory> {
+    if let Some(hint) = checkpoint_fault(alloc, databases)? {
+        return Ok(Some(hint));
+    }
+    if let Some(hint) = table_fault(alloc, databases)? {
+        return Ok(Some(hint));
+    }
+    compaction_fault(alloc, databases)
 }
 
 // What a cause finds in two databases, or in the whole of them.
@@ -94,10 +111,7 @@ fn shared_fault(
 ) -> Result<Option<Hint>, OutOfMemory> {
     match cause {
         ClusterCause::Path => path_fault(alloc, databases),
-        ClusterCause::Ids => match checkpoint_fault(alloc, databases)? {
-            Some(hint) => Ok(Some(hint)),
-            None => table_fault(alloc, databases),
-        },
+        ClusterCause::Ids => id_fault(alloc, databases),
         _ => Ok(None),
     }
 }

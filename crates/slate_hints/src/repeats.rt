@@ -1,7 +1,8 @@
-//! What databases share that may not be shared: paths, ids of checkpoints, ids of tables.
+//! What databases share that may not be shared: paths, ids of checkpoints, of compactions and of tables.
 
 use crate::hint::{Fault, Hint, Shared};
 use crate::name::Name;
+use crate::records::{Compactions, compaction_spot, compactions_of, note_compactions};
 use crate::scripts::items_of;
 use crate::spot::Spot;
 use crate::trees::{IdParts, id_of, same_id};
@@ -62,6 +63,20 @@ pub(crate) fn checkpoint_fault(
     let mut seen: BTreeMap<u64, Spot> = BTreeMap::new(alloc);
     for (i, database) in databases.iter().enumerate() {
         if let Some(hint) = checkpoints_fault(&mut seen, database_spot(i), database)? {
+            return Ok(Some(hint));
+        }
+    }
+    Ok(None)
+}
+
+/// A second compaction of one id.
+pub(crate) fn compaction_fault(
+    alloc: Global,
+    databases: &[Value],
+) -> Result<Option<Hint>, OutOfMemory> {
+    let mut seen = Compactions::new(alloc);
+    for (i, database) in databases.iter().enumerate() {
+        if let Some(hint) = note_compactions(alloc, &mut seen, database_spot(i), database)? {
             return Ok(Some(hint));
         }
     }
@@ -138,6 +153,44 @@ fn note_runs(
     Ok(None)
 }
 
+// Notes the outputs of a compaction.
+fn note_outputs(
+    alloc: Global,
+    named: &mut Named,
+    database: usize,
+    spot: Spot,
+    compaction: &Value,
+) -> Result<Option<Hint>, OutOfMemory> {
+    for (i, table) in items_of(compaction, Name::Outputs).iter().enumerate() {
+        if let Some(hint) = note_table(
+            alloc,
+            named,
+            database,
+            spot.item(Name::Outputs, i),
+            table,
+        )? {
+            return Ok(Some(hint));
+        }
+    }
+    Ok(None)
+}
+
+// Notes the outputs of a database's compactions.
+fn note_record(
+    alloc: Global,
+    named: &mut Named,
+    database: usize,
+    value: &Value,
+) -> Result<Option<Hint>, OutOfMemory> {
+    for (i, compaction) in compactions_of(value).iter().enumerate() {
+        let spot = compaction_spot(database_spot(database), i);
+        if let Some(hint) = note_outputs(alloc, named, database, spot, compaction)? {
+            return Ok(Some(hint));
+        }
+    }
+    Ok(None)
+}
+
 /// A table that two databases name.
 pub(crate) fn table_fault(alloc: Global, databases: &[Value]) -> Result<Option<Hint>, OutOfMemory> {
     let mut named = BTreeMap::new(alloc);
@@ -146,6 +199,9 @@ pub(crate) fn table_fault(alloc: Global, databases: &[Value]) -> Result<Option<H
             return Ok(Some(hint));
         }
         if let Some(hint) = note_runs(alloc, &mut named, i, database)? {
+            return Ok(Some(hint));
+        }
+        if let Some(hint) = note_record(alloc, &mut named, i, database)? {
             return Ok(Some(hint));
         }
     }

@@ -5,6 +5,7 @@ use crate::fields::Object;
 use crate::hint::{Fault, Hint};
 use crate::items::{object_fault, whole_fault};
 use crate::name::Name;
+use crate::records::record_fault;
 use crate::spot::Spot;
 use crate::trees::marker_fault;
 use serde_json::Value;
@@ -78,6 +79,14 @@ pub(crate) fn items_of<'a>(script: &'a Value, list: Name) -> &'a [Value] {
     }
 }
 
+// What is wrong with a database whose fields are right, each alone.
+fn beside_fields(alloc: Global, spot: Spot, item: &Value) -> Result<Option<Hint>, OutOfMemory> {
+    match marker_fault(alloc, spot, item)? {
+        Some(hint) => Ok(Some(hint)),
+        None => record_fault(alloc, spot, item),
+    }
+}
+
 // What is wrong with the database at a place.
 fn database_fault(alloc: Global, items: &[Value], place: u64) -> Result<Option<Hint>, OutOfMemory> {
     for (i, item) in items.iter().enumerate() {
@@ -87,7 +96,7 @@ fn database_fault(alloc: Global, items: &[Value], place: u64) -> Result<Option<H
             return if found.is_some() {
                 Ok(found)
             } else {
-                marker_fault(alloc, spot, item)
+                beside_fields(alloc, spot, item)
             };
         }
     }

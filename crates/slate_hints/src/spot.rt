@@ -10,12 +10,13 @@ struct Step {
     item: Option<usize>,
 }
 
-/// Where something stands in a script as it is written, as `databases[0].l0[2].view`.
+/// Where something stands in a script as it is written, as `databases[0].l0[2].view` or `databases[0].record.compactions[1].id`.
 #[derive(Clone, Copy, Debug, Drop)]
 pub struct Spot {
     list: Option<Step>,
     field: Option<Step>,
     inner: Option<Step>,
+    last: Option<Step>,
 }
 
 impl Spot {
@@ -24,9 +25,10 @@ impl Spot {
         list: None,
         field: None,
         inner: None,
+        last: None,
     };
 
-    // A step further. A third step is the last.
+    // A step further. A fourth step is the last.
     fn then(self, step: Step) -> Spot {
         match self {
             Spot { list: None, .. } => Spot {
@@ -37,8 +39,12 @@ impl Spot {
                 field: Some(step),
                 ..self
             },
-            _ => Spot {
+            Spot { inner: None, .. } => Spot {
                 inner: Some(step),
+                ..self
+            },
+            _ => Spot {
+                last: Some(step),
                 ..self
             },
         }
@@ -91,7 +97,8 @@ impl fmt::Display for Spot {
             Some(list) => {
                 write!(f, "{list}")?;
                 write_further(f, self.field)?;
-                write_further(f, self.inner)
+                write_further(f, self.inner)?;
+                write_further(f, self.last)
             }
         }
     }

@@ -76,10 +76,15 @@ fn cause(cause: ClusterCause) -> &'static str {
     match cause {
         ClusterCause::Path => "two databases have one path",
         ClusterCause::Ids => {
-            "the id of a table, a checkpoint or a tree's view comes twice, or the ids of a tree's runs don't fall"
+            "the id of a table, a checkpoint, a compaction or a tree's view comes twice, or the ids of a tree's runs don't fall"
         }
-        ClusterCause::Value => "the manifest of a database has no bytes that are read back as it",
+        ClusterCause::Value => {
+            "the manifest or the record of a database has no bytes that are read back as it"
+        }
         ClusterCause::Segments => "the prefix of a segment begins with another's",
+        ClusterCause::Epoch => "the epoch of a record is above the compactor epoch of its manifest",
+        ClusterCause::Outputs =>
+            "an output of a compaction is older than the compaction, or is not there",
         ClusterCause::Checkpoints => "a checkpoint names another version than the first",
         ClusterCause::Tables => "a table of a tree is not there",
         ClusterCause::Floor =>

@@ -36,7 +36,7 @@ const INPUTS: [(&str, &str); 7] = [
 ];
 
 /// The second of two databases, and what is wrong with it.
-const DATABASES: [(&str, &str); 31] = [
+const DATABASES: [(&str, &str); 42] = [
     (r#"3"#, r#"databases[1] has to be an object"#),
     (r#"{}"#, r#"databases[1] lacks the field "path""#),
     (
@@ -154,6 +154,50 @@ const DATABASES: [(&str, &str); 31] = [
     (
         r#"{"path":"b","checkpoints":[{"id":1},{"id":2,"name":2}]}"#,
         r#"databases[1].checkpoints[1].name has to be a text"#,
+    ),
+    (
+        r#"{"path":"b","record":[]}"#,
+        r#"databases[1].record has to be an object"#,
+    ),
+    (
+        r#"{"path":"b","record":{"epoch":0}}"#,
+        r#"databases[1].record lacks the field "compactions""#,
+    ),
+    (
+        r#"{"path":"b","record":{"epoch":0,"compactions":[],"id":1}}"#,
+        r#"databases[1].record has a field "id", which isn't known"#,
+    ),
+    (
+        r#"{"path":"b","record":{"epoch":-1,"compactions":[]}}"#,
+        r#"databases[1].record.epoch has to be a whole number from 0 to 2^64 - 1"#,
+    ),
+    (
+        r#"{"path":"b","record":{"epoch":0,"compactions":{}}}"#,
+        r#"databases[1].record.compactions has to be an array"#,
+    ),
+    (
+        r#"{"path":"b","record":{"epoch":0,"compactions":[{"id":"1:1"}]}}"#,
+        r#"databases[1].record.compactions[0] lacks the field "status""#,
+    ),
+    (
+        r#"{"path":"b","record":{"epoch":0,"compactions":[{"id":"1:1","status":"done","views":[],"runs":[],"drain":true,"outputs":[]}]}}"#,
+        r#"databases[1].record.compactions[0].status has to be "submitted", "scheduled", "running", "compacted", "completed" or "failed""#,
+    ),
+    (
+        r#"{"path":"b","record":{"epoch":0,"compactions":[{"id":"1:1","status":"failed","views":[],"runs":[1,-1],"drain":true,"outputs":[]}]}}"#,
+        r#"databases[1].record.compactions[0].runs[1] has to be a whole number from 0 to 2^32 - 1"#,
+    ),
+    (
+        r#"{"path":"b","record":{"epoch":0,"compactions":[{"id":"1:1","status":"failed","views":[],"runs":[],"drain":false,"outputs":[]}]}}"#,
+        r#"databases[1].record.compactions[0].drain has to be true"#,
+    ),
+    (
+        r#"{"path":"b","record":{"epoch":0,"compactions":[{"id":"1:1","status":"failed","views":[],"runs":[],"outputs":[]}]}}"#,
+        r#"databases[1].record.compactions[0] has to have one of the fields "destination" and "drain", and not both"#,
+    ),
+    (
+        r#"{"path":"b","record":{"epoch":0,"compactions":[{"id":"1:1","status":"failed","views":[],"runs":[],"drain":true,"outputs":[]},{"id":"01:1","status":"failed","views":[],"runs":[],"drain":true,"outputs":[]}]}}"#,
+        r#"databases[1].record.compactions[1].id is the same as databases[1].record.compactions[0].id: 1:1"#,
     ),
 ];
 
@@ -289,7 +333,7 @@ const EVENTS: [(&str, &str); 34] = [
 ];
 
 /// Databases, and why they begin no run.
-const CLUSTERS: [(&str, &str); 10] = [
+const CLUSTERS: [(&str, &str); 15] = [
     (
         r#"{"path":"b"},{"path":"a"},{"path":"b"}"#,
         r#"databases[2].path is the same as databases[0].path: b"#,
@@ -329,6 +373,26 @@ const CLUSTERS: [(&str, &str); 10] = [
     (
         r#"{"path":"a","floor":5,"l0":[{"view":"9:1","table":"9:1"}]}"#,
         r#"databases[0].floor has to be 9 at least, which is the watermark"#,
+    ),
+    (
+        r#"{"path":"a","record":{"epoch":0,"compactions":[{"id":"1:1","status":"failed","views":[],"runs":[],"drain":true,"outputs":[]}]}},{"path":"b","record":{"epoch":0,"compactions":[{"id":"1:1","status":"failed","views":[],"runs":[],"drain":true,"outputs":[]}]}}"#,
+        r#"databases[1].record.compactions[0].id is the same as databases[0].record.compactions[0].id: 1:1"#,
+    ),
+    (
+        r#"{"path":"a","record":{"epoch":0,"compactions":[{"id":"1:1","status":"failed","views":[],"runs":[],"drain":true,"outputs":["1:2"]}]}},{"path":"b","record":{"epoch":0,"compactions":[{"id":"1:3","status":"failed","views":[],"runs":[],"drain":true,"outputs":["1:4","1:2"]}]}}"#,
+        r#"databases[1].record.compactions[0].outputs[1] is the same as databases[0].record.compactions[0].outputs[0]: 1:2"#,
+    ),
+    (
+        r#"{"path":"a","record":{"epoch":0,"compactions":[{"id":"1:1","status":"running","views":[],"runs":[],"drain":true,"outputs":["1:2"]}]}}"#,
+        r#"databases[0].record.compactions[0].outputs has to be empty, unless the status is compacted, completed or failed"#,
+    ),
+    (
+        r#"{"path":"a","compactor_epoch":1,"record":{"epoch":2,"compactions":[]}}"#,
+        r#"databases[0].record.epoch has to be at most the compactor_epoch of its database"#,
+    ),
+    (
+        r#"{"path":"a","record":{"epoch":0,"compactions":[{"id":"2:1","status":"failed","views":[],"runs":[],"drain":true,"outputs":["2:2","1:9"]}]}}"#,
+        r#"databases[0].record.compactions[0].outputs[1] has to be an id of at least the milliseconds of its compaction"#,
     ),
 ];
 

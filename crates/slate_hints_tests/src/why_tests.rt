@@ -7,7 +7,7 @@ use std::alloc::Global;
 use std::process::Abort;
 
 /// Statuses, and the lines that say so.
-const LINES: [(Status, &str); 12] = [
+const LINES: [(Status, &str); 14] = [
     (
         Status::BadWords,
         "slate: no such command; slate --help lists them",
@@ -51,6 +51,14 @@ const LINES: [(Status, &str); 12] = [
     (
         Status::BadCluster(ClusterCause::Path),
         "slate: databases refused: two databases have one path; see docs/FORMAT.md, \"Report\"",
+    ),
+    (
+        Status::BadCluster(ClusterCause::Epoch),
+        "slate: databases refused: the epoch of a record is above the compactor epoch of its manifest; see docs/FORMAT.md, \"Report\"",
+    ),
+    (
+        Status::BadCluster(ClusterCause::Outputs),
+        "slate: databases refused: an output of a compaction is older than the compaction, or is not there; see docs/FORMAT.md, \"Report\"",
     ),
     (
         Status::BadCluster(ClusterCause::Checkpoints),

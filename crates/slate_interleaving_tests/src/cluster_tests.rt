@@ -122,6 +122,10 @@ fn filters_allow_all_or_nothing(rt: HostRuntime) {
 const TABLE: &str =
     r#"{"databases":[{"path":"db","floor":100,"l0":[{"view":"5:1","table":"100:1"}]}],"events":[]}"#;
 
+// A database with a record, of which a table is an output.
+const OUTPUT: &str = r#"{"databases":[{"path":"db","record":{"epoch":0,"compactions":[
+  {"id":"100:2","status":"compacted","views":[],"runs":[7],"destination":7,"outputs":["100:3"]}]}}],"events":[]}"#;
+
 // What is changed of the database before the cluster is made.
 #[derive(Clone, Copy)]
 enum Change {
@@ -130,6 +134,8 @@ enum Change {
     NoTable,
     // A checkpoint of the version of this number is added.
     Checkpoint(u64),
+    // The record has this epoch.
+    RecordEpoch(u64),
 }
 
 fn change_spec(rt: &impl Abort, alloc: Global, spec: &mut DbSpec, change: Change) {
@@ -147,12 +153,17 @@ fn change_spec(rt: &impl Abort, alloc: Global, spec: &mut DbSpec, change: Change
             let checkpoints = &mut spec.manifest.core.checkpoints;
             checkpoints.push(checkpoint).expect(rt, "memory");
         }
+        Change::RecordEpoch(epoch) => {
+            if let Some(record) = &mut spec.compactions {
+                record.compactor_epoch = epoch;
+            }
+        }
     }
 }
 
 // Why no cluster is made.
-fn cause(rt: &impl Abort, alloc: Global, change: Change) -> Option<ClusterCause> {
-    let mut specs = script_of(rt, alloc, TABLE).databases.into_vec();
+fn cause(rt: &impl Abort, alloc: Global, text: &str, change: Change) -> Option<ClusterCause> {
+    let mut specs = script_of(rt, alloc, text).databases.into_vec();
     for spec in specs.as_mut_slice() {
         change_spec(rt, alloc, spec, change);
     }
@@ -165,10 +176,20 @@ fn cause(rt: &impl Abort, alloc: Global, change: Change) -> Option<ClusterCause>
 // The tables of trees are present, and opening checkpoints name the first version.
 #[test]
 fn no_script_has_these_databases(rt: HostRuntime) {
-    assert!(rt; cause(&rt, rt.alloc(), Change::Nothing).is_none());
-    assert!(rt; cause(&rt, rt.alloc(), Change::NoTable) == Some(ClusterCause::Tables));
-    assert!(rt; cause(&rt, rt.alloc(), Change::Checkpoint(1)).is_none());
-    assert!(rt; cause(&rt, rt.alloc(), Change::Checkpoint(2)) == Some(ClusterCause::Checkpoints));
+    let alloc = rt.alloc();
+    assert!(rt; cause(&rt, alloc, TABLE, Change::Nothing).is_none());
+    assert!(rt; cause(&rt, alloc, TABLE, Change::NoTable) == Some(ClusterCause::Tables));
+    assert!(rt; cause(&rt, alloc, TABLE, Change::Checkpoint(1)).is_none());
+    assert!(rt; cause(&rt, alloc, TABLE, Change::Checkpoint(2)) == Some(ClusterCause::Checkpoints));
+}
+
+// The outputs of a record are present, and its epoch is at most that of its manifest.
+#[test]
+fn no_script_has_these_records(rt: HostRuntime) {
+    let alloc = rt.alloc();
+    assert!(rt; cause(&rt, alloc, OUTPUT, Change::Nothing).is_none());
+    assert!(rt; cause(&rt, alloc, OUTPUT, Change::NoTable) == Some(ClusterCause::Outputs));
+    assert!(rt; cause(&rt, alloc, OUTPUT, Change::RecordEpoch(1)) == Some(ClusterCause::Epoch));
 }
 
 // A checkpoint that a step at 1500 makes, whose moments are whole seconds.

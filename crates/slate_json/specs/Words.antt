@@ -6,6 +6,8 @@ use Rattle.slate_ids.specs.declared.gc_message.GcMessage.{GcMessage}
 use Rattle.slate_ids.specs.declared.gc_message.GcMessage.TheVariants as pass
 use Rattle.slate_store.specs.declared.mark.Mark.{Mark}
 use Rattle.slate_store.specs.declared.mark.Mark.TheVariants as mark
+use Rattle.slate_records.specs.declared.compaction_status.CompactionStatus.{CompactionStatus}
+use Rattle.slate_records.specs.declared.compaction_status.CompactionStatus.TheVariants as status
 use Rattle.slate_json.specs.Fields.{◌>>=◌}
 use Rattle.slate_gc.specs.declared.filter_word.FilterWord.{FilterWord}
 use Rattle.slate_gc.specs.declared.filter_word.FilterWord.TheVariants as filter
@@ -48,3 +50,11 @@ filter_word s = word_in ((codes "all", filter.All) ∷ (codes "none", filter.Not
 -- a text that is the word of a filter
 abbrev pub filter_in : Data → Option FilterWord
 filter_in d = as_str d >>= filter_word
+
+-- how far a compaction is
+unfoldable pub status_word : List ℕ → Option CompactionStatus
+status_word s = word_in ((codes "submitted", status.Submitted) ∷ (codes "scheduled", status.Scheduled) ∷ (codes "running", status.Running) ∷ (codes "compacted", status.Compacted) ∷ (codes "completed", status.Completed) ∷ (codes "failed", status.Failed) ∷ []) s
+
+-- a text that is the word of a status
+abbrev pub status_in : Data → Option CompactionStatus
+status_in d = as_str d >>= status_word

@@ -1,12 +1,13 @@
 //! Words of a script.
 ghost use Rattle.std.specs.Prelude.{◌≡◌};
-ghost use Rattle.slate_json.specs.Words.{kind_word, mark_word, pass_word, filter_word};
+ghost use Rattle.slate_json.specs.Words.{kind_word, mark_word, pass_word, filter_word, status_word};
 
 use crate::json_error::JsonError;
 use crate::values::{FromJson, or_malformed};
 use serde_json::Value;
 use slate_events::{FilterWord, PartyKind};
 use slate_ids::GcMessage;
+use slate_model::CompactionStatus;
 use slate_store::Mark;
 use std::alloc::Global;
 
@@ -101,6 +102,34 @@ impl FromJson for FilterWord {
     fn from_json(_alloc: Global, d: &Value) -> Result<FilterWord, JsonError> {
         match d.as_str() {
             Some(text) => or_malformed(filter_of(text)),
+            None => Err(JsonError::Malformed),
+        }
+    }
+}
+
+#[tactic(auto, unfolding(crate::specs::Words::status_word))]
+fn status_of(text: &str) -> Option<CompactionStatus>
+    ensures { result ≡ status_word text.now }
+{
+    match text {
+        "submitted" => Some(CompactionStatus::Submitted),
+        "scheduled" => Some(CompactionStatus::Scheduled),
+        "running" => Some(CompactionStatus::Running),
+        "compacted" => Some(CompactionStatus::Compacted),
+        "completed" => Some(CompactionStatus::Completed),
+        "failed" => Some(CompactionStatus::Failed),
+        _ => None,
+    }
+}
+
+impl FromJson for CompactionStatus {
+    ghost use Rattle.slate_json.specs.Words.{status_in};
+
+    ghost reads = { status_in };
+
+    fn from_json(_alloc: Global, d: &Value) -> Result<CompactionStatus, JsonError> {
+        match d.as_str() {
+            Some(text) => or_malformed(status_of(text)),
             None => Err(JsonError::Malformed),
         }
     }

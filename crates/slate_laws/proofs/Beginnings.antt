@@ -1,4 +1,4 @@
--- What stands as a run begins: of each database its first manifest.
+-- What stands as a run begins: of each database its first manifest, and its first record where it has one.
 use Rattle.std.proofs.Common.{◌≡◌, ◌≢◌, ℕ, Bool, true, false, List, [], ◌∷◌, Option, Some, None, is_some, ⊎_elim, refl, sym, ap, ◌∙◌, subst, arith}
 use Rattle.std.specs.Prelude.{bytes_eq, if◌then◌else◌, ◌&&◌}
 use Rattle.std.specs.List.{list_all}
@@ -31,10 +31,10 @@ abbrev pub spec_of : List ℕ → List DbSpec → Option DbSpec
 spec_of d [] = None
 spec_of d (spec ∷ specs) = if bytes_eq d spec.path then Some spec else spec_of d specs
 
-spec_here : (d : List ℕ) (spec : DbSpec) (specs : List DbSpec) → d ≡ spec.path → spec_of d (spec ∷ specs) ≡ Some spec
+pub spec_here : (d : List ℕ) (spec : DbSpec) (specs : List DbSpec) → d ≡ spec.path → spec_of d (spec ∷ specs) ≡ Some spec
 spec_here d spec specs e = ap (λ (b : Bool). if b then Some spec else spec_of d specs) (ap (λ x. bytes_eq x spec.path) e ∙ bytes_same spec.path)
 
-spec_there : (d : List ℕ) (spec : DbSpec) (specs : List DbSpec) → d ≢ spec.path → spec_of d (spec ∷ specs) ≡ spec_of d specs
+pub spec_there : (d : List ℕ) (spec : DbSpec) (specs : List DbSpec) → d ≢ spec.path → spec_of d (spec ∷ specs) ≡ spec_of d specs
 spec_there d spec specs ne = ap (λ (b : Bool). if b then Some spec else spec_of d specs) (no_bytes d spec.path ne)
 
 -- each database has a name, and its tables have ids
@@ -60,17 +60,17 @@ named_parts spec specs h =
 
 -- ---- the databases by path
 
-abbrev Tallies : Type 0
+abbrev pub Tallies : Type 0
 Tallies = List (List ℕ × Tally)
 
-abbrev more : Tallies → DbSpec → Tallies
-more tallies spec = insert_entry db_cmp tallies spec.path first_tally
+abbrev pub more : Tallies → DbSpec → Tallies
+more tallies spec = insert_entry db_cmp tallies spec.path (first_tally spec)
 
-record IsNew (tallies : Tallies) (spec : DbSpec) (specs : List DbSpec) (all : Tallies) : Type 0 where
+pub record IsNew (tallies : Tallies) (spec : DbSpec) (specs : List DbSpec) (all : Tallies) : Type 0 where
   pub absent : is_some (tally_of spec.path tallies) ≡ false
   pub rest : tallies_from (more tallies spec) specs ≡ Some all
 
-is_new : (tallies : Tallies) (spec : DbSpec) (specs : List DbSpec) (all : Tallies) → tallies_from tallies (spec ∷ specs) ≡ Some all → IsNew tallies spec specs all
+pub is_new : (tallies : Tallies) (spec : DbSpec) (specs : List DbSpec) (all : Tallies) → tallies_from tallies (spec ∷ specs) ≡ Some all → IsNew tallies spec specs all
 is_new tallies spec specs all h = test (is_some (tally_of spec.path tallies)) refl h
   where
     test : (b : Bool) → is_some (tally_of spec.path tallies) ≡ b → (if b then None else tallies_from (more tallies spec) specs) ≡ Some all → IsNew tallies spec specs all
@@ -78,14 +78,14 @@ is_new tallies spec specs all h = test (is_some (tally_of spec.path tallies)) re
     test false is h = record { absent = is; rest = h }
 
 -- the tally of a database after one more
-tally_here : (d : List ℕ) (tallies : Tallies) (spec : DbSpec) → d ≡ spec.path → tally_of d (more tallies spec) ≡ Some first_tally
-tally_here d tallies spec e = ap (λ x. tally_of x (more tallies spec)) e ∙ insert_here db_cmp name_order spec.path first_tally tallies
+pub tally_here : (d : List ℕ) (tallies : Tallies) (spec : DbSpec) → d ≡ spec.path → tally_of d (more tallies spec) ≡ Some (first_tally spec)
+tally_here d tallies spec e = ap (λ x. tally_of x (more tallies spec)) e ∙ insert_here db_cmp name_order spec.path (first_tally spec) tallies
 
 tally_there : (d : List ℕ) (tallies : Tallies) (spec : DbSpec) → d ≢ spec.path → tally_of d (more tallies spec) ≡ tally_of d tallies
-tally_there d tallies spec ne = insert_else db_cmp name_order spec.path d first_tally tallies ne
+tally_there d tallies spec ne = insert_else db_cmp name_order spec.path d (first_tally spec) tallies ne
 
 -- one that is there is not among the others
-none_twice : (d : List ℕ) (tallies : Tallies) (specs : List DbSpec) (all : Tallies) → tallies_from tallies specs ≡ Some all → is_some (tally_of d tallies) ≡ true → spec_of d specs ≡ None
+pub none_twice : (d : List ℕ) (tallies : Tallies) (specs : List DbSpec) (all : Tallies) → tallies_from tallies specs ≡ Some all → is_some (tally_of d tallies) ≡ true → spec_of d specs ≡ None
 none_twice d tallies [] all h there = refl
 none_twice d tallies (spec ∷ specs) all h there =
     let new = is_new tallies spec specs all h in
@@ -97,11 +97,7 @@ none_twice d tallies (spec ∷ specs) all h there =
 -- the tally of a database among these, or else what it was
 abbrev pub tally_for : Option DbSpec → Option Tally → Option Tally
 tally_for None tally = tally
-tally_for (Some spec) tally = Some first_tally
-
-first_either : (o : Option DbSpec) → tally_for o (Some first_tally) ≡ Some first_tally
-first_either None = refl
-first_either (Some spec) = refl
+tally_for (Some spec) tally = Some (first_tally spec)
 
 pub tallies_found : (d : List ℕ) (tallies : Tallies) (specs : List DbSpec) (all : Tallies) → tallies_from tallies specs ≡ Some all → tally_of d all ≡ tally_for (spec_of d specs) (tally_of d tallies)
 tallies_found d tallies [] all h = let same : tallies ≡ all = cc in ap (tally_of d) (sym same)
@@ -109,7 +105,10 @@ tallies_found d tallies (spec ∷ specs) all h =
     let new = is_new tallies spec specs all h in
     let found = tallies_found d (more tallies spec) specs all new.rest in
     ⊎_elim
-    (λ (e : d ≡ spec.path). found ∙ (ap (tally_for (spec_of d specs)) (tally_here d tallies spec e) ∙ (first_either (spec_of d specs) ∙ sym (ap (λ (o : Option DbSpec). tally_for o (tally_of d tallies)) (spec_here d spec specs e)))))
+    (λ (e : d ≡ spec.path).
+    let here = tally_here d tallies spec e in
+    let alone = none_twice d (more tallies spec) specs all new.rest (ap is_some here) in
+    found ∙ (ap (λ (o : Option DbSpec). tally_for o (tally_of d (more tallies spec))) alone ∙ (here ∙ sym (ap (λ (o : Option DbSpec). tally_for o (tally_of d tallies)) (spec_here d spec specs e)))))
     (λ (ne : d ≢ spec.path). found ∙ (ap (tally_for (spec_of d specs)) (tally_there d tallies spec ne) ∙ sym (ap (λ (o : Option DbSpec). tally_for o (tally_of d tallies)) (spec_there d spec specs ne))))
     (same_name d spec.path)
 
@@ -117,6 +116,16 @@ tallies_found d tallies (spec ∷ specs) all h =
 
 abbrev pub Firsts : Type 0
 Firsts = List (ObjectPath × First)
+
+-- what there is, and what more came of it
+pub record HasMore (o : Option Firsts) (f : Firsts → Option Firsts) (objects : Firsts) : Type 0 where
+  pub more : Firsts
+  pub is : o ≡ Some more
+  pub rest : f more ≡ Some objects
+
+pub has_more : (o : Option Firsts) (f : Firsts → Option Firsts) (objects : Firsts) → and_more o f ≡ Some objects → HasMore o f objects
+has_more None f objects h = absurd cc
+has_more (Some more) f objects h = record { more = more; is = refl; rest = h }
 
 abbrev later : Option First → Option First → Option First
 later None o = o
@@ -133,7 +142,7 @@ nothing_later None (Some x) h = absurd cc
 nothing_later (Some x) b h = absurd cc
 
 -- a new object is found
-last_here : (p : ObjectPath) (v : First) (os : Firsts) → last_at p os ≡ None → last_at p (insert_entry path_cmp os p v) ≡ Some v
+pub last_here : (p : ObjectPath) (v : First) (os : Firsts) → last_at p os ≡ None → last_at p (insert_entry path_cmp os p v) ≡ Some v
 last_here p v [] h = ap (λ (b : Bool). if b then Some v else None) (finds p)
 last_here p v (o ∷ os) h = step (path_cmp p o.0) refl (last_here p v os parts.0)
   where

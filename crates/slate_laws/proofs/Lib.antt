@@ -23,6 +23,7 @@ mod Rows
 mod Trails
 mod GoingOn
 mod Beginnings
+mod OpeningRecords
 mod OpeningTables
 mod Opening
 mod Deletes

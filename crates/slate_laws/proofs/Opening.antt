@@ -1,5 +1,5 @@
 -- What holds as a run begins.
-use Rattle.std.proofs.Common.{◌≡◌, ◌≢◌, ℕ, ◌<◌, ◌^◌, Bool, true, false, List, [], ◌∷◌, Option, Some, None, is_some, Result, Ok, Err, ⊎_elim, refl, sym, ap, ◌∙◌, subst, arith}
+use Rattle.std.proofs.Common.{◌≡◌, ◌≢◌, ℕ, ◌<◌, ◌≤◌, ◌^◌, Bool, true, false, List, [], ◌∷◌, Option, Some, None, is_some, Result, Ok, Err, ⊎_elim, refl, sym, ap, ◌∙◌, subst, arith}
 use Rattle.std.proofs.lemmas.Bool.Decides.{nat_tests}
 use Rattle.std.specs.Prelude.{bytes_eq, if◌then◌else◌, not, ◌||◌, ◌==◌}
 use Rattle.std.specs.List.{list_any}
@@ -20,37 +20,44 @@ use Rattle.slate_encodable.proofs.NormalLaws.{normal_only}
 use Rattle.slate_encodable.specs.Normal.{normal_manifest, is_normal}
 use Rattle.slate_model.specs.declared.checkpoint.Checkpoint.{Checkpoint}
 use Rattle.slate_model.specs.declared.manifest.Manifest.{Manifest}
+use Rattle.slate_record_bytes.specs.Records.{decoded_record}
+use Rattle.slate_records.specs.Records.{Record}
 use Rattle.slate_events.specs.declared.cluster_cause.ClusterCause.{ClusterCause}
 use Rattle.slate_events.specs.declared.cluster_cause.ClusterCause.TheVariants as cause
 use Rattle.slate_model.specs.Selection.{are_apart}
 use Rattle.slate_events.specs.declared.db_spec.DbSpec.{DbSpec}
 use Rattle.slate_store.specs.Store.{Store, object_at}
 use Rattle.slate_store.specs.declared.object.StoredObject.{StoredObject}
-use Rattle.slate_protocol.specs.Chains.{top, bytes_of, link_bytes, AgreesAt}
+use Rattle.slate_protocol.specs.Chains.{Link, Log, IsFirst, top, bytes_of, link_bytes, AgreesAt}
 use Rattle.slate_protocol.specs.Chains.IsFirst.{Opens}
 use Rattle.slate_protocol.specs.Lawful.{IsAccepted}
-use Rattle.slate_protocol.specs.Logs.{Chain, manifests, records, log_of, opening_link, opening_manifests, opening_chains}
+use Rattle.slate_protocol.specs.Logs.{Chain, manifests, records, log_of, opening_link, opening_manifests, opening_record, record_chain, opening_records, opening_chains}
 use Rattle.slate_protocol.specs.Reach.{IsNeeded}
 use Rattle.slate_protocol.specs.Reach.IsNeeded.{Greatest, Named}
-use Rattle.slate_protocol.specs.Specs.{First, first_tally, tallies_from, are_ids_fine, and_more, bytes_where, first_bytes, firsts_from, all_tables_from, objects_of, overlaps, names_other, lacks_table, is_floor_low, cause_beside, cause_of_specs, listed_or_none, no_objects, store_from, opening_world}
+use Rattle.slate_protocol.specs.Specs.{First, first_record_number, first_tally, tallies_from, are_ids_fine, and_more, bytes_where, first_bytes, firsts_from, record_bytes, records_from, all_tables_from, objects_of, overlaps, is_epoch_high, are_outputs_wrong, names_other, cause_beside, cause_of_specs, listed_or_none, no_objects, store_from, opening_world}
 use Rattle.slate_protocol.specs.World.{World, tally_of, number_in, HasDb}
 use Rattle.slate_protocol.specs.declared.tally.Tally.{Tally}
-use Rattle.slate_laws.proofs.Beginnings.{spec_of, AllNamed, Firsts, tally_for, tallies_found, first_for, firsts_found, firsts_else, last_at, IsFound, spec_found, bytes_found, store_found, firsts_fine, store_tidy}
+use Rattle.slate_laws.proofs.Beginnings.{spec_of, AllNamed, Firsts, has_more, tally_for, tallies_found, first_for, firsts_found, firsts_else, last_at, IsFound, spec_found, bytes_found, store_found, firsts_fine, store_tidy}
 use Rattle.slate_laws.proofs.Facts.{IsCommitted, IsSound}
 use Rattle.slate_laws.proofs.Links.{same_or_not, link_here, link_there}
+use Rattle.slate_laws.proofs.OpeningRecords.{records_else, records_fine, first_record, record_for, records_found, record_has_bytes, record_read}
 use Rattle.slate_laws.proofs.OpeningTables.{IsNoTable, tables_else, tables_fine}
 use Rattle.slate_laws.proofs.Runs.{Inv}
 use Rattle.slate_laws.proofs.Stores.{IsTidy}
 
--- the objects are the first manifests, and the tables beside them
+-- the objects are the first manifests, the first records beside them, and the tables beside those
 record IsMade (specs : List DbSpec) (objects : Firsts) : Type 0 where
   pub firsts : Firsts
   pub written : firsts_from [] specs ≡ Some firsts
-  pub added : all_tables_from firsts specs ≡ Some objects
+  pub records : Firsts
+  pub recorded : records_from firsts specs ≡ Some records
+  pub added : all_tables_from records specs ≡ Some objects
 
-made_of : (specs : List DbSpec) (objects : Firsts) (o : Option Firsts) → firsts_from [] specs ≡ o → and_more o (λ (firsts : Firsts). all_tables_from firsts specs) ≡ Some objects → IsMade specs objects
-made_of specs objects None is h = absurd cc
-made_of specs objects (Some firsts) is h = record { firsts = firsts; written = is; added = h }
+made_of : (specs : List DbSpec) (objects : Firsts) → objects_of specs ≡ Some objects → IsMade specs objects
+made_of specs objects h =
+    let first = has_more (firsts_from [] specs) (λ (os : Firsts). and_more (records_from os specs) (λ (more : Firsts). all_tables_from more specs)) objects h in
+    let second = has_more (records_from first.more specs) (λ (more : Firsts). all_tables_from more specs) objects first.rest in
+    record { firsts = first.more; written = first.is; records = second.more; recorded = second.is; added = second.rest }
 
 -- what accepted databases are made of
 record Parts (specs : List DbSpec) : Type 0 where
@@ -62,22 +69,19 @@ record Parts (specs : List DbSpec) : Type 0 where
   pub own : list_any names_other specs ≡ false
   pub apart : list_any overlaps specs ≡ false
 
--- where no cause is left, the checkpoints name first versions
-names_own : (specs : List DbSpec) (objects : Firsts) → cause_beside objects specs ≡ None → list_any names_other specs ≡ false
-names_own specs objects h = by_both (list_any overlaps specs) (list_any names_other specs) h
-  where
-    by_both : (b c : Bool) → (if b then Some cause.Segments else (if c then Some cause.Checkpoints else (if list_any (lacks_table objects) specs then Some cause.Tables else (if list_any is_floor_low specs then Some cause.Floor else None)))) ≡ None → c ≡ false
-    by_both true c h = absurd cc
-    by_both false true h = absurd cc
-    by_both false false h = refl
+-- a cause that isn't told doesn't apply, nor does any after it
+past_cause : (b : Bool) (x : ClusterCause) (rest : Option ClusterCause) → (if b then Some x else rest) ≡ None → (b ≡ false) × (rest ≡ None)
+past_cause true x rest h = absurd cc
+past_cause false x rest h = (refl, h)
 
--- nor do prefixes nest
-none_overlap : (specs : List DbSpec) (objects : Firsts) → cause_beside objects specs ≡ None → list_any overlaps specs ≡ false
-none_overlap specs objects h = by_first (list_any overlaps specs) _ h
-  where
-    by_first : (b : Bool) (rest : Option ClusterCause) → (if b then Some cause.Segments else rest) ≡ None → b ≡ false
-    by_first true rest h = absurd cc
-    by_first false rest h = refl
+-- where no cause is left, prefixes don't nest and the checkpoints name first versions
+none_left : (specs : List DbSpec) (objects : Firsts) → cause_beside objects specs ≡ None → (list_any overlaps specs ≡ false) × (list_any names_other specs ≡ false)
+none_left specs objects h =
+    let segments = past_cause (list_any overlaps specs) cause.Segments _ h in
+    let epochs = past_cause (list_any is_epoch_high specs) cause.Epoch _ segments.1 in
+    let outputs = past_cause (list_any (are_outputs_wrong objects) specs) cause.Outputs _ epochs.1 in
+    let names = past_cause (list_any names_other specs) cause.Checkpoints _ outputs.1 in
+    (segments.0, names.0)
 
 parts_of : (specs : List DbSpec) → cause_of_specs specs ≡ None → Parts specs
 parts_of specs h = by_tallies (tallies_from [] specs) (are_ids_fine specs) (objects_of specs) refl refl h
@@ -85,7 +89,7 @@ parts_of specs h = by_tallies (tallies_from [] specs) (are_ids_fine specs) (obje
     by_tallies : (t : Option (List (List ℕ × Tally))) (ids : Bool) (o : Option Firsts) → tallies_from [] specs ≡ t → objects_of specs ≡ o
         → (if not (is_some t) then Some cause.Path else (if not ids then Some cause.Ids else (if not (is_some o) then Some cause.Value else cause_beside (listed_or_none o) specs))) ≡ None
         → Parts specs
-    by_tallies (Some t) true (Some o) is_t is_o h = record { tallies = t; tallied = is_t; objects = o; is = is_o; made = made_of specs o (firsts_from [] specs) refl is_o; own = names_own specs o h; apart = none_overlap specs o h }
+    by_tallies (Some t) true (Some o) is_t is_o h = let left = none_left specs o h in record { tallies = t; tallied = is_t; objects = o; is = is_o; made = made_of specs o is_o; own = left.1; apart = left.0 }
     by_tallies None ids o is_t is_o h = absurd cc
     by_tallies (Some t) false o is_t is_o h = absurd cc
     by_tallies (Some t) true None is_t is_o h = absurd cc
@@ -176,14 +180,72 @@ chains_are d (spec ∷ specs) = test (bytes_eq d spec.path) (chains_are d specs)
     test true h = refl
     test false h = h
 
+-- the chain of the first record of a database
+abbrev records_for : Option DbSpec → Chain logs.Compactions
+records_for None = []
+records_for (Some spec) = record_chain spec.compactions
+
+records_are : (d : List ℕ) (specs : List DbSpec) → opening_records specs d ≡ records_for (spec_of d specs)
+records_are d [] = refl
+records_are d (spec ∷ specs) = test (bytes_eq d spec.path) (records_are d specs)
+  where
+    test : (b : Bool) → opening_records specs d ≡ records_for (spec_of d specs) → (if b then record_chain spec.compactions else opening_records specs d) ≡ records_for (if b then Some spec else spec_of d specs)
+    test true h = refl
+    test false h = h
+
 no_bytes_there : (o : Option StoredObject) → bytes_of o ≡ None → o ≡ None
 no_bytes_there None h = refl
 no_bytes_there (Some object) h = absurd cc
 
--- an empty chain needs nothing
-none_needed : (n : ℕ) → IsNeeded records [] n → ⊥
-none_needed n (Greatest pos e) = omega arith
-none_needed n (Named named) = cc
+-- ---- a log as a run begins: without a boundary, and with its first version or none
+
+module _ {V A : Type 0} (log : Log V A) (d : List ℕ) (s : Store) (no_bound : object_at (boundary_path log.kind d) s ≡ None) where
+  untagged : (o : StoredObject) → object_at (boundary_path log.kind d) s ≡ Some o → o.e_tag ≤ s.last_tag
+  untagged o at = absurd (cc (no_bound, at))
+
+  -- an empty chain needs nothing
+  none_needed : (n : ℕ) → IsNeeded log [] n → ⊥
+  none_needed n (Greatest pos e) = omega arith
+  none_needed n (Named named) = cc
+
+  none_sound : ((n : ℕ) → n < 2 ^ 64 → object_at (version_path log.kind d n) s ≡ None) → IsSound log d s []
+  none_sound empty = record {
+    chain = tt;
+    small = omega arith;
+    bound = 0;
+    read = ap boundary_got no_bound;
+    below = λ lt. absurd (omega arith);
+    above = λ n pos small. ap bytes_of (empty n small);
+    needed = λ n h. absurd (none_needed n h);
+    tagged = untagged;
+  }
+
+  module _ (l : Link V A) (one : l.number ≡ 1) (there : bytes_of (object_at (version_path log.kind d 1) s) ≡ Some l.bytes) where
+    one_stands : ((n : ℕ) → n < 2 ^ 64 → n ≢ 1 → object_at (version_path log.kind d n) s ≡ None) → (n : ℕ) → 0 < n → n < 2 ^ 64 → AgreesAt log d s (l ∷ []) n
+    one_stands others n pos small =
+        ⊎_elim
+        (λ (e : 1 ≡ n). subst (λ j. AgreesAt log d s (l ∷ []) j) e (there ∙ sym (ap link_bytes (link_here 1 l [] one))))
+        (λ (ne : 1 ≢ n). ap bytes_of (others n small (λ (e : n ≡ 1). ne (sym e))) ∙ sym (ap link_bytes (link_there n l [] (λ (e : l.number ≡ n). ne (sym one ∙ e)))))
+        (same_or_not 1 n)
+
+    one_committed : (n : ℕ) → n ≡ 1 → IsCommitted log d s (l ∷ []) n
+    one_committed n e = subst (λ j. IsCommitted log d s (l ∷ []) j) (sym e) (record { link = l; at = link_here 1 l [] one; stands = there })
+
+    one_needed : ((n : ℕ) → log.names l.value n ≡ true → n ≡ 1) → (n : ℕ) → IsNeeded log (l ∷ []) n → IsCommitted log d s (l ∷ []) n
+    one_needed own n (Greatest pos e) = one_committed n (e ∙ one)
+    one_needed own n (Named named) = one_committed n (own n named)
+
+    one_sound : IsFirst log l → ((n : ℕ) → n < 2 ^ 64 → n ≢ 1 → object_at (version_path log.kind d n) s ≡ None) → ((n : ℕ) → log.names l.value n ≡ true → n ≡ 1) → IsSound log d s (l ∷ [])
+    one_sound first others own = record {
+      chain = first;
+      small = subst (λ (n : ℕ). n < 2 ^ 64) (sym one) (omega arith);
+      bound = 0;
+      read = ap boundary_got no_bound;
+      below = λ lt. absurd (omega arith);
+      above = one_stands others;
+      needed = one_needed own;
+      tagged = untagged;
+    }
 
 module _ (specs : List DbSpec) (accepted : IsAccepted specs) where
   abbrev w : World
@@ -207,15 +269,21 @@ module _ (specs : List DbSpec) (accepted : IsAccepted specs) where
   bytes_at : (p : ObjectPath) → bytes_of (object_at p w.store) ≡ bytes_found (last_at p parts.objects) None
   bytes_at p = ap (λ (s : Store). bytes_of (object_at p s)) store_is ∙ store_found p no_objects parts.objects
 
-  -- where no table stands, the first manifests alone are found
-  beside_tables : (p : ObjectPath) → IsNoTable p → last_at p parts.objects ≡ last_at p parts.made.firsts
-  beside_tables p other = tables_else p other parts.made.firsts specs parts.objects names parts.made.added
+  -- where no table stands, the first manifests and records alone are found
+  beside_tables : (p : ObjectPath) → IsNoTable p → last_at p parts.objects ≡ last_at p parts.made.records
+  beside_tables p other = tables_else p other parts.made.records specs parts.objects names parts.made.added
 
-  -- and where no first manifest stands either, nothing is
-  nothing_at : (p : ObjectPath) → IsNoTable p → ((db : List ℕ) → p ≢ paths.Manifest db 1) → object_at p w.store ≡ None
-  nothing_at p other away =
-      let none = firsts_else p (λ spec named same. away spec.path (same_path p (paths.Manifest spec.path 1) other.fine (named, omega arith) same)) [] specs parts.made.firsts names parts.made.written in
-      no_bytes_there (object_at p w.store) (bytes_at p ∙ ap (λ (o : Option First). bytes_found o None) (beside_tables p other ∙ none))
+  -- where no first record stands either, the first manifests alone
+  beside_records : (p : ObjectPath) → IsNoTable p → ((db : List ℕ) → p ≢ paths.Record db 1) → last_at p parts.objects ≡ last_at p parts.made.firsts
+  beside_records p other away = beside_tables p other ∙ records_else p other.fine away parts.made.firsts specs parts.made.records names parts.made.recorded
+
+  -- where no first manifest stands, there was none before the records
+  no_manifest : (p : ObjectPath) → IsNoTable p → ((db : List ℕ) → p ≢ paths.Manifest db 1) → last_at p parts.made.firsts ≡ None
+  no_manifest p other away = firsts_else p (λ spec named same. away spec.path (same_path p (paths.Manifest spec.path 1) other.fine (named, omega arith) same)) [] specs parts.made.firsts names parts.made.written
+
+  -- and where none of them stands, nothing is
+  nothing_at : (p : ObjectPath) → IsNoTable p → ((db : List ℕ) → p ≢ paths.Record db 1) → ((db : List ℕ) → p ≢ paths.Manifest db 1) → object_at p w.store ≡ None
+  nothing_at p other no_record away = no_bytes_there (object_at p w.store) (bytes_at p ∙ ap (λ (o : Option First). bytes_found o None) (beside_records p other no_record ∙ no_manifest p other away))
 
   -- what is known of a database of the cluster
   record Known (d : List ℕ) : Type 0 where
@@ -248,82 +316,96 @@ module _ (specs : List DbSpec) (accepted : IsAccepted specs) where
         let e = first_encodes it.spec.manifest it.found.bytes it.found.is in
         record { spec = it.spec; is = chain_is; encodes = e.0; normal = e.1; apart = own_apart d it.spec specs parts.apart it.at }
 
+    -- a path of this database that is no table's
+    own_path : (k : LogKind) (n : ℕ) → n < 2 ^ 64 → IsNoTable (version_path k d n)
+    own_path logs.Manifest n small = record { fine = (named, small); away = λ db id e. absurd cc }
+    own_path logs.Compactions n small = record { fine = (named, small); away = λ db id e. absurd cc }
+
     no_boundary : (k : LogKind) → object_at (boundary_path k d) w.store ≡ None
-    no_boundary logs.Manifest = nothing_at (paths.ManifestBoundary d) (record { fine = named; away = λ db id e. absurd cc }) (λ db e. absurd cc)
-    no_boundary logs.Compactions = nothing_at (paths.RecordBoundary d) (record { fine = named; away = λ db id e. absurd cc }) (λ db e. absurd cc)
+    no_boundary logs.Manifest = nothing_at (paths.ManifestBoundary d) (record { fine = named; away = λ db id e. absurd cc }) (λ db e. absurd cc) (λ db e. absurd cc)
+    no_boundary logs.Compactions = nothing_at (paths.RecordBoundary d) (record { fine = named; away = λ db id e. absurd cc }) (λ db e. absurd cc) (λ db e. absurd cc)
 
-    no_record : (n : ℕ) → n < 2 ^ 64 → object_at (paths.Record d n) w.store ≡ None
-    no_record n small = nothing_at (paths.Record d n) (record { fine = (named, small); away = λ db id e. absurd cc }) (λ db e. absurd cc)
+    -- nothing stands at another number than the first
+    no_other : (k : LogKind) (n : ℕ) → n < 2 ^ 64 → n ≢ 1 → object_at (version_path k d n) w.store ≡ None
+    no_other logs.Manifest n small ne = nothing_at (paths.Manifest d n) (own_path logs.Manifest n small) (λ db e. absurd cc) (λ db e. ne cc)
+    no_other logs.Compactions n small ne = nothing_at (paths.Record d n) (own_path logs.Compactions n small) (λ db e. ne cc) (λ db e. absurd cc)
 
-    manifest_other : (n : ℕ) → n < 2 ^ 64 → IsNoTable (paths.Manifest d n)
-    manifest_other n small = record { fine = (named, small); away = λ db id e. absurd cc }
-
-    no_other : (n : ℕ) → n < 2 ^ 64 → n ≢ 1 → object_at (paths.Manifest d n) w.store ≡ None
-    no_other n small ne = nothing_at (paths.Manifest d n) (manifest_other n small) (λ db e. ne cc)
+    -- ---- the log of manifests
 
     first_there : bytes_of (object_at (paths.Manifest d 1) w.store) ≡ Some (listed_or_none (first_bytes it.spec.manifest))
     first_there =
         bytes_at (paths.Manifest d 1)
-        ∙ (ap (λ (o : Option First). bytes_found o None) (beside_tables (paths.Manifest d 1) (manifest_other 1 (omega arith)) ∙ firsts_found d named [] [] specs parts.tallies parts.made.firsts names parts.tallied parts.made.written (λ h. refl))
+        ∙ (ap (λ (o : Option First). bytes_found o None)
+        (beside_records (paths.Manifest d 1) (own_path logs.Manifest 1 (omega arith)) (λ db e. absurd cc) ∙ firsts_found d named [] [] specs parts.tallies parts.made.firsts names parts.tallied parts.made.written (λ h. refl))
         ∙ ap (λ (o : Option DbSpec). bytes_found (first_for o None) None) it.at)
 
-    first_stands : (n : ℕ) → 0 < n → n < 2 ^ 64 → AgreesAt manifests d w.store chain n
-    first_stands n pos small =
-        ⊎_elim
-        (λ (e : 1 ≡ n). subst (λ j. AgreesAt manifests d w.store chain j) e (first_there ∙ sym (ap link_bytes (link_here 1 (opening_link it.spec) [] refl))))
-        (λ (ne : 1 ≢ n). ap bytes_of (no_other n small (λ (e : n ≡ 1). ne (sym e))) ∙ sym (ap link_bytes (link_there n (opening_link it.spec) [] ne)))
-        (same_or_not 1 n)
-
-    first_committed : (n : ℕ) → n ≡ 1 → IsCommitted manifests d w.store chain n
-    first_committed n e = subst (λ j. IsCommitted manifests d w.store chain j) (sym e) (record { link = opening_link it.spec; at = link_here 1 (opening_link it.spec) [] refl; stands = first_there })
-
-    needed : (n : ℕ) → IsNeeded manifests chain n → IsCommitted manifests d w.store chain n
-    needed n (Greatest pos e) = first_committed n e
-    needed n (Named named) = first_committed n (names_first n it.spec.manifest.core.checkpoints (own_names d it.spec specs parts.own it.at) named)
-
     manifests_sound : IsSound manifests d w.store chain
-    manifests_sound = record {
-      chain = Opens refl refl (ap (λ (o : Option (List ℕ)). decoded_manifest (listed_or_none o)) it.found.is ∙ first_read it.spec.manifest it.found.bytes it.found.is);
-      small = omega arith;
-      bound = 0;
-      read = ap boundary_got (no_boundary logs.Manifest);
-      below = λ lt. absurd (omega arith);
-      above = first_stands;
-      needed = needed;
-      tagged = λ o at. absurd (cc (no_boundary logs.Manifest, at));
-    }
+    manifests_sound =
+        one_sound manifests d w.store (no_boundary logs.Manifest) (opening_link it.spec) refl first_there
+        (Opens refl refl (ap (λ (o : Option (List ℕ)). decoded_manifest (listed_or_none o)) it.found.is ∙ first_read it.spec.manifest it.found.bytes it.found.is))
+        (no_other logs.Manifest)
+        (λ n named. names_first n it.spec.manifest.core.checkpoints (own_names d it.spec specs parts.own it.at) named)
+
+    -- ---- the log of records
+
+    -- the bytes of the first record, where there is one
+    abbrev bytes_for : Option Record → Option (List ℕ)
+    bytes_for None = None
+    bytes_for (Some r) = Some (listed_or_none (record_bytes r))
+
+    bytes_told : (o : Option Record) → bytes_found (first_record it.spec o) None ≡ bytes_for o
+    bytes_told None = refl
+    bytes_told (Some r) = refl
+
+    record_there : bytes_of (object_at (paths.Record d 1) w.store) ≡ bytes_for it.spec.compactions
+    record_there =
+        let absent = no_manifest (paths.Record d 1) (own_path logs.Compactions 1 (omega arith)) (λ db e. absurd cc) in
+        let found = records_found d named [] parts.made.firsts specs parts.tallies parts.made.records names parts.tallied parts.made.recorded absent in
+        bytes_at (paths.Record d 1)
+        ∙ (ap (λ (o : Option First). bytes_found o None) (beside_tables (paths.Record d 1) (own_path logs.Compactions 1 (omega arith)) ∙ found)
+        ∙ (ap (λ (o : Option DbSpec). bytes_found (record_for o) None) it.at ∙ bytes_told it.spec.compactions))
+
+    records_chain_is : opening_records specs d ≡ record_chain it.spec.compactions
+    records_chain_is = records_are d specs ∙ ap records_for it.at
+
+    records_sound : (o : Option Record) → it.spec.compactions ≡ o → IsSound records d w.store (record_chain o)
+    records_sound None is =
+        let first = no_bytes_there (object_at (paths.Record d 1) w.store) (record_there ∙ ap bytes_for is) in
+        none_sound records d w.store (no_boundary logs.Compactions)
+        (λ n small. ⊎_elim (λ (e : 1 ≡ n). subst (λ j. object_at (paths.Record d j) w.store ≡ None) e first) (λ (ne : 1 ≢ n). no_other logs.Compactions n small (λ (e : n ≡ 1). ne (sym e))) (same_or_not 1 n))
+    records_sound (Some r) is =
+        let has = record_has_bytes d parts.made.firsts specs parts.made.records it.spec r parts.made.recorded it.at is in
+        one_sound records d w.store (no_boundary logs.Compactions) (opening_record r) refl (record_there ∙ ap bytes_for is)
+        (Opens refl refl (ap (λ (o : Option (List ℕ)). decoded_record (listed_or_none o)) has.is ∙ record_read r has.bytes has.is))
+        (no_other logs.Compactions)
+        (λ n named. absurd cc)
 
     sound : (k : LogKind) → IsSound (log_of k) d w.store (opening_chains specs k d)
     sound logs.Manifest = subst (λ (c : Chain logs.Manifest). IsSound manifests d w.store c) (sym chain_is) manifests_sound
-    sound logs.Compactions = record {
-      chain = tt;
-      small = omega arith;
-      bound = 0;
-      read = ap boundary_got (no_boundary logs.Compactions);
-      below = λ lt. absurd (omega arith);
-      above = λ n pos small. ap bytes_of (no_record n small);
-      needed = λ n h. absurd (none_needed n h);
-      tagged = λ o at. absurd (cc (no_boundary logs.Compactions, at));
-    }
+    sound logs.Compactions = subst (λ (c : Chain logs.Compactions). IsSound records d w.store c) (sym records_chain_is) (records_sound it.spec.compactions refl)
 
     tally_top : (k : LogKind) (t : Tally) → tally_of d w.tallies ≡ Some t → number_in k t ≡ top (opening_chains specs k d)
     tally_top k t h = by_log k
       where
-        same : first_tally ≡ t
+        same : first_tally it.spec ≡ t
         same = cc (tally_is d ∙ ap (λ (o : Option DbSpec). tally_for o None) it.at, h)
+
+        record_top : (o : Option Record) → first_record_number o ≡ top (record_chain o)
+        record_top None = refl
+        record_top (Some r) = refl
 
         by_log : (k : LogKind) → number_in k t ≡ top (opening_chains specs k d)
         by_log logs.Manifest = sym (ap (λ (x : Tally). x.manifest) same) ∙ sym (ap top chain_is)
-        by_log logs.Compactions = sym (ap (λ (x : Tally). x.compactions) same)
+        by_log logs.Compactions = sym (ap (λ (x : Tally). x.compactions) same) ∙ (record_top it.spec.compactions ∙ sym (ap top records_chain_is))
 
   -- nothing stands at the number 0
   pub no_zero : (k : LogKind) (d : List ℕ) → HasDb w d → object_at (version_path k d 0) w.store ≡ None
-  no_zero logs.Manifest d has = no_other d has 0 (omega arith) (omega arith)
-  no_zero logs.Compactions d has = no_record d has 0 (omega arith)
+  no_zero k d has = no_other d has k 0 (omega arith) (omega arith)
 
   pub opening_inv : Inv w (opening_chains specs)
   opening_inv = record {
-    tidy = subst (λ (s : Store). IsTidy s.objects) (sym store_is) (store_tidy no_objects parts.objects (tables_fine parts.made.firsts specs parts.objects names parts.made.added (firsts_fine [] specs parts.made.firsts names parts.made.written tt)) tt);
+    tidy = subst (λ (s : Store). IsTidy s.objects) (sym store_is) (store_tidy no_objects parts.objects (tables_fine parts.made.records specs parts.objects names parts.made.added
+        (records_fine parts.made.firsts specs parts.made.records names parts.made.recorded (firsts_fine [] specs parts.made.firsts names parts.made.written tt))) tt);
     named = λ d h. named d h;
     logs = λ k d h. sound d h k;
     told = λ k d t h. tally_top d (ap is_some h) k t h;

@@ -1,8 +1,6 @@
 -- The tables that stand as a run begins: they are at paths of their own.
-use Rattle.std.proofs.Common.{◌≡◌, ◌≢◌, ℕ, ◌^◌, true, List, [], ◌∷◌, Option, Some, None, refl, ◌∙◌, subst, arith}
+use Rattle.std.proofs.Common.{◌≡◌, ◌≢◌, ℕ, true, List, [], ◌∷◌, Option, Some, None, refl, ◌∙◌, subst}
 use Rattle.std.proofs.lemmas.Bool.{and_parts}
-use Rattle.std.proofs.lemmas.Bool.Decides.{nat_tests}
-use Rattle.std.specs.Prelude.{nat_lt}
 use Rattle.std.specs.List.{list_all}
 use Rattle.std.specs.BTreeMap.{insert_entry}
 use Rattle.slate_ids.specs.FinePath.{IsFine}
@@ -13,10 +11,10 @@ use Rattle.slate_ids.specs.declared.object_path.ObjectPath.TheVariants as paths
 use Rattle.slate_ids.proofs.PathsApart.{same_path}
 use Rattle.slate_tables.specs.declared.ss_table_info.SsTableInfo.{SsTableInfo}
 use Rattle.slate_events.specs.declared.db_spec.DbSpec.{DbSpec}
-use Rattle.slate_protocol.specs.Specs.{First, and_more, table_bytes, table_added, tables_from, all_tables_from}
+use Rattle.slate_protocol.specs.Specs.{First, table_bytes, table_added, tables_from, all_tables_from}
 use Rattle.slate_ids.specs.Ulids.{is_id}
 use Rattle.slate_laws.proofs.Paths.{ulid_back}
-use Rattle.slate_laws.proofs.Beginnings.{AllNamed, Firsts, last_at, last_else, named_parts, AllFine, fine_put}
+use Rattle.slate_laws.proofs.Beginnings.{AllNamed, Firsts, has_more, last_at, last_else, named_parts, AllFine, fine_put}
 
 abbrev Table : Type 0
 Table = (ℕ × ℕ) × SsTableInfo
@@ -24,16 +22,6 @@ Table = (ℕ × ℕ) × SsTableInfo
 -- the ids of tables are ids
 abbrev AllIds : List Table → Type 0
 AllIds tables = list_all (λ t. is_id t.0) tables ≡ true
-
--- what there is, and what more came of it
-record HasMore (o : Option Firsts) (f : Firsts → Option Firsts) (objects : Firsts) : Type 0 where
-  pub more : Firsts
-  pub is : o ≡ Some more
-  pub rest : f more ≡ Some objects
-
-has_more : (o : Option Firsts) (f : Firsts → Option Firsts) (objects : Firsts) → and_more o f ≡ Some objects → HasMore o f objects
-has_more None f objects h = absurd cc
-has_more (Some more) f objects h = record { more = more; is = refl; rest = h }
 
 -- what each table that is added keeps, all of them keep
 module _ (P : Firsts → Type 0) (keeps : (db : List ℕ) (id : ℕ × ℕ) (v : First) (os : Firsts) → IsFine (paths.Table db id) → P os → P (insert_entry path_cmp os (paths.Table db id) v)) where

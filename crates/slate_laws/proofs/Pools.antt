@@ -6,7 +6,7 @@ use Rattle.std.proofs.lemmas.List.Folds.{list_any-append}
 use Rattle.std.proofs.lemmas.Map.Text.{is_eq-slice_cmp}
 use Rattle.std.specs.Prelude.{if◌then◌else◌, ◌&&◌, ◌||◌, bytes_eq, option_to_list}
 use Rattle.std.specs.Cmp.Lexicographic.{slice_cmp}
-use Rattle.std.specs.List.{list_any, list_all, flat_map}
+use Rattle.std.specs.List.{list_any, flat_map}
 use Rattle.std.specs.Map.{lookup, set_value}
 use Rattle.std.specs.BTreeMap.{is_at, insert_entry}
 use Rattle.std.specs.Ordering.{nat_cmp, is_eq, ordering_then}
@@ -22,7 +22,7 @@ use Rattle.slate_events.specs.declared.db_spec.DbSpec.{DbSpec}
 use Rattle.slate_protocol.specs.Calls.{fresh_checkpoints, named_checkpoints, fresh_ulids, named_ulids}
 use Rattle.slate_protocol.specs.Done.{is_pin, entry_names, opening_names, call_names, opening_names_ulid, call_names_ulid}
 use Rattle.slate_protocol.specs.Ids.{Pool, checkpoint_cmp, is_carried, brought_by, only_named, only_pinned, ids_of, with_id, with_ids, carried_again}
-use Rattle.slate_protocol.specs.Specs.{and_more, first_tally, tallies_from, ids_from, checkpoints_from, tables_seen_from, are_trees_in_order, are_ids_fine, objects_of, cause_beside, listed_or_none, entry_checkpoints, spec_ulids, opening_carried, opening_world, cause_of_specs}
+use Rattle.slate_protocol.specs.Specs.{and_more, first_tally, tallies_from, ids_from, checkpoints_from, are_ulids_fine, are_ids_fine, objects_of, cause_beside, listed_or_none, entry_checkpoints, spec_ulids, opening_carried, opening_world, cause_of_specs}
 use Rattle.slate_protocol.specs.World.{tally_of}
 use Rattle.slate_protocol.specs.declared.carrier.Carrier.{Carrier}
 use Rattle.slate_protocol.specs.declared.tally.Tally.{Tally}
@@ -149,17 +149,17 @@ module _ (d : List ℕ) where
   databases_from : (tallies : List (List ℕ × Tally)) (specs : List DbSpec) (all : List (List ℕ × Tally)) → tallies_from tallies specs ≡ Some all
       → is_some (tally_of d all) ≡ (is_some (tally_of d tallies) || list_any (λ (spec : DbSpec). bytes_eq d spec.path) specs)
   databases_from tallies [] all h = ap (λ (ts : List (List ℕ × Tally)). is_some (tally_of d ts)) (sym (some_is tallies all h)) ∙ sym (or_false (is_some (tally_of d tallies)))
-  databases_from tallies (spec ∷ specs) all h = test (is_some (tally_of spec.path tallies)) h (databases_from (insert_entry (slice_cmp nat_cmp) tallies spec.path first_tally) specs all)
+  databases_from tallies (spec ∷ specs) all h = test (is_some (tally_of spec.path tallies)) h (databases_from (insert_entry (slice_cmp nat_cmp) tallies spec.path (first_tally spec)) specs all)
     where
-      test : (b : Bool) → (if b then None else tallies_from (insert_entry (slice_cmp nat_cmp) tallies spec.path first_tally) specs) ≡ Some all
-          → (tallies_from (insert_entry (slice_cmp nat_cmp) tallies spec.path first_tally) specs ≡ Some all
-          → is_some (tally_of d all) ≡ (is_some (tally_of d (insert_entry (slice_cmp nat_cmp) tallies spec.path first_tally)) || list_any (λ (spec : DbSpec). bytes_eq d spec.path) specs))
+      test : (b : Bool) → (if b then None else tallies_from (insert_entry (slice_cmp nat_cmp) tallies spec.path (first_tally spec)) specs) ≡ Some all
+          → (tallies_from (insert_entry (slice_cmp nat_cmp) tallies spec.path (first_tally spec)) specs ≡ Some all
+          → is_some (tally_of d all) ≡ (is_some (tally_of d (insert_entry (slice_cmp nat_cmp) tallies spec.path (first_tally spec))) || list_any (λ (spec : DbSpec). bytes_eq d spec.path) specs))
           → is_some (tally_of d all) ≡ (is_some (tally_of d tallies) || list_any (λ (spec : DbSpec). bytes_eq d spec.path) (spec ∷ specs))
       test true h rest = absurd cc
       test false h rest =
           rest h
           ∙ (ap (λ (b : Bool). b || list_any (λ (spec : DbSpec). bytes_eq d spec.path) specs)
-          (insert_has (slice_cmp nat_cmp) name_order d spec.path first_tally tallies ∙ ap (λ (b : Bool). is_some (tally_of d tallies) || b) (is_eq-slice_cmp d spec.path))
+          (insert_has (slice_cmp nat_cmp) name_order d spec.path (first_tally spec) tallies ∙ ap (λ (b : Bool). is_some (tally_of d tallies) || b) (is_eq-slice_cmp d spec.path))
           ∙ or_assoc (is_some (tally_of d tallies)) (bytes_eq d spec.path) (list_any (λ (spec : DbSpec). bytes_eq d spec.path) specs))
 
 -- the ids of checkpoints
@@ -261,7 +261,7 @@ are_apart specs h = by_paths (is_some (tallies_from [] specs)) refl h
     by_paths : (b : Bool) → is_some (tallies_from [] specs) ≡ b
         → (if not b then Some cause.Path else (if not (are_ids_fine specs) then Some cause.Ids
         else (if not (is_some (objects_of specs)) then Some cause.Value else cause_beside (listed_or_none (objects_of specs)) specs))) ≡ None → AreApart specs
-    by_paths true is h = by_ids (is_some (checkpoints_from [] specs)) (is_some (tables_seen_from [] specs) && list_all are_trees_in_order specs) refl is _ h
+    by_paths true is h = by_ids (is_some (checkpoints_from [] specs)) (are_ulids_fine specs) refl is _ h
     by_paths false is h = absurd cc
 
 -- what there is

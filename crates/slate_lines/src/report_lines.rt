@@ -197,6 +197,8 @@ pub fn push_cause(out: &mut String, cause: ClusterCause) -> Result<(), AllocErro
         ClusterCause::Ids => out.push_str("ids"),
         ClusterCause::Value => out.push_str("value"),
         ClusterCause::Segments => out.push_str("segments"),
+        ClusterCause::Epoch => out.push_str("epoch"),
+        ClusterCause::Outputs => out.push_str("outputs"),
         ClusterCause::Checkpoints => out.push_str("checkpoints"),
         ClusterCause::Tables => out.push_str("tables"),
         ClusterCause::Floor => out.push_str("floor"),

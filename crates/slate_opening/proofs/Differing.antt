@@ -1,5 +1,5 @@
 -- Notes of what came before find nothing exactly where nothing comes twice.
-use Rattle.std.proofs.Common.{◌≡◌, ℕ, ◌||◌, Bool, true, false, List, [], ◌∷◌, ◌++◌, map, Option, Some, None, is_some, refl, sym, ap, ◌∙◌, arith}
+use Rattle.std.proofs.Common.{◌≡◌, ℕ, ◌||◌, Bool, true, false, List, [], ◌∷◌, ◌++◌, Option, Some, None, is_some, refl, sym, ap, ◌∙◌, arith}
 use Rattle.std.proofs.lemmas.Bool.Decides.{nat_tests}
 use Rattle.std.proofs.lemmas.Map.Text.{is_eq-slice_cmp}
 use Rattle.std.proofs.lemmas.Slice.Eq.{bytes_eq-Decides}
@@ -18,8 +18,8 @@ use Rattle.slate_events.specs.declared.db_spec.DbSpec.{DbSpec}
 use Rattle.slate_protocol.specs.Ids.{Pool, checkpoint_cmp, is_carried, only_named}
 use Rattle.slate_protocol.specs.World.{db_cmp, tally_of}
 use Rattle.slate_protocol.specs.declared.tally.Tally.{Tally}
-use Rattle.slate_protocol.specs.Specs.{and_more, seen_from, is_seen, tables_seen_from, ids_from, checkpoints_from, tallies_from, first_tally}
-use Rattle.slate_opening.specs.Differing.{have_one_path, have_one_id, all_checkpoints, all_table_ids}
+use Rattle.slate_protocol.specs.Specs.{and_more, seen_from, is_seen, ids_from, checkpoints_from, tallies_from, first_tally}
+use Rattle.slate_opening.specs.Differing.{have_one_path, have_one_id, all_checkpoints}
 
 -- ---- notes of any kind
 
@@ -156,9 +156,9 @@ abbrev pub Tallies : Type 0
 Tallies = List (List ℕ × Tally)
 
 path_grows : (tallies : Tallies) (k q : DbSpec)
-    → is_some (tally_of q.path (insert_entry db_cmp tallies k.path first_tally)) ≡ (have_one_path k q || is_some (tally_of q.path tallies))
+    → is_some (tally_of q.path (insert_entry db_cmp tallies k.path (first_tally k))) ≡ (have_one_path k q || is_some (tally_of q.path tallies))
 path_grows tallies k q =
-    entry_grows db_cmp one_name tallies k.path first_tally q.path ∙ ap (λ t. t || is_some (tally_of q.path tallies)) (is_eq-slice_cmp q.path k.path)
+    entry_grows db_cmp one_name tallies k.path (first_tally k) q.path ∙ ap (λ t. t || is_some (tally_of q.path tallies)) (is_eq-slice_cmp q.path k.path)
 
 -- ---- the definitions are such notes
 
@@ -180,7 +180,7 @@ ids_noted carried [] = refl
 ids_noted carried (c ∷ cs) = ap (λ (r : Option Notes). if is_carried checkpoint_cmp c.id carried then None else r) (ids_noted (note_checkpoint carried c) cs)
 
 abbrev pub note_path : Tallies → DbSpec → Tallies
-note_path tallies spec = insert_entry db_cmp tallies spec.path first_tally
+note_path tallies spec = insert_entry db_cmp tallies spec.path (first_tally spec)
 
 abbrev pub has_path : DbSpec → Tallies → Bool
 has_path spec tallies = is_some (tally_of spec.path tallies)
@@ -189,25 +189,9 @@ tallies_noted : (tallies : Tallies) (specs : List DbSpec) → tallies_from talli
 tallies_noted tallies [] = refl
 tallies_noted tallies (spec ∷ specs) = ap (λ (r : Option Tallies). if has_path spec tallies then None else r) (tallies_noted (note_path tallies spec) specs)
 
--- ids, and then others
-seen_append : (seen xs ys : List (ℕ × ℕ)) → and_more (seen_from seen xs) (λ more. seen_from more ys) ≡ seen_from seen (xs ++ ys)
-seen_append seen [] ys = refl
-seen_append seen (x ∷ xs) ys = by (is_seen x seen) (seen_append (note_id seen x) xs ys)
-  where
-    by : (b : Bool) → and_more (seen_from (note_id seen x) xs) (λ more. seen_from more ys) ≡ seen_from (note_id seen x) (xs ++ ys)
-        → and_more (if b then None else seen_from (note_id seen x) xs) (λ more. seen_from more ys) ≡ (if b then None else seen_from (note_id seen x) (xs ++ ys))
-    by true rest = refl
-    by false rest = rest
-
 more_same : {X : Type 0} (o : Option X) (f g : X → Option X) → ((x : X) → f x ≡ g x) → and_more o f ≡ and_more o g
 more_same None f g h = refl
 more_same (Some x) f g h = h x
-
-tables_noted : (seen : List (ℕ × ℕ)) (specs : List DbSpec) → tables_seen_from seen specs ≡ seen_from seen (all_table_ids specs)
-tables_noted seen [] = refl
-tables_noted seen (spec ∷ specs) =
-    more_same (seen_from seen (map (λ t. t.0) spec.tables)) (λ more. tables_seen_from more specs) (λ more. seen_from more (all_table_ids specs)) (λ more. tables_noted more specs)
-    ∙ seen_append seen (map (λ t. t.0) spec.tables) (all_table_ids specs)
 
 -- checkpoints, and then others
 ids_append : (carried : Notes) (xs ys : List Checkpoint) → and_more (ids_from carried xs) (λ more. ids_from more ys) ≡ ids_from carried (xs ++ ys)
@@ -246,9 +230,6 @@ told a b D e h = ((λ is. h.0 (sym (ap is_some e) ∙ is)), λ d. ap is_some e �
 
 pub ids_apart : (ids : List (ℕ × ℕ)) → (is_some (seen_from [] ids) ≡ true) ↔ IsDistinct same_id ids
 ids_apart ids = told (seen_from [] ids) (noted is_seen note_id [] ids) (IsDistinct same_id ids) (seen_noted [] ids) (apart_from is_seen note_id same_id id_grows [] ids (none_seen ids))
-
-pub tables_apart : (specs : List DbSpec) → (is_some (tables_seen_from [] specs) ≡ true) ↔ IsDistinct same_id (all_table_ids specs)
-tables_apart specs = told (tables_seen_from [] specs) (seen_from [] (all_table_ids specs)) (IsDistinct same_id (all_table_ids specs)) (tables_noted [] specs) (ids_apart (all_table_ids specs))
 
 all_apart : (cs : List Checkpoint) → (is_some (ids_from [] cs) ≡ true) ↔ IsDistinct have_one_id cs
 all_apart cs = told (ids_from [] cs) (noted is_noted note_checkpoint [] cs) (IsDistinct have_one_id cs) (ids_noted [] cs) (apart_from is_noted note_checkpoint have_one_id checkpoint_grows [] cs (none_carried cs))

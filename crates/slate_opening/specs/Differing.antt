@@ -1,5 +1,5 @@
--- What may not come twice among databases: paths, checkpoints by their ids, and ids of tables.
-use Rattle.std.specs.Prelude.{ℕ, Bool, List, map, bytes_eq}
+-- What may not come twice among databases: paths, and checkpoints by their ids.
+use Rattle.std.specs.Prelude.{Bool, List, bytes_eq}
 use Rattle.std.specs.List.{flat_map}
 use Rattle.slate_model.specs.declared.checkpoint.Checkpoint.{Checkpoint}
 use Rattle.slate_events.specs.declared.db_spec.DbSpec.{DbSpec}
@@ -15,7 +15,3 @@ have_one_id a b = bytes_eq b.id a.id
 -- the checkpoints of all databases
 abbrev pub all_checkpoints : List DbSpec → List Checkpoint
 all_checkpoints specs = flat_map (λ (spec : DbSpec). spec.manifest.core.checkpoints) specs
-
--- the ids of the tables of all databases
-abbrev pub all_table_ids : List DbSpec → List (ℕ × ℕ)
-all_table_ids specs = flat_map (λ (spec : DbSpec). map (λ t. t.0) spec.tables) specs

@@ -1,12 +1,20 @@
 //! Why databases whose values have bytes can't be the beginning of a run.
-ghost use Rattle.std.specs.Prelude.{◌≡◌};
+ghost use Rattle.std.specs.Prelude.{◌≡◌, is_some};
 ghost use Rattle.std.specs.List.{list_any};
 ghost use Rattle.slate_protocol.specs.Specs as opens;
+ghost use Rattle.slate_record_updates.specs.RecordRules.{table_refusal};
 
 use crate::objects::Objects;
 use slate_events::{ClusterCause, DbSpec};
 use slate_ids::{DbPath, ObjectPath};
-use slate_model::{ExternalDb, Segment, SsTableId};
+use slate_model::{Compaction, Compactions, ExternalDb, Segment, SsTableHandle, SsTableId};
+
+// Whether one of the objects is at a path.
+fn is_there(objects: &Objects, path: &ObjectPath) -> bool
+    ensures { result ≡ opens.is_there path.now objects.now.entries }
+{
+    objects.contains_key(path)
+}
 
 // Whether a segment's prefix begins with another's.
 fn overlaps(spec: &DbSpec) -> bool
@@ -20,6 +28,90 @@ fn one_overlaps(specs: &[DbSpec]) -> bool
     ensures { result ≡ list_any opens.overlaps specs.now }
 {
     specs.iter().any(|spec| overlaps(spec))
+}
+
+// Whether the epoch of the database's record is above the compactor epoch of its manifest.
+fn is_epoch_high(spec: &DbSpec) -> bool
+    ensures { result ≡ opens.is_epoch_high spec.now }
+{
+    match &spec.compactions {
+        None => false,
+        Some(record) => record.compactor_epoch > spec.manifest.compactor_epoch,
+    }
+}
+
+// Whether this holds of one of the databases.
+fn one_epoch_is_high(specs: &[DbSpec]) -> bool
+    ensures { result ≡ list_any opens.is_epoch_high specs.now }
+{
+    specs.iter().any(|spec| is_epoch_high(spec))
+}
+
+// Whether a table is older than these milliseconds.
+fn is_older(ms: u64, id: &SsTableId) -> bool
+    ensures { result ≡ is_some (table_refusal ms id.now) }
+{
+    match id {
+        SsTableId::Wal(_) => false,
+        SsTableId::Compacted(ulid) => ulid.timestamp_ms() < ms,
+    }
+}
+
+// Whether a table isn't among the objects, at the database's own path.
+fn is_output_absent(objects: &Objects, spec: &DbSpec, id: &SsTableId) -> bool
+    ensures { result ≡ opens.is_output_absent objects.now.entries spec.now id.now }
+{
+    match id {
+        SsTableId::Wal(_) => false,
+        SsTableId::Compacted(ulid) => !is_there(objects, &ObjectPath::Table(spec.path, *ulid)),
+    }
+}
+
+// Whether an output of a compaction of these milliseconds is older than it, or absent.
+fn is_output_wrong(objects: &Objects, spec: &DbSpec, ms: u64, sst: &SsTableHandle) -> bool
+    ensures { result ≡ opens.is_output_wrong objects.now.entries spec.now ms sst.now }
+{
+    is_older(ms, &sst.id) || is_output_absent(objects, spec, &sst.id)
+}
+
+// Whether a compaction has such an output.
+fn has_wrong_output(objects: &Objects, spec: &DbSpec, compaction: &Compaction) -> bool
+    ensures { result ≡ opens.has_wrong_output objects.now.entries spec.now compaction.now }
+{
+    let ms = compaction.id.timestamp_ms();
+    let outputs = compaction.output_ssts.as_slice();
+    outputs
+        .iter()
+        .any(|sst| is_output_wrong(objects, spec, ms, sst))
+}
+
+// Whether one of a record's compactions has.
+fn record_has_wrong(objects: &Objects, spec: &DbSpec, record: &Compactions) -> bool
+    ensures { result ≡ list_any (opens.has_wrong_output objects.now.entries spec.now) record.now.entries }
+{
+    for compaction in record.iter() {
+        if has_wrong_output(objects, spec, compaction) {
+            return true;
+        }
+    }
+    false
+}
+
+// Whether one of the database's compactions has.
+fn are_outputs_wrong(objects: &Objects, spec: &DbSpec) -> bool
+    ensures { result ≡ opens.are_outputs_wrong objects.now.entries spec.now }
+{
+    match &spec.compactions {
+        None => false,
+        Some(record) => record_has_wrong(objects, spec, record),
+    }
+}
+
+// Whether this holds of one of the databases.
+fn one_has_wrong_outputs(objects: &Objects, specs: &[DbSpec]) -> bool
+    ensures { result ≡ list_any (opens.are_outputs_wrong objects.now.entries) specs.now }
+{
+    specs.iter().any(|spec| are_outputs_wrong(objects, spec))
 }
 
 // Whether a checkpoint of the database names another version than the first.
@@ -47,13 +139,6 @@ fn home_of(own: DbPath, id: &SsTableId, entries: &[ExternalDb]) -> DbPath
         }
     }
     own
-}
-
-// Whether one of the objects is at a path.
-fn is_there(objects: &Objects, path: &ObjectPath) -> bool
-    ensures { result ≡ opens.is_there path.now objects.now.entries }
-{
-    objects.contains_key(path)
 }
 
 // Whether a table of a tree isn't among the objects.
@@ -108,6 +193,12 @@ pub(crate) fn cause_beside(objects: &Objects, specs: &[DbSpec]) -> Option<Cluste
 {
     if one_overlaps(specs) {
         return Some(ClusterCause::Segments);
+    }
+    if one_epoch_is_high(specs) {
+        return Some(ClusterCause::Epoch);
+    }
+    if one_has_wrong_outputs(objects, specs) {
+        return Some(ClusterCause::Outputs);
     }
     if one_names_other(specs) {
         return Some(ClusterCause::Checkpoints);

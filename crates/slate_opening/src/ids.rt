@@ -1,15 +1,15 @@
-//! The ids that databases bring as a run begins: none comes twice, and those of runs fall.
-ghost use Rattle.std.specs.Prelude.{◌≡◌, ◌&&◌, [], Some, None, map, is_some, IfOk, if◌then◌else◌};
-ghost use Rattle.std.specs.List.{list_all};
+//! The ids of tables, compactions, views and runs as a run begins: none comes twice, and those of runs fall.
+ghost use Rattle.std.specs.Prelude.{◌≡◌, ◌++◌, [], Some, None, map, IfOk, OnOk, if◌then◌else◌};
+ghost use Rattle.std.specs.List.{list_all, flat_map};
 ghost use Rattle.slate_protocol.specs.Specs as opens;
 
 use slate_events::DbSpec;
 use slate_ids::{OutOfMemory, Ulid};
-use slate_model::{LsmTreeState, SortedRun, SsTableInfo, SsTableView};
+use slate_model::{Compactions, LsmTreeState, SortedRun, SsTableView};
 use std::alloc::Global;
 use std::collections::{BTreeSet, VecDeque};
 
-/// Ids of tables or views, in order.
+/// Ids of tables, compactions or views, in order.
 type Seen = BTreeSet<(u64, u128)>;
 
 // The parts of an id, by which ids are ordered.
@@ -34,29 +34,56 @@ fn add_once(seen: &mut Seen, ids: &[Ulid]) -> Result<bool, OutOfMemory>
     Ok(true)
 }
 
-// The ids of tables, in order.
-fn table_ids(alloc: Global, tables: &[(Ulid, SsTableInfo)]) -> Result<Vec<Ulid>, OutOfMemory>
-    ensures { IfOk result (λ ids. ids.items ≡ map (λ t. t.0) tables.now) }
+// Adds the ids of a database's tables.
+fn push_table_ids(ids: &mut Vec<Ulid>, spec: &DbSpec) -> Result<(), OutOfMemory>
+    ensures { OnOk result (ids.new.items ≡ ids.old.items ++ opens.table_ids spec.now) }
+{
+    for table in spec.tables.as_slice() {
+        ids.push(table.0)?;
+    }
+    Ok(())
+}
+
+// The ids of all tables, database by database.
+fn all_table_ids(alloc: Global, specs: &[DbSpec]) -> Result<Vec<Ulid>, OutOfMemory>
+    ensures { IfOk result (λ ids. ids.items ≡ flat_map opens.table_ids specs.now) }
 {
     let mut ids = Vec::new(alloc);
-    for table in tables {
-        ids.push(table.0)?;
+    for spec in specs {
+        push_table_ids(&mut ids, spec)?;
     }
     Ok(ids)
 }
 
-// Whether no table comes twice.
-fn are_tables_once(alloc: Global, specs: &[DbSpec]) -> Result<bool, OutOfMemory>
-    ensures { IfOk result (λ once. once ≡ is_some (opens.tables_seen_from [] specs.now)) }
+// Adds the ids of a record's compactions.
+fn push_record_ids(ids: &mut Vec<Ulid>, record: &Compactions) -> Result<(), OutOfMemory>
+    ensures { OnOk result (ids.new.items ≡ ids.old.items ++ map (λ c. c.id) record.now.entries) }
 {
-    let mut seen = BTreeSet::new(alloc);
-    for spec in specs {
-        let ids = table_ids(alloc, spec.tables.as_slice())?;
-        if !add_once(&mut seen, ids.as_slice())? {
-            return Ok(false);
-        }
+    for compaction in record.iter() {
+        ids.push(compaction.id)?;
     }
-    Ok(true)
+    Ok(())
+}
+
+// Adds the ids of a database's compactions.
+fn push_compaction_ids(ids: &mut Vec<Ulid>, spec: &DbSpec) -> Result<(), OutOfMemory>
+    ensures { OnOk result (ids.new.items ≡ ids.old.items ++ opens.compaction_ids spec.now) }
+{
+    match &spec.compactions {
+        None => Ok(()),
+        Some(record) => push_record_ids(ids, record),
+    }
+}
+
+// The ids of all compactions, database by database.
+fn all_compaction_ids(alloc: Global, specs: &[DbSpec]) -> Result<Vec<Ulid>, OutOfMemory>
+    ensures { IfOk result (λ ids. ids.items ≡ flat_map opens.compaction_ids specs.now) }
+{
+    let mut ids = Vec::new(alloc);
+    for spec in specs {
+        push_compaction_ids(&mut ids, spec)?;
+    }
+    Ok(ids)
 }
 
 // The ids of views, in order.
@@ -72,7 +99,7 @@ fn view_ids(alloc: Global, views: &VecDeque<SsTableView>) -> Result<Vec<Ulid>, O
 
 // Whether these ids differ.
 fn do_differ(alloc: Global, ids: &[Ulid]) -> Result<bool, OutOfMemory>
-    ensures { IfOk result (λ differ. differ ≡ is_some (opens.seen_from [] ids.now)) }
+    ensures { IfOk result (λ differ. differ ≡ opens.do_differ ids.now) }
 {
     let mut seen = BTreeSet::new(alloc);
     if add_once(&mut seen, ids)? {
@@ -131,12 +158,14 @@ fn are_all_in_order(alloc: Global, specs: &[DbSpec]) -> Result<bool, OutOfMemory
     Ok(true)
 }
 
-/// Whether no id of a table comes twice, and all trees are in order.
-pub(crate) fn are_tables_in_order(alloc: Global, specs: &[DbSpec]) -> Result<bool, OutOfMemory>
-    ensures { IfOk result (λ fine. fine
-        ≡ (is_some (opens.tables_seen_from [] specs.now) && list_all opens.are_trees_in_order specs.now)) }
+/// Whether no id of a table or of a compaction comes twice, and all trees are in order.
+pub(crate) fn are_ulids_fine(alloc: Global, specs: &[DbSpec]) -> Result<bool, OutOfMemory>
+    ensures { IfOk result (λ fine. fine ≡ opens.are_ulids_fine specs.now) }
 {
-    let once = are_tables_once(alloc, specs)?;
+    let tables = all_table_ids(alloc, specs)?;
+    let compactions = all_compaction_ids(alloc, specs)?;
+    let tables_differ = do_differ(alloc, tables.as_slice())?;
+    let compactions_differ = do_differ(alloc, compactions.as_slice())?;
     let in_order = are_all_in_order(alloc, specs)?;
-    Ok(once && in_order)
+    Ok(tables_differ && compactions_differ && in_order)
 }

@@ -1,11 +1,12 @@
-//! The objects that stand as a run begins: of each database its first manifest and its tables.
+//! The objects that stand as a run begins: of each database its first manifest, its first record and its tables.
 ghost use Rattle.std.specs.Prelude.{◌≡◌, [], Some, None, IfOk, option_map, if◌then◌else◌};
 ghost use Rattle.slate_protocol.specs.Specs as opens;
 
 use slate_events::DbSpec;
 use slate_ids::{ByteList, Millis, ObjectCodec, ObjectPath, OutOfMemory, SlateDBError, Ulid};
-use slate_layout::{ManifestCodec, encode_info, is_normal};
-use slate_model::{Manifest, SsTableInfo};
+use slate_layout::{CompactionsCodec, ManifestCodec, encode_info, is_normal};
+use slate_model::{Compactions, Manifest, SsTableInfo};
+use slate_record_normality::is_normal_record;
 use slate_store::{MemoryStore, ObjectStore};
 use std::alloc::Global;
 use std::collections::BTreeMap;
@@ -60,6 +61,71 @@ fn open_firsts(alloc: Global, specs: &[DbSpec]) -> Result<Option<Objects>, OutOf
         }
     }
     Ok(Some(firsts))
+}
+
+// The bytes of a first record. None where it has none, or isn't what is read back of them.
+fn record_bytes(alloc: Global, record: &Compactions) -> Result<Option<ByteList>, OutOfMemory>
+    ensures { IfOk result (λ o. o ≡ opens.record_bytes record.now) }
+{
+    match CompactionsCodec.encode(alloc, record) {
+        Ok(bytes) => {
+            if is_normal_record(record) {
+                Ok(Some(ByteList::new(bytes)))
+            } else {
+                Ok(None)
+            }
+        }
+        Err(e) => {
+            if e.is_memory() {
+                Err(OutOfMemory)
+            } else {
+                Ok(None)
+            }
+        }
+    }
+}
+
+// Puts the first record of a database at its path. False where it has no bytes.
+fn write_record(
+    alloc: Global,
+    firsts: &mut Objects,
+    spec: &DbSpec,
+    record: &Compactions,
+) -> Result<bool, OutOfMemory>
+    ensures { IfOk result (λ added. (if added then Some firsts.new.entries else None)
+        ≡ opens.record_written firsts.old.entries spec.now (opens.record_bytes record.now)) }
+{
+    match record_bytes(alloc, record)? {
+        None => Ok(false),
+        Some(bytes) => {
+            firsts.insert(ObjectPath::Record(spec.path, 1), (bytes, spec.modified))?;
+            Ok(true)
+        }
+    }
+}
+
+// Adds the first record of a database, where it has one. False where it has no bytes.
+fn add_record(alloc: Global, firsts: &mut Objects, spec: &DbSpec) -> Result<bool, OutOfMemory>
+    ensures { IfOk result (λ added. (if added then Some firsts.new.entries else None)
+        ≡ opens.record_added firsts.old.entries spec.now spec.now.compactions) }
+{
+    match &spec.compactions {
+        None => Ok(true),
+        Some(record) => write_record(alloc, firsts, spec, record),
+    }
+}
+
+// Adds the first records of all databases. False where one has no bytes.
+fn add_records(alloc: Global, firsts: &mut Objects, specs: &[DbSpec]) -> Result<bool, OutOfMemory>
+    ensures { IfOk result (λ added. (if added then Some firsts.new.entries else None)
+        ≡ opens.records_from firsts.old.entries specs.now) }
+{
+    for spec in specs {
+        if !add_record(alloc, firsts, spec)? {
+            return Ok(false);
+        }
+    }
+    Ok(true)
 }
 
 // The bytes of what is known of a table. None where it has none.
@@ -135,13 +201,17 @@ fn add_all_tables(
     Ok(true)
 }
 
-/// The first manifests and the tables by path. None where one has no bytes, or a manifest isn't what is read back of them.
+/// The first manifests, the first records and the tables by path. None where one has no bytes, or a manifest or a record isn't what is
+/// read back of them.
 pub(crate) fn open_objects(alloc: Global, specs: &[DbSpec]) -> Result<Option<Objects>, OutOfMemory>
     ensures { IfOk result (λ o. option_map (λ f. f.entries) o ≡ opens.objects_of specs.now) }
 {
     let Some(mut objects) = open_firsts(alloc, specs)? else {
         return Ok(None);
     };
+    if !add_records(alloc, &mut objects, specs)? {
+        return Ok(None);
+    }
     if add_all_tables(alloc, &mut objects, specs)? {
         Ok(Some(objects))
     } else {

@@ -8,7 +8,7 @@ ghost use Rattle.slate_opening.specs.Opened.{OpensState};
 
 use crate::carried::Carried;
 use crate::causes::cause_beside;
-use crate::ids::are_tables_in_order;
+use crate::ids::are_ulids_fine;
 use crate::new_error::NewError;
 use crate::objects::{open_objects, open_store};
 use crate::opening_ids::open_carried;
@@ -23,19 +23,26 @@ use std::alloc::Global;
 /// What stands as a run begins.
 #[derive(Drop)]
 pub struct Opening {
-    /// The databases by path, each with its first manifest committed.
+    /// The databases by path, each with its first manifest committed, and its first record where it has one.
     pub tallies: Tallies,
     /// The ids that the databases carry, which nobody brings.
     pub carried: Carried,
-    /// The first manifests and the tables.
+    /// The first manifests, the first records and the tables.
     pub store: MemoryStore,
 }
 
 // What is committed of a database as a run begins.
-const FIRST: Tally = Tally {
-    manifest: 1,
-    compactions: 0,
-};
+fn first_tally(spec: &DbSpec) -> Tally
+    ensures { result ≡ opens.first_tally spec.now }
+{
+    Tally {
+        manifest: 1,
+        compactions: match &spec.compactions {
+            None => 0,
+            Some(_) => 1,
+        },
+    }
+}
 
 // The ids of tables are ids.
 fn ids_fit(tables: &[(Ulid, SsTableInfo)])
@@ -57,7 +64,7 @@ pub fn names(specs: &[DbSpec])
     }
 }
 
-// The databases by path, each with its first manifest. None where a path comes twice.
+// The databases by path, each with its first numbers. None where a path comes twice.
 fn open_tallies(alloc: Global, specs: &[DbSpec]) -> Result<Option<Tallies>, OutOfMemory>
     ensures { IfOk result (λ o. option_map (λ t. t.entries) o ≡ opens.tallies_from [] specs.now) }
 {
@@ -66,7 +73,7 @@ fn open_tallies(alloc: Global, specs: &[DbSpec]) -> Result<Option<Tallies>, OutO
         if tallies.contains_key(&spec.path) {
             return Ok(None);
         }
-        tallies.insert(spec.path, FIRST)?;
+        tallies.insert(spec.path, first_tally(spec))?;
     }
     Ok(Some(tallies))
 }
@@ -81,7 +88,7 @@ pub fn opened(alloc: Global, specs: &[DbSpec]) -> Result<Opening, NewError>
     let Some(carried) = open_carried(alloc, specs)? else {
         return Err(NewError::BadCluster(ClusterCause::Ids));
     };
-    if !are_tables_in_order(alloc, specs)? {
+    if !are_ulids_fine(alloc, specs)? {
         return Err(NewError::BadCluster(ClusterCause::Ids));
     }
     let Some(objects) = open_objects(alloc, specs)? else {

@@ -10,7 +10,10 @@ use crate::carried::Carried;
 use crate::pools::{Pool, note_ids, only_named, only_pinned};
 use slate_events::DbSpec;
 use slate_ids::{CheckpointId, OutOfMemory, Ulid};
-use slate_model::{Checkpoint, ExternalDb, LsmTreeState, SsTableId, SsTableView};
+use slate_model::{
+    Checkpoint, Compaction, CompactionContext, Compactions, ExternalDb, LsmTreeState, SourceId,
+    SsTableHandle, SsTableId, SsTableView, Subcompaction,
+};
 use slate_protocol::Carrier;
 use std::alloc::Global;
 
@@ -138,7 +141,7 @@ fn push_listed(all: &mut Vec<(Ulid, Carrier)>, entry: &ExternalDb) -> Result<(),
 
 // Adds the ids of a database's tables.
 fn push_tables(all: &mut Vec<(Ulid, Carrier)>, spec: &DbSpec) -> Result<(), OutOfMemory>
-    ensures { OnOk result (all.new.items ≡ all.old.items ++ map ids.only_named (map (λ t. t.0) spec.now.tables)) }
+    ensures { OnOk result (all.new.items ≡ all.old.items ++ map ids.only_named (opens.table_ids spec.now)) }
 {
     for table in spec.tables.as_slice() {
         push_ulid(all, Some(table.0))?;
@@ -179,7 +182,99 @@ fn push_entries(all: &mut Vec<(Ulid, Carrier)>, spec: &DbSpec) -> Result<(), Out
     Ok(())
 }
 
-// The ids of tables and views that a database names.
+// Adds the ids of these tables.
+fn push_handles(all: &mut Vec<(Ulid, Carrier)>, ssts: &[SsTableHandle]) -> Result<(), OutOfMemory>
+    ensures { OnOk result (all.new.items ≡ all.old.items ++ map ids.only_named (opens.handle_ulids ssts.now)) }
+{
+    for sst in ssts {
+        push_ulid(all, ulid_of(&sst.id))?;
+    }
+    Ok(())
+}
+
+// The id of a view that is a source.
+fn view_of(source: &SourceId) -> Option<Ulid>
+    ensures { result ≡ opens.view_of source.now }
+{
+    match source {
+        SourceId::SstView(id) => Some(*id),
+        SourceId::SortedRun(_) => None,
+    }
+}
+
+// Adds the ids of the views among these sources.
+fn push_sources(all: &mut Vec<(Ulid, Carrier)>, sources: &[SourceId]) -> Result<(), OutOfMemory>
+    ensures { OnOk result (all.new.items ≡ all.old.items
+        ++ map ids.only_named (filter_map opens.view_of sources.now)) }
+{
+    for source in sources {
+        push_ulid(all, view_of(source))?;
+    }
+    Ok(())
+}
+
+// Adds the ids of the tables that these parts of a compaction have written.
+fn push_parts(all: &mut Vec<(Ulid, Carrier)>, parts: &[Subcompaction]) -> Result<(), OutOfMemory>
+    ensures { OnOk result (all.new.items ≡ all.old.items
+        ++ map ids.only_named (flat_map (λ part. opens.handle_ulids part.output_ssts) parts.now)) }
+{
+    for part in parts {
+        push_handles(all, part.output_ssts.as_slice())?;
+    }
+    Ok(())
+}
+
+// Adds the same of all parts of a compaction, where there is something to go on with.
+fn push_context(
+    all: &mut Vec<(Ulid, Carrier)>,
+    context: &Option<CompactionContext>,
+) -> Result<(), OutOfMemory>
+    ensures { OnOk result (all.new.items ≡ all.old.items
+        ++ map ids.only_named (opens.context_ulids context.now)) }
+{
+    match context {
+        None => Ok(()),
+        Some(context) => push_parts(all, context.subcompactions.as_slice()),
+    }
+}
+
+// Adds the ids of a compaction.
+fn push_compaction(
+    all: &mut Vec<(Ulid, Carrier)>,
+    compaction: &Compaction,
+) -> Result<(), OutOfMemory>
+    ensures { OnOk result (all.new.items ≡ all.old.items
+        ++ map ids.only_named (opens.compaction_ulids compaction.now)) }
+{
+    push_ulid(all, Some(compaction.id))?;
+    push_sources(all, compaction.spec.sources())?;
+    push_handles(all, compaction.output_ssts.as_slice())?;
+    push_context(all, &compaction.ctx)
+}
+
+// Adds the ids of a record's compactions.
+fn push_record(all: &mut Vec<(Ulid, Carrier)>, record: &Compactions) -> Result<(), OutOfMemory>
+    ensures { OnOk result (all.new.items ≡ all.old.items
+        ++ map ids.only_named (flat_map opens.compaction_ulids record.now.entries)) }
+{
+    for compaction in record.iter() {
+        push_compaction(all, compaction)?;
+    }
+    Ok(())
+}
+
+// Adds the ids of a database's compactions.
+fn push_compactions(all: &mut Vec<(Ulid, Carrier)>, spec: &DbSpec) -> Result<(), OutOfMemory>
+    ensures { OnOk result (all.new.items ≡ all.old.items
+        ++ map ids.only_named (flat_map opens.compaction_ulids (opens.compactions_in spec.now.compactions))) }
+{
+    match &spec.compactions {
+        None => Ok(()),
+        Some(record) => push_record(all, record),
+    }
+}
+
+// The ids of tables, views and compactions that a database names.
 fn spec_ulids(alloc: Global, spec: &DbSpec) -> Result<Vec<(Ulid, Carrier)>, OutOfMemory>
     ensures { IfOk result (λ all. all.items ≡ map ids.only_named (opens.spec_ulids spec.now)) }
 {
@@ -188,10 +283,11 @@ fn spec_ulids(alloc: Global, spec: &DbSpec) -> Result<Vec<(Ulid, Carrier)>, OutO
     push_views(&mut all, spec)?;
     push_trees(&mut all, spec)?;
     push_entries(&mut all, spec)?;
+    push_compactions(&mut all, spec)?;
     Ok(all)
 }
 
-// The ids of tables and views that all databases name.
+// The ids of tables, views and compactions that all databases name.
 fn open_ulids(alloc: Global, specs: &[DbSpec]) -> Result<Pool<Ulid>, OutOfMemory>
     ensures { IfOk result (λ pool. pool.entries
         ≡ ids.with_ids ulid_cmp (map ids.only_named (flat_map opens.spec_ulids specs.now)) []) }

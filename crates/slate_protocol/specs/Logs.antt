@@ -28,7 +28,7 @@ use Rattle.slate_events.specs.declared.event.Event.{Event}
 use Rattle.slate_events.specs.declared.event.Event.TheVariants.{Open, Start, Step, Stop}
 use Rattle.slate_protocol.specs.Calls.{change_of}
 use Rattle.slate_protocol.specs.Chains.{Link, Log, with_link}
-use Rattle.slate_protocol.specs.Specs.{first_bytes, listed_or_none}
+use Rattle.slate_protocol.specs.Specs.{first_bytes, record_bytes, listed_or_none}
 use Rattle.slate_protocol.specs.Works.{asks, is_due}
 use Rattle.slate_protocol.specs.World.{World, party_of, wrote, happens}
 use Rattle.slate_protocol.specs.declared.party.Facts.{Facts}
@@ -201,7 +201,21 @@ abbrev pub opening_manifests : List DbSpec → List ℕ → Chain logs.Manifest
 opening_manifests [] d = []
 opening_manifests (spec ∷ specs) d = if bytes_eq d spec.path then opening_link spec ∷ [] else opening_manifests specs d
 
--- the chains as a run begins: no database has a record yet
+-- the first record of a database
+abbrev pub opening_record : Record → Link Record Author
+opening_record r = record { number = 1; bytes = listed_or_none (record_bytes r); value = r; by = None }
+
+-- the chain of a first record, where there is one
+abbrev pub record_chain : Option Record → Chain logs.Compactions
+record_chain None = []
+record_chain (Some r) = opening_record r ∷ []
+
+-- the first record of the database at a path, where there is one
+abbrev pub opening_records : List DbSpec → List ℕ → Chain logs.Compactions
+opening_records [] d = []
+opening_records (spec ∷ specs) d = if bytes_eq d spec.path then record_chain spec.compactions else opening_records specs d
+
+-- the chains as a run begins
 abbrev pub opening_chains : List DbSpec → Chains
 opening_chains specs logs.Manifest d = opening_manifests specs d
-opening_chains specs logs.Compactions d = []
+opening_chains specs logs.Compactions d = opening_records specs d

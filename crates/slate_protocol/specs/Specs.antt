@@ -1,5 +1,5 @@
 -- Databases as a run begins: why they are refused, and the state in which they stand.
-use Rattle.std.specs.Prelude.{ℕ, ◌==◌, nat_lt, ◌&&◌, ℤ, Bool, true, false, not, List, [], ◌∷◌, ◌++◌, map, Option, Some, None, is_some, option_to_list, Result, Ok, Err, if◌then◌else◌}
+use Rattle.std.specs.Prelude.{ℕ, ◌==◌, nat_lt, ◌&&◌, ◌||◌, ℤ, Bool, true, false, not, List, [], ◌∷◌, ◌++◌, map, Option, Some, None, is_some, option_to_list, Result, Ok, Err, if◌then◌else◌}
 use Rattle.std.specs.List.{list_any, list_all, flat_map, filter_map}
 use Rattle.std.specs.Map.{lookup}
 use Rattle.std.specs.BTreeMap.{is_at, insert_entry}
@@ -13,7 +13,17 @@ use Rattle.slate_tables.specs.declared.ss_table_id.SsTableId.{SsTableId}
 use Rattle.slate_tables.specs.declared.ss_table_id.SsTableId.TheVariants.{Wal, Compacted}
 use Rattle.slate_tables.specs.declared.ss_table_info.SsTableInfo.{SsTableInfo}
 use Rattle.slate_tables.specs.Runs.{Run}
+use Rattle.slate_records.specs.Compactions.{sources_of}
+use Rattle.slate_records.specs.Records.{Record}
+use Rattle.slate_records.specs.declared.compaction.Compaction.{Compaction}
+use Rattle.slate_records.specs.declared.compaction_context.CompactionContext.{CompactionContext}
+use Rattle.slate_records.specs.declared.source_id.SourceId.{SourceId}
+use Rattle.slate_records.specs.declared.source_id.SourceId.TheVariants.{SstView, SortedRun}
+use Rattle.slate_record_normality.specs.NormalRecords.{is_normal_record}
+use Rattle.slate_record_updates.specs.RecordRules.{table_refusal}
+use Rattle.slate_tables.specs.declared.ss_table_handle.SsTableHandle.{SsTableHandle}
 use Rattle.slate_layout.specs.Codec.{encoded}
+use Rattle.slate_layout.specs.RecordCodec.{record_encoded}
 use Rattle.slate_parts.specs.InfoCodec.{encoded_info}
 use Rattle.slate_encodable.specs.Normal.{is_normal}
 use Rattle.slate_ids.specs.Ulids.{id_cmp as ulid_cmp, is_id}
@@ -44,14 +54,19 @@ is_named_spec spec = is_db_path spec.path && list_all (λ t. is_id t.0) spec.tab
 
 -- ---- paths
 
--- what is committed of a database as a run begins: its first manifest
-abbrev pub first_tally : Tally
-first_tally = record { manifest = 1; compactions = 0 }
+-- the number of the first record: 0 where there is none
+abbrev pub first_record_number : Option Record → ℕ
+first_record_number None = 0
+first_record_number (Some r) = 1
+
+-- what is committed of a database as a run begins: its first manifest, and its first record where it has one
+abbrev pub first_tally : DbSpec → Tally
+first_tally spec = record { manifest = 1; compactions = first_record_number spec.compactions }
 
 -- the databases, by path, beside those that are there: none where one is there already
 abbrev pub tallies_from : List (List ℕ × Tally) → List DbSpec → Option (List (List ℕ × Tally))
 tallies_from tallies [] = Some tallies
-tallies_from tallies (spec ∷ specs) = if is_some (tally_of spec.path tallies) then None else tallies_from (insert_entry db_cmp tallies spec.path first_tally) specs
+tallies_from tallies (spec ∷ specs) = if is_some (tally_of spec.path tallies) then None else tallies_from (insert_entry db_cmp tallies spec.path (first_tally spec)) specs
 
 -- ---- ids of checkpoints
 
@@ -81,10 +96,22 @@ abbrev pub seen_from : List (ℕ × ℕ) → List (ℕ × ℕ) → Option (List 
 seen_from seen [] = Some seen
 seen_from seen (id ∷ ids) = if is_seen id seen then None else seen_from (insert_key ulid_cmp seen id) ids
 
--- the ids of the tables of all databases: none where one comes twice
-abbrev pub tables_seen_from : List (ℕ × ℕ) → List DbSpec → Option (List (ℕ × ℕ))
-tables_seen_from seen [] = Some seen
-tables_seen_from seen (spec ∷ specs) = and_more (seen_from seen (map (λ t. t.0) spec.tables)) (λ more. tables_seen_from more specs)
+-- whether no id comes twice among these
+abbrev pub do_differ : List (ℕ × ℕ) → Bool
+do_differ ids = is_some (seen_from [] ids)
+
+-- the ids of the tables of a database
+abbrev pub table_ids : DbSpec → List (ℕ × ℕ)
+table_ids spec = map (λ t. t.0) spec.tables
+
+-- the compactions of a record, where there is one
+abbrev pub compactions_in : Option Record → List Compaction
+compactions_in None = []
+compactions_in (Some r) = r.entries
+
+-- the ids of the compactions of a database
+abbrev pub compaction_ids : DbSpec → List (ℕ × ℕ)
+compaction_ids spec = map (λ c. c.id) (compactions_in spec.compactions)
 
 -- whether the first of these runs, where there is one, has an id below this one
 abbrev pub next_is_below : ℕ → List Run → Bool
@@ -98,15 +125,19 @@ runs_fall (run ∷ runs) = next_is_below run.id runs && runs_fall runs
 
 -- whether no id comes twice among the views of a tree's flushed tables, and the ids of its runs fall strictly
 abbrev pub is_tree_in_order : LsmTreeState → Bool
-is_tree_in_order tree = is_some (seen_from [] (map (λ v. v.id) tree.l0)) && runs_fall tree.compacted
+is_tree_in_order tree = do_differ (map (λ v. v.id) tree.l0) && runs_fall tree.compacted
 
 -- whether this holds of each tree of a database
 abbrev pub are_trees_in_order : DbSpec → Bool
 are_trees_in_order spec = list_all is_tree_in_order (trees_of spec.manifest.core)
 
--- whether no id of a checkpoint or of a table comes twice, and the trees are in order
+-- whether no id of a table or of a compaction comes twice, and the trees are in order
+abbrev pub are_ulids_fine : List DbSpec → Bool
+are_ulids_fine specs = do_differ (flat_map table_ids specs) && (do_differ (flat_map compaction_ids specs) && list_all are_trees_in_order specs)
+
+-- the same, and no id of a checkpoint comes twice
 abbrev pub are_ids_fine : List DbSpec → Bool
-are_ids_fine specs = is_some (checkpoints_from [] specs) && (is_some (tables_seen_from [] specs) && list_all are_trees_in_order specs)
+are_ids_fine specs = is_some (checkpoints_from [] specs) && are_ulids_fine specs
 
 -- ---- values
 
@@ -118,6 +149,10 @@ bytes_where normal (Err e) = None
 -- the bytes of a first manifest: none where it has none, or isn't what is read back of them
 abbrev pub first_bytes : Manifest → Option (List ℕ)
 first_bytes m = bytes_where (is_normal m) (encoded m)
+
+-- the bytes of a first record: none where it has none, or isn't what is read back of them
+abbrev pub record_bytes : Record → Option (List ℕ)
+record_bytes r = bytes_where (is_normal_record r) (record_encoded r)
 
 -- the bytes of what is known of a table, which is what is read back of them: none where it has none
 abbrev pub table_bytes : SsTableInfo → Option (List ℕ)
@@ -137,6 +172,21 @@ abbrev pub firsts_from : List (ObjectPath × First) → List DbSpec → Option (
 firsts_from firsts [] = Some firsts
 firsts_from firsts (spec ∷ specs) = and_more (first_added firsts spec (first_bytes spec.manifest)) (λ more. firsts_from more specs)
 
+-- a first record at its path, where it has bytes
+abbrev pub record_written : List (ObjectPath × First) → DbSpec → Option (List ℕ) → Option (List (ObjectPath × First))
+record_written firsts spec None = None
+record_written firsts spec (Some bytes) = Some (insert_entry path_cmp firsts (paths.Record spec.path 1) (bytes, spec.modified))
+
+-- the same of the record of a database, where it has one
+abbrev pub record_added : List (ObjectPath × First) → DbSpec → Option Record → Option (List (ObjectPath × First))
+record_added firsts spec None = Some firsts
+record_added firsts spec (Some r) = record_written firsts spec (record_bytes r)
+
+-- the first records by path, beside the objects that are there: none where one has no bytes
+abbrev pub records_from : List (ObjectPath × First) → List DbSpec → Option (List (ObjectPath × First))
+records_from firsts [] = Some firsts
+records_from firsts (spec ∷ specs) = and_more (record_added firsts spec spec.compactions) (λ more. records_from more specs)
+
 -- a table of a database at its path, where it has bytes
 abbrev pub table_added : List (ObjectPath × First) → DbSpec → ℕ × ℕ → Option (List ℕ) → Option (List (ObjectPath × First))
 table_added firsts spec id None = None
@@ -152,15 +202,48 @@ abbrev pub all_tables_from : List (ObjectPath × First) → List DbSpec → Opti
 all_tables_from firsts [] = Some firsts
 all_tables_from firsts (spec ∷ specs) = and_more (tables_from firsts spec spec.tables) (λ more. all_tables_from more specs)
 
--- the first manifests and the tables by path: none where one has no bytes, or a manifest isn't what is read back of them
+-- the first manifests, the first records and the tables by path: none where one has no bytes, or a manifest or a record isn't what is read
+-- back of them
 abbrev pub objects_of : List DbSpec → Option (List (ObjectPath × First))
-objects_of specs = and_more (firsts_from [] specs) (λ firsts. all_tables_from firsts specs)
+objects_of specs = and_more (firsts_from [] specs) (λ firsts. and_more (records_from firsts specs) (λ more. all_tables_from more specs))
+
+-- whether one of these objects is at a path
+abbrev pub is_there : ObjectPath → List (ObjectPath × First) → Bool
+is_there path objects = is_some (lookup (is_at (path_cmp path)) objects)
 
 -- ---- segments
 
 -- whether a segment's prefix begins with another's
 abbrev pub overlaps : DbSpec → Bool
 overlaps spec = not (are_apart spec.manifest.core.segments)
+
+-- ---- records
+
+-- whether the epoch of a record, where there is one, is above this one
+abbrev pub is_above : ℕ → Option Record → Bool
+is_above epoch None = false
+is_above epoch (Some r) = nat_lt epoch r.compactor_epoch
+
+-- whether the epoch of a database's record is above the compactor epoch of its manifest
+abbrev pub is_epoch_high : DbSpec → Bool
+is_epoch_high spec = is_above spec.manifest.compactor_epoch spec.compactions
+
+-- whether a table of a database isn't among these objects, at the database's own path; a file of the write-ahead log is no such table
+abbrev pub is_output_absent : List (ObjectPath × First) → DbSpec → SsTableId → Bool
+is_output_absent objects spec (Compacted id) = not (is_there (paths.Table spec.path id) objects)
+is_output_absent objects spec (Wal number) = false
+
+-- whether an output of a compaction is older than it, against the rule on new records, or absent
+abbrev pub is_output_wrong : List (ObjectPath × First) → DbSpec → ℕ → SsTableHandle → Bool
+is_output_wrong objects spec ms sst = is_some (table_refusal ms sst.id) || is_output_absent objects spec sst.id
+
+-- whether one of a compaction's outputs is
+abbrev pub has_wrong_output : List (ObjectPath × First) → DbSpec → Compaction → Bool
+has_wrong_output objects spec c = list_any (is_output_wrong objects spec c.id.0) c.output_ssts
+
+-- whether one of the compactions of a database has such an output
+abbrev pub are_outputs_wrong : List (ObjectPath × First) → DbSpec → Bool
+are_outputs_wrong objects spec = list_any (has_wrong_output objects spec) (compactions_in spec.compactions)
 
 -- ---- checkpoints
 
@@ -174,10 +257,6 @@ names_other spec = list_any (λ c. not (c.manifest_id == 1)) spec.manifest.core.
 abbrev pub home_of : List ℕ → SsTableId → List ExternalDb → List ℕ
 home_of own id [] = own
 home_of own id (entry ∷ entries) = if lists id entry then entry.path else home_of own id entries
-
--- whether one of these objects is at a path
-abbrev pub is_there : ObjectPath → List (ObjectPath × First) → Bool
-is_there path objects = is_some (lookup (is_at (path_cmp path)) objects)
 
 -- whether a table of a tree of a database isn't among these objects; a file of the write-ahead log is no such table
 abbrev pub is_absent : List (ObjectPath × First) → DbSpec → SsTableId → Bool
@@ -205,9 +284,11 @@ listed_or_none (Some xs) = xs
 abbrev pub cause_beside : List (ObjectPath × First) → List DbSpec → Option ClusterCause
 cause_beside objects specs =
     if list_any overlaps specs then Some cause.Segments
+    else (if list_any is_epoch_high specs then Some cause.Epoch
+    else (if list_any (are_outputs_wrong objects) specs then Some cause.Outputs
     else (if list_any names_other specs then Some cause.Checkpoints
     else (if list_any (lacks_table objects) specs then Some cause.Tables
-    else (if list_any is_floor_low specs then Some cause.Floor else None)))
+    else (if list_any is_floor_low specs then Some cause.Floor else None)))))
 
 -- why databases can't begin a run, the first of the causes
 abbrev pub cause_of_specs : List DbSpec → Option ClusterCause
@@ -236,13 +317,33 @@ view_ulids view = view.id ∷ option_to_list (ulid_of view.sst.id)
 abbrev pub marker_ulids : LsmTreeState → List (ℕ × ℕ)
 marker_ulids tree = option_to_list tree.last_compacted_l0_sst_view_id ++ option_to_list tree.last_compacted_l0_sst_id
 
--- the ids of tables and views that a database names: of its tables, its views, the markers of its trees, and its entries
+-- the ids of tables among these
+abbrev pub handle_ulids : List SsTableHandle → List (ℕ × ℕ)
+handle_ulids ssts = filter_map (λ sst. ulid_of sst.id) ssts
+
+-- the id of a view among the sources of a compaction
+abbrev pub view_of : SourceId → Option (ℕ × ℕ)
+view_of (SstView id) = Some id
+view_of (SortedRun n) = None
+
+-- the ids of the tables that the parts of a compaction have written
+abbrev pub context_ulids : Option CompactionContext → List (ℕ × ℕ)
+context_ulids None = []
+context_ulids (Some context) = flat_map (λ part. handle_ulids part.output_ssts) context.subcompactions
+
+-- the ids of a compaction: its own, those of the views that it reads, and those of the tables that it has written
+abbrev pub compaction_ulids : Compaction → List (ℕ × ℕ)
+compaction_ulids c = c.id ∷ (filter_map view_of (sources_of c.spec) ++ (handle_ulids c.output_ssts ++ context_ulids c.ctx))
+
+-- the ids of tables, views and compactions that a database names: of its tables, its views, the markers of its trees, its entries, and its
+-- record
 abbrev pub spec_ulids : DbSpec → List (ℕ × ℕ)
 spec_ulids spec =
-    map (λ t. t.0) spec.tables
+    table_ids spec
     ++ (flat_map view_ulids (views_of spec.manifest.core)
     ++ (flat_map marker_ulids (trees_of spec.manifest.core)
-    ++ flat_map (λ entry. filter_map ulid_of entry.sst_ids) spec.manifest.external_dbs))
+    ++ (flat_map (λ entry. filter_map ulid_of entry.sst_ids) spec.manifest.external_dbs
+    ++ flat_map compaction_ulids (compactions_in spec.compactions))))
 
 -- the ids that databases carry, and nobody brings
 abbrev pub opening_carried : List DbSpec → Carried
@@ -262,7 +363,8 @@ abbrev pub store_from : Store → List (ObjectPath × First) → Store
 store_from s [] = s
 store_from s (o ∷ os) = store_from (stored o.0 o.1.0 o.1.1 s) os
 
--- the state as a run of these databases begins: each has its first manifest and its tables, and the tags go by path
+-- the state as a run of these databases begins: each has its first manifest, its first record where it has one, and its tables, and the tags
+-- go by path
 abbrev pub opening_world : List DbSpec → World
 opening_world specs = record {
   tallies = listed_or_none (tallies_from [] specs);

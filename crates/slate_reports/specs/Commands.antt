@@ -51,8 +51,9 @@ run_help_text =
     ++ line []
     ++ line (codes "  database  {\"path\":\"db\"}, and where wanted \"modified\",")
     ++ line (codes "            \"initialized\", \"writer_epoch\", \"compactor_epoch\",")
-    ++ line (codes "            \"floor\", \"replay_after\", \"next_wal\", \"extractor\" and")
+    ++ line (codes "            \"floor\", \"replay_after\", \"next_wal\", \"extractor\",")
     ++ line (codes "            the arrays \"l0\", \"runs\", \"markers\", \"checkpoints\"")
+    ++ line (codes "            and the object \"record\" of compactions")
     ++ line (codes "  open      {\"open\":1,\"kind\":\"writer\",\"db\":\"db\"}")
     ++ line (codes "  start     {\"start\":1,\"call\":\"open_writer\"}")
     ++ line (codes "  upload    {\"start\":1,\"call\":\"upload\",\"table\":\"9:1\"}, and where")
@@ -73,4 +74,4 @@ run_help_text =
 unfoldable pub version_text : List ℕ
 version_text =
     line (codes "buqtarel 0.1.0")
-    ++ line (codes "rattle-kit-13b logic dac8208d650f15bf")
+    ++ line (codes "rattle-kit-13f logic dac8208d650f15bf")

@@ -31,8 +31,9 @@ the paths of the objects left, and then ok or the first bad event.
 
   database  {\"path\":\"db\"}, and where wanted \"modified\",
             \"initialized\", \"writer_epoch\", \"compactor_epoch\",
-            \"floor\", \"replay_after\", \"next_wal\", \"extractor\" and
+            \"floor\", \"replay_after\", \"next_wal\", \"extractor\",
             the arrays \"l0\", \"runs\", \"markers\", \"checkpoints\"
+            and the object \"record\" of compactions
   open      {\"open\":1,\"kind\":\"writer\",\"db\":\"db\"}
   start     {\"start\":1,\"call\":\"open_writer\"}
   upload    {\"start\":1,\"call\":\"upload\",\"table\":\"9:1\"}, and where
@@ -50,7 +51,7 @@ delete_checkpoint; a collector has pass. A script has at most
 1000000 events. docs/FORMAT.md has all fields and lines.
 ";
 
-const VERSION: &str = "buqtarel 0.1.0\nrattle-kit-13b logic dac8208d650f15bf\n";
+const VERSION: &str = "buqtarel 0.1.0\nrattle-kit-13f logic dac8208d650f15bf\n";
 
 /// Writes a text, and answers how the program ends: as it was asked, or with a fault of a write, which is told only where all
 /// else went well; a front of the text was written then.

@@ -326,7 +326,7 @@ const BAD_IDS: [&str; 22] = [
 ];
 
 /// What stands before and after an id.
-const AROUND_IDS: [(&str, &str); 4] = [
+const AROUND_IDS: [(&str, &str); 7] = [
     (
         r#"{"databases":[{"path":"a","l0":[{"table":"1:1","view":"#,
         r#"}]}],"events":[]}"#,
@@ -342,6 +342,18 @@ const AROUND_IDS: [(&str, &str); 4] = [
     (
         r#"{"databases":[{"path":"a","markers":[{"view":"#,
         r#"}]}],"events":[]}"#,
+    ),
+    (
+        r#"{"databases":[{"path":"a","record":{"epoch":0,"compactions":[{"status":"failed","views":[],"runs":[],"drain":true,"outputs":[],"id":"#,
+        r#"}]}}],"events":[]}"#,
+    ),
+    (
+        r#"{"databases":[{"path":"a","record":{"epoch":0,"compactions":[{"id":"1:1","status":"failed","runs":[],"drain":true,"outputs":[],"views":["#,
+        r#"]}]}}],"events":[]}"#,
+    ),
+    (
+        r#"{"databases":[{"path":"a","record":{"epoch":0,"compactions":[{"id":"1:1","status":"failed","views":[],"runs":[],"drain":true,"outputs":["1:1","#,
+        r#"]}]}}],"events":[]}"#,
     ),
 ];
 
@@ -395,11 +407,42 @@ fn databases_that_are_none(rt: HostRuntime) {
 }
 
 /// Fields with which a database is none.
-const BAD_FIELDS: [&str; 46] = [
+const BAD_FIELDS: [&str; 77] = [
     r#""entries":[]"#,
     r#""strays":[]"#,
     r#""wals":[]"#,
     r#""record":{}"#,
+    r#""record":[]"#,
+    r#""record":null"#,
+    r#""record":{"epoch":0}"#,
+    r#""record":{"compactions":[]}"#,
+    r#""record":{"epoch":-1,"compactions":[]}"#,
+    r#""record":{"epoch":"0","compactions":[]}"#,
+    r#""record":{"epoch":0,"compactions":{}}"#,
+    r#""record":{"epoch":0,"compactions":[0]}"#,
+    r#""record":{"epoch":0,"compactions":[],"id":1}"#,
+    r#""record":{"epoch":0,"compactions":[{"status":"submitted","views":[],"runs":[],"drain":true,"outputs":[]}]}"#,
+    r#""record":{"epoch":0,"compactions":[{"id":"9:1","views":[],"runs":[],"drain":true,"outputs":[]}]}"#,
+    r#""record":{"epoch":0,"compactions":[{"id":"9:1","status":"submitted","runs":[],"drain":true,"outputs":[]}]}"#,
+    r#""record":{"epoch":0,"compactions":[{"id":"9:1","status":"submitted","views":[],"drain":true,"outputs":[]}]}"#,
+    r#""record":{"epoch":0,"compactions":[{"id":"9:1","status":"submitted","views":[],"runs":[],"drain":true}]}"#,
+    r#""record":{"epoch":0,"compactions":[{"id":"9:1","status":"submitted","views":[],"runs":[],"outputs":[]}]}"#,
+    r#""record":{"epoch":0,"compactions":[{"id":"9:1","status":"submitted","views":[],"runs":[],"outputs":[],"drain":false}]}"#,
+    r#""record":{"epoch":0,"compactions":[{"id":"9:1","status":"submitted","views":[],"runs":[],"outputs":[],"drain":null}]}"#,
+    r#""record":{"epoch":0,"compactions":[{"id":"9:1","status":"submitted","views":[],"runs":[],"outputs":[],"drain":true,"destination":1}]}"#,
+    r#""record":{"epoch":0,"compactions":[{"id":"9:1","status":"submitted","views":[],"runs":[],"outputs":[],"drain":false,"destination":1}]}"#,
+    r#""record":{"epoch":0,"compactions":[{"id":"9:1","status":"submitted","views":[],"runs":[],"outputs":[],"destination":4294967296}]}"#,
+    r#""record":{"epoch":0,"compactions":[{"id":"9:1","status":"submitted","views":[],"runs":[],"outputs":[],"destination":null}]}"#,
+    r#""record":{"epoch":0,"compactions":[{"id":"9:1","status":"submitted","views":[],"runs":[],"outputs":[],"drain":true,"segment":1}]}"#,
+    r#""record":{"epoch":0,"compactions":[{"id":"9:1","status":"submitted","views":[],"runs":[],"outputs":[],"drain":true,"worker":"1"}]}"#,
+    r#""record":{"epoch":0,"compactions":[{"id":"9:1","status":"Submitted","views":[],"runs":[],"outputs":[],"drain":true}]}"#,
+    r#""record":{"epoch":0,"compactions":[{"id":"9:1","status":0,"views":[],"runs":[],"outputs":[],"drain":true}]}"#,
+    r#""record":{"epoch":0,"compactions":[{"id":"9:1","status":"submitted","views":["1"],"runs":[],"outputs":[],"drain":true}]}"#,
+    r#""record":{"epoch":0,"compactions":[{"id":"9:1","status":"submitted","views":[],"runs":["1"],"outputs":[],"drain":true}]}"#,
+    r#""record":{"epoch":0,"compactions":[{"id":"9:1","status":"submitted","views":[],"runs":[4294967296],"outputs":[],"drain":true}]}"#,
+    r#""record":{"epoch":0,"compactions":[{"id":"9:1","status":"submitted","views":[],"runs":[],"outputs":[1],"drain":true}]}"#,
+    r#""record":{"epoch":0,"compactions":[{"id":"9:1","status":"submitted","views":[],"runs":[],"outputs":"1:1","drain":true}]}"#,
+    r#""record":{"epoch":0,"compactions":[{"id":"1:1","status":"submitted","views":[],"runs":[],"outputs":[],"drain":true},{"id":"01:1","status":"submitted","views":[],"runs":[],"outputs":[],"destination":1}]}"#,
     r#""more":0"#,
     r#""initialized":0"#,
     r#""initialized":"true""#,
@@ -463,12 +506,13 @@ fn fields_that_are_none(rt: HostRuntime) {
 }
 
 /// What is no matter of reading: ids that come twice, prefixes that begin with others, a floor that is too low.
-const READ_FIELDS: [&str; 7] = [
+const READ_FIELDS: [&str; 8] = [
     r#""l0":[{"view":"1:1","table":"1:1"},{"view":"1:1","table":"1:1"}]"#,
     r#""runs":[{"id":1,"tables":["1:1","1:1"]},{"id":1,"tables":["1:1"]}]"#,
     r#""markers":[{"prefix":"a","view":"1:1"},{"prefix":"ab","view":"1:1"}]"#,
     r#""l0":[{"view":"1:1","table":"9:1"}],"floor":0"#,
     r#""checkpoints":[{"id":1},{"id":1}]"#,
+    r#""record":{"epoch":9,"compactions":[{"id":"9:1","status":"running","views":[],"runs":[],"drain":true,"outputs":["1:1"]}]}"#,
     r#""next_wal":0"#,
     r#""extractor":"""#,
 ];

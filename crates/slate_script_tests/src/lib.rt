@@ -8,4 +8,6 @@ mod event_tests;
 #[cfg(test)]
 mod line_tests;
 #[cfg(test)]
+mod record_tests;
+#[cfg(test)]
 mod test_scripts;
