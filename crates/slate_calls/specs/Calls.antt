@@ -8,7 +8,7 @@ use Rattle.slate_json.specs.WrittenIds.{id_in}
 use Rattle.slate_json.specs.Words.{pass_in, filter_in}
 use Rattle.slate_calls.specs.Names.{name_in}
 use Rattle.slate_events.specs.declared.call.Call.{Call}
-use Rattle.slate_events.specs.declared.call.Call.TheVariants.{OpenWriter, Upload, Flush, WriteCheckpoint, ReplaceCheckpoint, RefreshCheckpoint, DeleteCheckpoint, Pass}
+use Rattle.slate_events.specs.declared.call.Call.TheVariants.{OpenWriter, Upload, Flush, Claim, Report, WriteCheckpoint, ReplaceCheckpoint, RefreshCheckpoint, DeleteCheckpoint, Pass}
 use Rattle.slate_gc.specs.declared.filter_word.FilterWord.TheVariants.{All}
 use Rattle.slate_calls.specs.declared.call_name.CallName.{CallName}
 use Rattle.slate_calls.specs.declared.call_name.CallName.TheVariants as name
@@ -38,6 +38,21 @@ flush_in d = do
   seq ← defaulted 0 u64_in (codes "seq") d
   tick ← defaulted (pos 0) i64_in (codes "tick") d
   Some (Flush tables replay_after next_wal seq tick)
+
+-- the claim of a compaction
+unfoldable pub claim_in : Data → Option Call
+claim_in d = do
+  _ ← only (codes "start" ∷ codes "call" ∷ codes "id" ∷ []) d
+  id ← required id_in (codes "id") d
+  Some (Claim id)
+
+-- the report of a compaction with its outputs
+unfoldable pub report_in : Data → Option Call
+report_in d = do
+  _ ← only (codes "start" ∷ codes "call" ∷ codes "id" ∷ codes "tables" ∷ []) d
+  id ← required id_in (codes "id") d
+  tables ← required (list_in id_in) (codes "tables") d
+  Some (Report id tables)
 
 -- a new checkpoint; lifetimes are milliseconds
 unfoldable pub write_checkpoint_in : Data → Option Call
@@ -90,6 +105,8 @@ abbrev pub call_of : CallName → Data → Option Call
 call_of name.OpenWriter d = open_writer_in d
 call_of name.Upload d = upload_in d
 call_of name.Flush d = flush_in d
+call_of name.Claim d = claim_in d
+call_of name.Report d = report_in d
 call_of name.WriteCheckpoint d = write_checkpoint_in d
 call_of name.ReplaceCheckpoint d = replace_checkpoint_in d
 call_of name.RefreshCheckpoint d = refresh_checkpoint_in d

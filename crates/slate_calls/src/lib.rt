@@ -5,6 +5,7 @@ mod call_name;
 mod items;
 mod read_call;
 mod read_pass;
+mod read_worker_call;
 mod read_writer_call;
 
 pub use items::{EventItem, read_event};

@@ -5,6 +5,7 @@ ghost use Rattle.slate_calls.specs.Calls.{write_checkpoint_in, replace_checkpoin
 
 use crate::call_name::CallName;
 use crate::read_pass::read_pass;
+use crate::read_worker_call::{read_claim, read_report};
 use crate::read_writer_call::{read_flush, read_open_writer, read_upload};
 use serde_json::Value;
 use slate_events::Call;
@@ -78,6 +79,8 @@ pub(crate) fn read_call(alloc: Global, d: &Value) -> Result<Call, JsonError>
         CallName::OpenWriter => read_open_writer(d),
         CallName::Upload => read_upload(alloc, d),
         CallName::Flush => read_flush(alloc, d),
+        CallName::Claim => read_claim(alloc, d),
+        CallName::Report => read_report(alloc, d),
         CallName::WriteCheckpoint => write_checkpoint(alloc, d),
         CallName::ReplaceCheckpoint => replace_checkpoint(alloc, d),
         CallName::RefreshCheckpoint => refresh_checkpoint(alloc, d),

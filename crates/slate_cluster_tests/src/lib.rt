@@ -14,4 +14,6 @@ mod test_runs;
 #[cfg(test)]
 mod upload_tests;
 #[cfg(test)]
+mod worker_tests;
+#[cfg(test)]
 mod writer_tests;

@@ -90,31 +90,31 @@ fn compaction_of(alloc: Global, item: &CompactionItem) -> Result<Compaction, Out
 // Adds the compaction of an item. False where its id is there already.
 fn add_item(
     alloc: Global,
-    record: &mut Compactions,
+    compactions: &mut Compactions,
     item: &CompactionItem,
 ) -> Result<bool, OutOfMemory>
-    ensures { IfOk result (λ added. (if added then Some record.new else None)
-        ≡ (if is_some (entry_of item.now.id record.old.entries) then None
-        else Some (record record.old { entries = inserted (records.compaction_of item.now) record.old.entries }))) }
+    ensures { IfOk result (λ added. (if added then Some compactions.new else None)
+        ≡ (if is_some (entry_of item.now.id compactions.old.entries) then None
+        else Some (record compactions.old { entries = inserted (records.compaction_of item.now) compactions.old.entries }))) }
 {
-    if record.get(item.id).is_some() {
+    if compactions.get(item.id).is_some() {
         return Ok(false);
     }
-    record.insert(compaction_of(alloc, item)?)?;
+    compactions.insert(compaction_of(alloc, item)?)?;
     Ok(true)
 }
 
 // Adds the compactions of these items. False where an id comes twice.
 fn add_items(
     alloc: Global,
-    record: &mut Compactions,
+    compactions: &mut Compactions,
     items: &[CompactionItem],
 ) -> Result<bool, OutOfMemory>
-    ensures { IfOk result (λ added. (if added then Some record.new else None)
-        ≡ records.with_items record.old items.now) }
+    ensures { IfOk result (λ added. (if added then Some compactions.new else None)
+        ≡ records.with_items compactions.old items.now) }
 {
     for item in items {
-        if !add_item(alloc, record, item)? {
+        if !add_item(alloc, compactions, item)? {
             return Ok(false);
         }
     }

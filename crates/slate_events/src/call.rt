@@ -15,7 +15,7 @@ pub enum Call {
     /// Reads the latest manifest and commits its writer epoch plus one. The reply is that epoch.
     OpenWriter,
     /// Puts the object of a new table, which has these first and last keys. Refused with `Unencodable` at the start where the last key
-    /// lies below the first one. From then on the party may flush the table. The reply is `done`.
+    /// lies below the first one. From then on the party may flush the table, or report it. The reply is `done`.
     Upload {
         table: Ulid,
         first: Bytes,
@@ -32,6 +32,20 @@ pub enum Call {
         next_wal: u64,
         seq: u64,
         tick: Millis,
+    },
+    /// Reads the latest record and commits it with this compaction Running, from Scheduled, under this party as its worker. Refused with
+    /// `LatestTransactionalObjectVersionMissing` where there is no record, and with `InvalidDBState` where the record read lacks the
+    /// compaction or it isn't Scheduled. The reply is `done`.
+    Claim {
+        id: Ulid,
+    },
+    /// Reads the latest record and commits it with this compaction Compacted, from Running under this party, with these tables as its
+    /// outputs. Refused with `InvalidDBState` at the start where the party has not uploaded one of the tables, and where the record read
+    /// lacks the compaction or it isn't Running under this party; as a claim where there is no record; and by the rules on new records,
+    /// with `InvalidClockTick` where a table is older than the compaction. The reply is `done`.
+    Report {
+        id: Ulid,
+        tables: Listed<Ulid>,
     },
     /// Reads the latest manifest and commits it with this new checkpoint at the end, which names the version of its source,
     /// or the version that is committed where there is no source. Where the id is there already, nothing is committed.
@@ -89,6 +103,34 @@ fn upload(alloc: Global, table: Ulid, first: &Bytes, last: &Bytes) -> Result<Cal
     })
 }
 
+// A report of a compaction with these outputs.
+fn report(alloc: Global, id: Ulid, tables: &Listed<Ulid>) -> Result<Call, OutOfMemory>
+    ensures { IfOk result (λ call. call ≡ calls.Report id tables.now) }
+{
+    Ok(Call::Report {
+        id,
+        tables: tables.copy(alloc)?,
+    })
+}
+
+// A new checkpoint.
+fn write_checkpoint(
+    alloc: Global,
+    id: CheckpointId,
+    lifetime: Option<u64>,
+    source: Option<CheckpointId>,
+    name: &Option<Text>,
+) -> Result<Call, OutOfMemory>
+    ensures { IfOk result (λ call. call ≡ calls.WriteCheckpoint id lifetime source name.now) }
+{
+    Ok(Call::WriteCheckpoint {
+        id,
+        lifetime,
+        source,
+        name: Plain::clone(name, alloc)?,
+    })
+}
+
 impl Call {
     /// An equal call.
     pub fn copy(&self, alloc: Global) -> Result<Call, OutOfMemory>
@@ -110,17 +152,14 @@ impl Call {
                 seq: *seq,
                 tick: *tick,
             },
+            Call::Claim { id } => Call::Claim { id: *id },
+            Call::Report { id, tables } => report(alloc, *id, tables)?,
             Call::WriteCheckpoint {
                 id,
                 lifetime,
                 source,
                 name,
-            } => Call::WriteCheckpoint {
-                id: *id,
-                lifetime: *lifetime,
-                source: *source,
-                name: Plain::clone(name, alloc)?,
-            },
+            } => write_checkpoint(alloc, *id, *lifetime, *source, name)?,
             Call::ReplaceCheckpoint {
                 old,
                 id,

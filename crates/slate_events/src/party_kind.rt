@@ -5,6 +5,8 @@
 pub enum PartyKind {
     /// It opens a database and raises its writer epoch.
     Writer,
+    /// It claims compactions, writes tables and reports them as outputs.
+    Worker,
     /// It holds checkpoints.
     Holder,
     /// It runs passes of the garbage collector.

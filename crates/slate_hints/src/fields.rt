@@ -47,6 +47,8 @@ pub(crate) enum Object {
     Upload,
     Flush,
     FlushTable,
+    Claim,
+    Report,
     WriteCheckpoint,
     ReplaceCheckpoint,
     RefreshCheckpoint,
@@ -159,6 +161,19 @@ static FLUSH_TABLE: [Field; 3] = [
     Field(Name::Prefix, Optional, One(Plain::Text)),
 ];
 
+static CLAIM: [Field; 3] = [
+    Field(Name::Start, Needed, One(Plain::Whole32)),
+    Field(Name::Call, Needed, One(Plain::CallName)),
+    Field(Name::Id, Needed, One(Plain::Id)),
+];
+
+static REPORT: [Field; 4] = [
+    Field(Name::Start, Needed, One(Plain::Whole32)),
+    Field(Name::Call, Needed, One(Plain::CallName)),
+    Field(Name::Id, Needed, One(Plain::Id)),
+    Field(Name::Tables, Needed, Each(Plain::Id)),
+];
+
 static WRITE_CHECKPOINT: [Field; 6] = [
     Field(Name::Start, Needed, One(Plain::Whole32)),
     Field(Name::Call, Needed, One(Plain::CallName)),
@@ -219,6 +234,8 @@ impl Object {
             Object::Upload => &UPLOAD,
             Object::Flush => &FLUSH,
             Object::FlushTable => &FLUSH_TABLE,
+            Object::Claim => &CLAIM,
+            Object::Report => &REPORT,
             Object::WriteCheckpoint => &WRITE_CHECKPOINT,
             Object::ReplaceCheckpoint => &REPLACE_CHECKPOINT,
             Object::RefreshCheckpoint => &REFRESH_CHECKPOINT,
@@ -233,6 +250,8 @@ impl Object {
             "open_writer" => Some(Object::OpenWriter),
             "upload" => Some(Object::Upload),
             "flush" => Some(Object::Flush),
+            "claim" => Some(Object::Claim),
+            "report" => Some(Object::Report),
             "write_checkpoint" => Some(Object::WriteCheckpoint),
             "replace_checkpoint" => Some(Object::ReplaceCheckpoint),
             "refresh_checkpoint" => Some(Object::RefreshCheckpoint),

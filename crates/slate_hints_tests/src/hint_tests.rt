@@ -202,7 +202,7 @@ const DATABASES: [(&str, &str); 42] = [
 ];
 
 /// The last of three events, after one and 1000 of them, and what is wrong with it.
-const EVENTS: [(&str, &str); 34] = [
+const EVENTS: [(&str, &str); 37] = [
     (r#"[]"#, r#"events[2] has to be an object"#),
     (
         r#"{"go":1}"#,
@@ -214,7 +214,7 @@ const EVENTS: [(&str, &str); 34] = [
     ),
     (
         r#"{"open":1,"kind":"boss","db":"a"}"#,
-        r#"events[2].kind has to be "writer", "holder" or "collector""#,
+        r#"events[2].kind has to be "writer", "worker", "holder" or "collector""#,
     ),
     (
         r#"{"open":1,"kind":"writer","db":""}"#,
@@ -325,6 +325,18 @@ const EVENTS: [(&str, &str); 34] = [
     (
         r#"{"step":1,"at":1,"times":1001}"#,
         r#"events[2].times has to be a whole number from 1 to 1000"#,
+    ),
+    (
+        r#"{"start":1,"call":"claim","id":1}"#,
+        r#"events[2].id has to be a text "ms:tail" of two whole numbers, the first below 2^48, the second below 2^80"#,
+    ),
+    (
+        r#"{"start":1,"call":"report","id":"1:1"}"#,
+        r#"events[2] lacks the field "tables""#,
+    ),
+    (
+        r#"{"start":1,"call":"report","id":"1:1","tables":["1:1",{}]}"#,
+        r#"events[2].tables[1] has to be a text "ms:tail" of two whole numbers, the first below 2^48, the second below 2^80"#,
     ),
     (
         r#"{"stop":1.0}"#,

@@ -2,6 +2,8 @@
 #![tactic(auto)]
 
 #[cfg(test)]
+mod claim_tests;
+#[cfg(test)]
 mod cluster_tests;
 #[cfg(test)]
 mod generated_tests;

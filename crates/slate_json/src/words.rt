@@ -17,6 +17,7 @@ fn kind_of(text: &str) -> Option<PartyKind>
 {
     match text {
         "writer" => Some(PartyKind::Writer),
+        "worker" => Some(PartyKind::Worker),
         "holder" => Some(PartyKind::Holder),
         "collector" => Some(PartyKind::Collector),
         _ => None,

@@ -40,7 +40,7 @@ use Rattle.slate_protocol.specs.declared.party.State.TheVariants.{Resting, Busy,
 use Rattle.slate_protocol.specs.declared.party.Task.{Task}
 use Rattle.slate_protocol.specs.declared.tally.Tally.{Tally}
 use Rattle.slate_protocol.specs.declared.work.Ended.{Ended}
-use Rattle.slate_protocol.specs.declared.work.Ended.TheVariants.{NoManifest, ManifestRead, ManifestCommitted, TablePut, Passed}
+use Rattle.slate_protocol.specs.declared.work.Ended.TheVariants.{NoManifest, ManifestRead, ManifestCommitted, NoRecord, RecordRead, RecordCommitted, TablePut, Passed}
 use Rattle.slate_protocol.specs.declared.work.Purpose.TheVariants.{Once}
 use Rattle.slate_laws.proofs.GoingOn.{run_world}
 use Rattle.slate_laws.proofs.Maps.{number_order, name_order, set_here, set_else, insert_here, insert_else}
@@ -88,6 +88,9 @@ open_kind : (facts : Facts) (end : Ended) → (facts_after facts OpenWriter end)
 open_kind facts (NoManifest purpose) = refl
 open_kind facts (ManifestRead purpose db n m) = refl
 open_kind facts (ManifestCommitted Once db n m) = refl
+open_kind facts (NoRecord purpose) = refl
+open_kind facts (RecordRead purpose db n r) = refl
+open_kind facts (RecordCommitted purpose db n r) = refl
 open_kind facts (TablePut upload) = refl
 open_kind facts (Passed counts) = refl
 
@@ -97,6 +100,9 @@ end_kind facts OpenWriter end = open_kind facts end
 end_kind facts _ (NoManifest purpose) = refl
 end_kind facts _ (ManifestRead purpose db n m) = refl
 end_kind facts _ (ManifestCommitted purpose db n m) = refl
+end_kind facts _ (NoRecord purpose) = refl
+end_kind facts _ (RecordRead purpose db n r) = refl
+end_kind facts _ (RecordCommitted purpose db n r) = refl
 end_kind facts _ (Passed counts) = refl
 
 follow_kind : (facts : Facts) (call : Call) (now : ℤ) (g : WorkGoes) → (follow facts call now g).facts.kind ≡ facts.kind
@@ -224,7 +230,7 @@ module _ (n : ℕ) (w : World) (p : Party) (at : party_of n w.parties ≡ Some p
       by_state Halted = record { databases = λ d. refl; kinds = λ k. sym (or_none (kind_at k w)); names = λ id. sym (or_false (is_carried checkpoint_cmp id w.carried.checkpoints)); ulids = λ id. sym (or_false (is_carried ulid_cmp id w.carried.ulids)) }
 
 -- a party that comes
-open_does : (n : ℕ) (kind : PartyKind) (db : List ℕ) (w : World) → party_of n w.parties ≡ None → Does (Open n kind db) w (record w { parties = insert_entry nat_cmp w.parties n (newcomer kind db) })
+open_does : (n : ℕ) (kind : PartyKind) (db : List ℕ) (w : World) → party_of n w.parties ≡ None → Does (Open n kind db) w (record w { parties = insert_entry nat_cmp w.parties n (newcomer n kind db) })
 open_does n kind db w none = record {
   databases = λ d. refl;
   kinds = λ k. test k (k == n) refl;
@@ -232,12 +238,12 @@ open_does n kind db w none = record {
   ulids = λ id. sym (or_false (is_carried ulid_cmp id w.carried.ulids));
 }
   where
-    test : (k : ℕ) (b : Bool) → (k == n) ≡ b → kind_of (party_of k (insert_entry nat_cmp w.parties n (newcomer kind db))) ≡ option_or (kind_at k w) (if b then Some kind else None)
+    test : (k : ℕ) (b : Bool) → (k == n) ≡ b → kind_of (party_of k (insert_entry nat_cmp w.parties n (newcomer n kind db))) ≡ option_or (kind_at k w) (if b then Some kind else None)
     test k true is =
         let e = same_number k n is in
-        subst (λ (j : ℕ). kind_of (party_of j (insert_entry nat_cmp w.parties n (newcomer kind db))) ≡ option_or (kind_at j w) (Some kind)) (sym e)
-        (ap kind_of (insert_here nat_cmp number_order n (newcomer kind db) w.parties) ∙ sym (ap (λ (o : Option Party). option_or (kind_of o) (Some kind)) none))
-    test k false is = ap kind_of (insert_else nat_cmp number_order n k (newcomer kind db) w.parties (other_number k n is)) ∙ sym (or_none (kind_at k w))
+        subst (λ (j : ℕ). kind_of (party_of j (insert_entry nat_cmp w.parties n (newcomer n kind db))) ≡ option_or (kind_at j w) (Some kind)) (sym e)
+        (ap kind_of (insert_here nat_cmp number_order n (newcomer n kind db) w.parties) ∙ sym (ap (λ (o : Option Party). option_or (kind_of o) (Some kind)) none))
+    test k false is = ap kind_of (insert_else nat_cmp number_order n k (newcomer n kind db) w.parties (other_number k n is)) ∙ sym (or_none (kind_at k w))
 
 event_does : (w : World) (e : Event) (d : Transition) → happens w e ≡ Some d → Does e w d.world
 event_does w (Open n kind db) d is = opened (party_of n w.parties) (tally_of db w.tallies) refl is

@@ -7,6 +7,12 @@ use Rattle.slate_ids.specs.declared.error.SlateDBError.TheVariants.{Transactiona
 use Rattle.slate_layout.specs.Codec.{encoded}
 use Rattle.slate_manifest_parts.specs.Decoding.{decoded_manifest}
 use Rattle.slate_model.specs.declared.manifest.Manifest.{Manifest}
+use Rattle.slate_records.specs.Records.{Record}
+use Rattle.slate_record_bytes.specs.Records.{decoded_record}
+use Rattle.slate_layout.specs.RecordCodec.{record_encoded}
+use Rattle.slate_record_updates.specs.RecordChanges.{made as record_made, right_of as record_right_of, fence_of as record_fence_of}
+use Rattle.slate_record_updates.specs.RecordRules.{record_refusal_of}
+use Rattle.slate_record_updates.specs.declared.record_change.RecordChange.{RecordChange}
 use Rattle.slate_store.specs.Machines.{Goes, Stay, End}
 use Rattle.slate_store.specs.declared.object.ObjectMetadata.{ObjectMetadata}
 use Rattle.slate_store.specs.declared.object.StoredObject.{StoredObject}
@@ -24,7 +30,8 @@ use Rattle.slate_log.specs.declared.advance_phase.AdvancePhase.{AdvancePhase}
 use Rattle.slate_log.specs.declared.advance_phase.AdvancePhase.TheVariants as advancing
 use Rattle.slate_log.specs.declared.commit_phase.CommitPhase.{CommitPhase}
 use Rattle.slate_log.specs.declared.commit_phase.CommitPhase.TheVariants as committing
-use Rattle.slate_log.specs.declared.log_kind.LogKind.TheVariants.{Manifest as ManifestLog}
+use Rattle.slate_log.specs.declared.log_kind.LogKind.{LogKind}
+use Rattle.slate_log.specs.declared.log_kind.LogKind.TheVariants.{Manifest as ManifestLog, Compactions as RecordLog}
 use Rattle.slate_log.specs.declared.read_phase.ReadPhase.{ReadPhase}
 use Rattle.slate_log.specs.declared.read_phase.ReadPhase.TheVariants as reading
 use Rattle.slate_log.specs.declared.right.Right.{Right}
@@ -43,13 +50,13 @@ use Rattle.slate_gc.specs.declared.pass_counts.PassCounts.{PassCounts}
 use Rattle.slate_gc.specs.declared.pass_options.PassOptions.{PassOptions}
 use Rattle.slate_gc.specs.declared.pass_phase.PassPhase.{PassPhase}
 use Rattle.slate_gc.specs.declared.pass_phase.PassPhase.TheVariants as passing
-use Rattle.slate_protocol.specs.Calls.{refusal_at_start, first_work, change_of, done, facts_after, Next, Go, Finish}
-use Rattle.slate_protocol.specs.Rows.{commit_for, commit_next, after, follow, begin_unless, begin}
-use Rattle.slate_protocol.specs.Works.{WorkGoes, goes, is_due, read_on, commit_on, put_end, pass_on}
+use Rattle.slate_protocol.specs.Calls.{refusal_at_start, first_work, change_of, done, record_change_of, facts_after, Next, Go, Finish}
+use Rattle.slate_protocol.specs.Rows.{commit_for, commit_next, commit_by, record_commit_for, record_next, after, follow, begin_unless, begin}
+use Rattle.slate_protocol.specs.Works.{WorkGoes, goes, is_due, read_on, commit_on, record_read_on, record_commit_on, put_end, pass_on}
 use Rattle.slate_protocol.specs.declared.party.Facts.{Facts}
 use Rattle.slate_protocol.specs.declared.uploads.Upload.{Upload}
 use Rattle.slate_protocol.specs.declared.work.Ended.{Ended}
-use Rattle.slate_protocol.specs.declared.work.Ended.TheVariants.{NoManifest, ManifestRead, ManifestCommitted, TablePut, Passed}
+use Rattle.slate_protocol.specs.declared.work.Ended.TheVariants.{NoManifest, ManifestRead, ManifestCommitted, NoRecord, RecordRead, RecordCommitted, TablePut, Passed}
 use Rattle.slate_protocol.specs.declared.work.Purpose.{Purpose}
 use Rattle.slate_protocol.specs.declared.work.Purpose.TheVariants.{Once}
 use Rattle.slate_protocol.specs.declared.work.Work.{Work}
@@ -60,87 +67,93 @@ abbrev DueAt : {P R : Type 0} → (P → Bool) → Goes P R → Type 0
 DueAt due (Stay p) = due p ≡ true
 DueAt due (End p r) = Unit {0}
 
-abbrev ReadAt : Goes (ReadPhase Manifest) (Option (ℕ × Manifest)) → Type 0
-ReadAt g = DueAt (λ (p : ReadPhase Manifest). read_due p) g
+abbrev ReadAt : {V : Type 0} → Goes (ReadPhase V) (Option (ℕ × V)) → Type 0
+ReadAt {V} g = DueAt (λ (p : ReadPhase V). read_due p) g
 
-abbrev CommitAt : Goes (CommitPhase Manifest) (ℕ × Manifest) → Type 0
-CommitAt g = DueAt (λ (p : CommitPhase Manifest). commit_due p) g
+abbrev CommitAt : {V : Type 0} → Goes (CommitPhase V) (ℕ × V) → Type 0
+CommitAt {V} g = DueAt (λ (p : CommitPhase V). commit_due p) g
 
-listed_due : (n : Option ℕ) → ReadAt (listed_goes n)
-listed_due None = tt
-listed_due (Some n) = refl
+module _ {V : Type 0} (decoded : List ℕ → Result V SlateDBError) where
+  listed_due : (n : Option ℕ) → ReadAt (let g : Goes (ReadPhase V) (Option (ℕ × V)) = listed_goes n in g)
+  listed_due None = tt
+  listed_due (Some n) = refl
 
-decoded_due : (n : ℕ) (r : Result Manifest SlateDBError) → ReadAt (decoded_goes n r)
-decoded_due n (Ok m) = refl
-decoded_due n (Err e) = tt
+  decoded_due : (n : ℕ) (r : Result V SlateDBError) → ReadAt (decoded_goes n r)
+  decoded_due n (Ok m) = refl
+  decoded_due n (Err e) = tt
 
-got_due : (n : ℕ) (o : Option StoredObject) → ReadAt (got_goes decoded_manifest n o)
-got_due n None = refl
-got_due n (Some object) = decoded_due n (decoded_manifest object.bytes)
+  got_due : (n : ℕ) (o : Option StoredObject) → ReadAt (got_goes decoded n o)
+  got_due n None = refl
+  got_due n (Some object) = decoded_due n (decoded object.bytes)
 
-above_due : (n : ℕ) (m : Manifest) (b : Bool) → ReadAt (if b then Stay reading.Listing else End reading.Over (Ok (Some (n, m))))
-above_due n m true = refl
-above_due n m false = tt
+  above_due : (n : ℕ) (m : V) (b : Bool) → ReadAt (let g : Goes (ReadPhase V) (Option (ℕ × V)) = if b then Stay reading.Listing else End reading.Over (Ok (Some (n, m))) in g)
+  above_due n m true = refl
+  above_due n m false = tt
 
-boundary_due : (n : ℕ) (m : Manifest) (b : Option ℕ) → ReadAt (boundary_goes n m b)
-boundary_due n m None = tt
-boundary_due n m (Some b) = above_due n m (nat_le n b)
+  boundary_due : (n : ℕ) (m : V) (b : Option ℕ) → ReadAt (boundary_goes n m b)
+  boundary_due n m None = tt
+  boundary_due n m (Some b) = above_due n m (nat_le n b)
 
-reads_due : (phase : ReadPhase Manifest) (answer : StoreAnswer) → ReadAt (read_goes ManifestLog decoded_manifest phase answer)
-reads_due reading.Listing (Found found) = listed_due (greatest ManifestLog found)
-reads_due (reading.Getting n) (Got o) = got_due n o
-reads_due (reading.Bounding n m) (Got o) = boundary_due n m (boundary_got o)
-reads_due _ _ = tt
+  reads_due : (log : LogKind) (phase : ReadPhase V) (answer : StoreAnswer) → ReadAt (read_goes log decoded phase answer)
+  reads_due log reading.Listing (Found found) = listed_due (greatest log found)
+  reads_due log (reading.Getting n) (Got o) = got_due n o
+  reads_due log (reading.Bounding n m) (Got o) = boundary_due n m (boundary_got o)
+  reads_due log _ _ = tt
 
-created_due : (n : ℕ) (m : Manifest) (tag : Option ℕ) → CommitAt (created_goes n m tag)
-created_due n m None = tt
-created_due n m (Some tag) = refl
+module _ {V : Type 0} where
+  created_due : (n : ℕ) (m : V) (tag : Option ℕ) → CommitAt (created_goes n m tag)
+  created_due n m None = tt
+  created_due n m (Some tag) = refl
 
-ended_due : (n b : ℕ) (m : Manifest) (t : Bool) → CommitAt (if t then End committing.Over (Err (TransactionalObjectVersionExists n (Some b))) else End committing.Over (Ok (n, m)))
-ended_due n b m true = tt
-ended_due n b m false = tt
+  ended_due : (n b : ℕ) (m : V) (t : Bool) → CommitAt (let g : Goes (CommitPhase V) (ℕ × V) = if t then End committing.Over (Err (TransactionalObjectVersionExists n (Some b))) else End committing.Over (Ok (n, m)) in g)
+  ended_due n b m true = tt
+  ended_due n b m false = tt
 
-bounded_due : (n : ℕ) (m : Manifest) (b : Option ℕ) → CommitAt (bounded_goes n m b)
-bounded_due n m None = tt
-bounded_due n m (Some b) = ended_due n b m (nat_le n b)
+  bounded_due : (n : ℕ) (m : V) (b : Option ℕ) → CommitAt (bounded_goes n m b)
+  bounded_due n m None = tt
+  bounded_due n m (Some b) = ended_due n b m (nat_le n b)
 
-commits_due : (phase : CommitPhase Manifest) (answer : StoreAnswer) → CommitAt (commit_goes phase answer)
-commits_due (committing.Putting n bytes m) (Created tag) = created_due n m tag
-commits_due (committing.Bounding n m) (Got o) = bounded_due n m (boundary_got o)
-commits_due _ _ = tt
+  commits_due : (phase : CommitPhase V) (answer : StoreAnswer) → CommitAt (commit_goes phase answer)
+  commits_due (committing.Putting n bytes m) (Created tag) = created_due n m tag
+  commits_due (committing.Bounding n m) (Got o) = bounded_due n m (boundary_got o)
+  commits_due _ _ = tt
 
--- ---- a commit that is made begins with its put
+  -- ---- a commit that is made begins with its put
 
--- where a commit is made, a call is due
-abbrev DueCommit : Result (Option (CommitPhase Manifest)) SlateDBError → Type 0
-DueCommit (Ok (Some commit)) = commit_due commit ≡ true
-DueCommit (Ok None) = Unit {0}
-DueCommit (Err e) = Unit {0}
+  -- where a commit is made, a call is due
+  abbrev DueCommit : Result (Option (CommitPhase V)) SlateDBError → Type 0
+  DueCommit (Ok (Some commit)) = commit_due commit ≡ true
+  DueCommit (Ok None) = Unit {0}
+  DueCommit (Err e) = Unit {0}
 
-module _ (n : ℕ) (old new : Manifest) (right : Right) where
-  bytes_due : (r : Result (List ℕ) SlateDBError) → DueCommit (some_commit (encoded_commit (n + 1) new r))
-  bytes_due (Ok bytes) = refl
-  bytes_due (Err e) = tt
+  module _ (refusal : ℕ → V → V → Right → Option SlateDBError) (encoded : V → Result (List ℕ) SlateDBError) (n : ℕ) (old : V) (right : Right) where
+    bytes_due : (new : V) (r : Result (List ℕ) SlateDBError) → DueCommit (some_commit (encoded_commit (n + 1) new r))
+    bytes_due new (Ok bytes) = refl
+    bytes_due new (Err e) = tt
 
-  rules_due : (o : Option SlateDBError) → DueCommit (some_commit (checked_commit o (n + 1) new (encoded new)))
-  rules_due (Some e) = tt
-  rules_due None = bytes_due (encoded new)
+    rules_due : (new : V) (o : Option SlateDBError) → DueCommit (some_commit (checked_commit o (n + 1) new (encoded new)))
+    rules_due new (Some e) = tt
+    rules_due new None = bytes_due new (encoded new)
 
-  prepared_due : (b : Bool) → DueCommit (some_commit (if b then Err (Exhausted n) else checked_commit (manifest_refusal n old new right) (n + 1) new (encoded new)))
-  prepared_due true = tt
-  prepared_due false = rules_due (manifest_refusal n old new right)
+    prepared_due : (new : V) (b : Bool) → DueCommit (some_commit (let r : Result (CommitPhase V) SlateDBError = if b then Err (Exhausted n) else checked_commit (refusal n old new right) (n + 1) new (encoded new) in r))
+    prepared_due new true = tt
+    prepared_due new false = rules_due new (refusal n old new right)
 
-wanted_due : (n : ℕ) (old : Manifest) (right : Right) (r : Result (Option Manifest) SlateDBError) → DueCommit (wanted (λ (new : Manifest). prepared manifest_refusal encoded n old new right) r)
-wanted_due n old right (Ok (Some new)) = prepared_due n old new right (n == last_number)
-wanted_due n old right (Ok None) = tt
-wanted_due n old right (Err e) = tt
+    wanted_due : (r : Result (Option V) SlateDBError) → DueCommit (wanted (λ (new : V). prepared refusal encoded n old new right) r)
+    wanted_due (Ok (Some new)) = prepared_due new (n == last_number)
+    wanted_due (Ok None) = tt
+    wanted_due (Err e) = tt
 
-unfenced_due : (o : Option SlateDBError) (r : Result (Option (CommitPhase Manifest)) SlateDBError) → DueCommit r → DueCommit (unless o r)
-unfenced_due (Some e) r h = tt
-unfenced_due None r h = h
+    unfenced_due : (o : Option SlateDBError) (r : Result (Option V) SlateDBError) → DueCommit (unless o (wanted (λ (new : V). prepared refusal encoded n old new right) r))
+    unfenced_due (Some e) r = tt
+    unfenced_due None r = wanted_due r
 
 made_due : (change : ManifestChange) (now : ℤ) (n : ℕ) (m : Manifest) → DueCommit (commit_of encoded change now n m)
-made_due change now n m = unfenced_due (fence_of change m) _ (wanted_due n m (right_of change) (made change now n m))
+made_due change now n m = unfenced_due manifest_refusal encoded n m (right_of change) (fence_of change m) (made change now n m)
+
+record_made_due : (change : Option RecordChange) (now : ℤ) (n : ℕ) (r : Record) → DueCommit (commit_by change now n r)
+record_made_due None now n r = tt
+record_made_due (Some change) now n r = unfenced_due record_refusal_of record_encoded n r (record_right_of change) (record_fence_of change r) (record_made change now n r)
 
 -- ---- passes
 
@@ -258,7 +271,7 @@ gc_collect_due (Stay phase) h = h
 gc_collect_due (End phase r) h = tt
 
 collects_due : (options : PassOptions) (now : ℤ) (phase : GcPass) (answer : StoreAnswer) → GcAt (gc_goes decoded_manifest encoded options now phase answer)
-collects_due options now (removing.Reading phase) answer = gc_read_due now (read_goes ManifestLog decoded_manifest phase answer) (reads_due phase answer)
+collects_due options now (removing.Reading phase) answer = gc_read_due now (read_goes ManifestLog decoded_manifest phase answer) (reads_due decoded_manifest ManifestLog phase answer)
 collects_due options now (removing.Committing at phase) answer = gc_commit_due at (commit_goes phase answer) (commits_due phase answer)
 collects_due options now (removing.Collecting phase) answer = gc_collect_due (pass_goes decoded_manifest options now phase answer) (passes_due options now phase answer)
 
@@ -278,6 +291,17 @@ commit_around purpose now db (Stay phase) h = h
 commit_around purpose now db (End phase (Ok version)) h = tt
 commit_around purpose now db (End phase (Err e)) h = tt
 
+record_read_around : (purpose : Purpose) (db : List ℕ) (g : Goes (ReadPhase Record) (Option (ℕ × Record))) → ReadAt g → WorkAt (record_read_on purpose db g)
+record_read_around purpose db (Stay phase) h = h
+record_read_around purpose db (End phase (Ok None)) h = tt
+record_read_around purpose db (End phase (Ok (Some version))) h = tt
+record_read_around purpose db (End phase (Err e)) h = tt
+
+record_commit_around : (purpose : Purpose) (now : ℤ) (db : List ℕ) (g : Goes (CommitPhase Record) (ℕ × Record)) → CommitAt g → WorkAt (record_commit_on purpose now db g)
+record_commit_around purpose now db (Stay phase) h = h
+record_commit_around purpose now db (End phase (Ok version)) h = tt
+record_commit_around purpose now db (End phase (Err e)) h = tt
+
 pass_around : (db : List ℕ) (options : PassOptions) (g : GcGoes) → GcAt g → WorkAt (pass_on db options g)
 pass_around db options (Stay phase) h = h
 pass_around db options (End phase (Ok counts)) h = tt
@@ -288,8 +312,10 @@ put_around db upload bytes (Ok end) = tt
 put_around db upload bytes (Err e) = tt
 
 work_due : (at : Work) (now : ℤ) (answer : StoreAnswer) → WorkAt (goes at now answer)
-work_due (work.ReadManifest purpose db phase) now answer = read_around purpose db (read_goes ManifestLog decoded_manifest phase answer) (reads_due phase answer)
+work_due (work.ReadManifest purpose db phase) now answer = read_around purpose db (read_goes ManifestLog decoded_manifest phase answer) (reads_due decoded_manifest ManifestLog phase answer)
 work_due (work.CommitManifest purpose made db phase) now answer = commit_around purpose made db (commit_goes phase answer) (commits_due phase answer)
+work_due (work.ReadRecord purpose db phase) now answer = record_read_around purpose db (read_goes RecordLog decoded_record phase answer) (reads_due decoded_record RecordLog phase answer)
+work_due (work.CommitRecord purpose made db phase) now answer = record_commit_around purpose made db (commit_goes phase answer) (commits_due phase answer)
 work_due (work.PutTable db upload bytes) now answer = put_around db upload bytes (put_end upload answer)
 work_due (work.Pass db options phase) now answer = pass_around db options (gc_goes decoded_manifest encoded options now phase answer) (collects_due options now phase answer)
 
@@ -307,10 +333,18 @@ commit_at facts call purpose db now m (Ok (Some commit)) h = h
 commit_at facts call purpose db now m (Ok None) h = done_due facts m call purpose
 commit_at facts call purpose db now m (Err e) h = tt
 
+record_at : (facts : Facts) (call : Call) (purpose : Purpose) (db : List ℕ) (now : ℤ) (r : Record) (result : Result (Option (CommitPhase Record)) SlateDBError) → DueCommit result → DueNext (record_next facts call purpose db now r result)
+record_at facts call purpose db now r (Ok (Some commit)) h = h
+record_at facts call purpose db now r (Ok None) h = tt
+record_at facts call purpose db now r (Err e) h = tt
+
 after_due : (facts : Facts) (call : Call) (now : ℤ) (end : Ended) → DueNext (after facts call now end)
 after_due facts call now (NoManifest purpose) = tt
 after_due facts call now (ManifestRead purpose db n m) = commit_at facts call purpose db now m (commit_for facts call purpose now n m) (made_due (change_of facts call purpose) now n m)
 after_due facts call now (ManifestCommitted purpose db n m) = done_due facts m call purpose
+after_due facts call now (NoRecord purpose) = tt
+after_due facts call now (RecordRead purpose db n r) = record_at facts call purpose db now r (record_commit_for facts call purpose now n r) (record_made_due (record_change_of facts call purpose) now n r)
+after_due facts call now (RecordCommitted purpose db n r) = tt
 after_due facts call now (TablePut upload) = tt
 after_due facts call now (Passed counts) = tt
 

@@ -37,7 +37,7 @@ use Rattle.slate_protocol.specs.Rows.{follow}
 use Rattle.slate_protocol.specs.Runs.{opening}
 use Rattle.slate_protocol.specs.Safe.{IsCollected, AllCollected}
 use Rattle.slate_protocol.specs.Specs.{opening_world}
-use Rattle.slate_protocol.specs.Works.{asks, goes, commit_on, pass_on}
+use Rattle.slate_protocol.specs.Works.{asks, goes, commit_on, record_commit_on, pass_on}
 use Rattle.slate_protocol.specs.World.{World, HasDb, party_of}
 use Rattle.slate_protocol.specs.declared.party.Facts.{Facts}
 use Rattle.slate_protocol.specs.declared.party.Party.{Party}
@@ -45,7 +45,7 @@ use Rattle.slate_protocol.specs.declared.party.State.TheVariants.{Busy}
 use Rattle.slate_protocol.specs.declared.party.Task.{Task}
 use Rattle.slate_protocol.specs.declared.work.Purpose.{Purpose}
 use Rattle.slate_protocol.specs.declared.work.Work.{Work}
-use Rattle.slate_protocol.specs.declared.work.Work.TheVariants.{ReadManifest, CommitManifest, PutTable, Pass}
+use Rattle.slate_protocol.specs.declared.work.Work.TheVariants.{ReadManifest, CommitManifest, ReadRecord, CommitRecord, PutTable, Pass}
 use Rattle.slate_laws.proofs.AfterEvents.{after_inv, course_collected}
 use Rattle.slate_laws.proofs.Calls.{WorkKnows}
 use Rattle.slate_laws.proofs.Facts.{IsSound, IsMade, ReadKnows, ReadBrings}
@@ -115,6 +115,8 @@ PhraseFails s moment mark (Collects db phase) = ⊥
 work_fails : (s : Store) (moment : ℤ) (mark : Mark) (facts : Facts) (call : Call) (work : Work) → PhraseFails s moment mark (phrase_of work) → IsRefused (follow facts call moment (goes work moment (effect mark (asks work) moment s).answer)).next
 work_fails s moment mark facts call (ReadManifest purpose db phase) h = absurd h
 work_fails s moment mark facts call (CommitManifest purpose now db phase) h = record { error = h.error; is = ap (λ g. (follow facts call moment (commit_on purpose now db g)).next) h.is }
+work_fails s moment mark facts call (ReadRecord purpose db phase) h = absurd h
+work_fails s moment mark facts call (CommitRecord purpose now db phase) h = record { error = h.error; is = ap (λ g. (follow facts call moment (record_commit_on purpose now db g)).next) h.is }
 work_fails s moment mark facts call (PutTable db upload bytes) h = absurd h
 work_fails s moment mark facts call (Pass db options (gc.Reading phase)) h = absurd h
 work_fails s moment mark facts call (Pass db options (gc.Committing now phase)) h = record { error = h.error; is = ap (λ g. (follow facts call moment (pass_on db options (whole_pass.commit_on now g))).next) h.is }

@@ -10,6 +10,7 @@ mod Lists
 mod Turns
 mod Maps
 mod NormalRules
+mod NormalRecordRules
 mod Manifests
 mod Advances
 mod Passes

@@ -1,5 +1,5 @@
 -- The two logs: what their codecs and their rules give, and what is committed of a change.
-use Rattle.std.proofs.Common.{◌≡◌, ℕ, ℤ, ◌+◌, ◌==◌, ◌≤◌, Bool, true, false, List, Option, Some, None, Result, Ok, Err, refl, ap, ◌∙◌}
+use Rattle.std.proofs.Common.{◌≡◌, ℕ, ◌+◌, ◌==◌, ◌≤◌, Bool, true, false, List, Option, Some, None, Result, Ok, Err, refl, ap, ◌∙◌}
 use Rattle.std.specs.Prelude.{if◌then◌else◌}
 use Rattle.slate_ids.specs.Limits.{last_number}
 use Rattle.slate_ids.specs.declared.error.SlateDBError.{SlateDBError}
@@ -8,8 +8,6 @@ use Rattle.slate_layout.specs.laws.Codecs.{codec_round_trip, record_codec_trip}
 use Rattle.slate_updates.specs.Rules.{manifest_refusal}
 use Rattle.slate_updates.proofs.Lawful.{nothing_falls, names_stay}
 use Rattle.slate_model.specs.declared.manifest.Manifest.{Manifest}
-use Rattle.slate_updates.specs.Changes.{made, right_of, fence_of, commit_of}
-use Rattle.slate_updates.specs.declared.manifest_change.ManifestChange.{ManifestChange}
 use Rattle.slate_log.specs.CommitPhase.{prepared, checked_commit, encoded_commit}
 use Rattle.slate_log.specs.declared.commit_phase.CommitPhase.{CommitPhase}
 use Rattle.slate_log.specs.declared.commit_phase.CommitPhase.TheVariants.{Putting}
@@ -20,15 +18,14 @@ use Rattle.slate_log.specs.declared.log_kind.LogKind.{LogKind}
 use Rattle.slate_log.specs.declared.log_kind.LogKind.TheVariants as logs
 use Rattle.slate_protocol.specs.Logs.{manifests, records, log_of}
 use Rattle.slate_laws.proofs.Facts.{IsLog}
+use Rattle.slate_laws.proofs.NormalRecordRules.{record_normal_passes}
 use Rattle.slate_laws.proofs.NormalRules.{refusal_normal}
 
 pub manifests_log : IsLog manifests
 manifests_log = record { round = λ m bytes h. codec_round_trip m bytes h; plain = λ n old m right h. refusal_normal n old m right ∙ h; known = λ n old m right k h named. names_stay n old m right h k named; first = λ author m k h named. absurd cc }
 
--- ---- the log of records, of which no author makes anything yet
-
 records_log : IsLog records
-records_log = record { round = λ r bytes h. record_codec_trip r bytes h; plain = λ n old r right h. h; known = λ n old r right k h named. absurd cc; first = λ author r k h named. absurd cc }
+records_log = record { round = λ r bytes h. record_codec_trip r bytes h; plain = λ n old r right h. record_normal_passes n old r right h; known = λ n old r right k h named. absurd cc; first = λ author r k h named. absurd cc }
 
 -- each log is one
 pub log_laws : (k : LogKind) → IsLog (log_of k)
@@ -60,32 +57,33 @@ module _ {V : Type 0} (refusal : ℕ → V → V → Right → Option SlateDBErr
   is_prepared h = by_room (n == last_number) refl h
 
 -- what is committed of a change: what it makes of the version read, where its fence lets it
-pub record IsChanged (encoded : Manifest → Result (List ℕ) SlateDBError) (change : ManifestChange) (now : ℤ) (n : ℕ) (m : Manifest) (commit : CommitPhase Manifest) : Type 0 where
-  pub new : Manifest
-  pub makes : made change now n m ≡ Ok (Some new)
-  pub prepared : IsPrepared manifest_refusal encoded n m new (right_of change) commit
-  pub passed : fence_of change m ≡ None
+pub record IsChanged {V : Type 0} (refusal : ℕ → V → V → Right → Option SlateDBError) (encoded : V → Result (List ℕ) SlateDBError) (making : ℕ → V → Result (Option V) SlateDBError) (right : Right) (fence : Option SlateDBError) (n : ℕ) (old : V) (commit : CommitPhase V) : Type 0 where
+  pub new : V
+  pub makes : making n old ≡ Ok (Some new)
+  pub prepared : IsPrepared refusal encoded n old new right commit
+  pub passed : fence ≡ None
 
-module _ (encoded : Manifest → Result (List ℕ) SlateDBError) (change : ManifestChange) (now : ℤ) (n : ℕ) (m : Manifest) (commit : CommitPhase Manifest) where
-  changed_of : (new : Manifest) → made change now n m ≡ Ok (Some new) → fence_of change m ≡ None → (r : Result (CommitPhase Manifest) SlateDBError) → prepared manifest_refusal encoded n m new (right_of change) ≡ r
-      → some_commit r ≡ Ok (Some commit) → IsChanged encoded change now n m commit
-  changed_of new makes passed (Ok c) is h =
+module _ {V : Type 0} (refusal : ℕ → V → V → Right → Option SlateDBError) (encoded : V → Result (List ℕ) SlateDBError) (making : ℕ → V → Result (Option V) SlateDBError) (right : Right) (fence : Option SlateDBError) (n : ℕ) (old : V) (commit : CommitPhase V) where
+  abbrev Changed : Type 0
+  Changed = IsChanged refusal encoded making right fence n old commit
+
+  changed_of : (new : V) → making n old ≡ Ok (Some new) → fence ≡ None → (r : Result (CommitPhase V) SlateDBError) → prepared refusal encoded n old new right ≡ r → some_commit r ≡ Ok (Some commit) → Changed
+  changed_of new made passed (Ok c) is h =
       let same : c ≡ commit = cc in
-      record { new = new; makes = makes; prepared = is_prepared manifest_refusal encoded n m new (right_of change) commit (is ∙ ap (λ (x : CommitPhase Manifest). Ok x) same); passed = passed }
-  changed_of new makes passed (Err e) is h = absurd cc
+      record { new = new; makes = made; prepared = is_prepared refusal encoded n old new right commit (is ∙ ap (λ (x : CommitPhase V). Ok x) same); passed = passed }
+  changed_of new made passed (Err e) is h = absurd cc
 
-  by_value : (r : Result (Option Manifest) SlateDBError) → made change now n m ≡ r → fence_of change m ≡ None → wanted (λ (new : Manifest). prepared manifest_refusal encoded n m new (right_of change)) r ≡ Ok (Some commit)
-      → IsChanged encoded change now n m commit
-  by_value (Ok (Some new)) is passed h = changed_of new is passed (prepared manifest_refusal encoded n m new (right_of change)) refl h
+  by_value : (r : Result (Option V) SlateDBError) → making n old ≡ r → fence ≡ None → wanted (λ (new : V). prepared refusal encoded n old new right) r ≡ Ok (Some commit) → Changed
+  by_value (Ok (Some new)) is passed h = changed_of new is passed (prepared refusal encoded n old new right) refl h
   by_value (Ok None) is passed h = absurd cc
   by_value (Err e) is passed h = absurd cc
 
-  by_fence : (o : Option SlateDBError) → fence_of change m ≡ o → unless o (renewed (made change now) manifest_refusal encoded (right_of change) n m) ≡ Ok (Some commit) → IsChanged encoded change now n m commit
+  by_fence : (o : Option SlateDBError) → fence ≡ o → unless o (renewed making refusal encoded right n old) ≡ Ok (Some commit) → Changed
   by_fence (Some e) is h = absurd cc
-  by_fence None is h = by_value (made change now n m) refl is h
+  by_fence None is h = by_value (making n old) refl is h
 
-  pub change_commits : commit_of encoded change now n m ≡ Ok (Some commit) → IsChanged encoded change now n m commit
-  change_commits h = by_fence (fence_of change m) refl h
+  pub change_commits : unless fence (renewed making refusal encoded right n old) ≡ Ok (Some commit) → Changed
+  change_commits h = by_fence fence refl h
 
 -- the rules let no writer epoch fall
 pub epoch_rises : (old new : Manifest) (n : ℕ) (right : Right) → manifest_refusal n old new right ≡ None → old.writer_epoch ≤ new.writer_epoch

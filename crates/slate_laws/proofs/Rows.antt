@@ -18,7 +18,7 @@ use Rattle.slate_protocol.specs.Calls.{Next, Go, Finish}
 use Rattle.slate_protocol.specs.Rows.{Answered, Row, Asks, Standing, begin, follow, answered, after_answers, stands_after, row_of, row}
 use Rattle.slate_protocol.specs.Runs.{Course, Ran, going_on, run}
 use Rattle.slate_protocol.specs.Works.{asks, goes, is_due}
-use Rattle.slate_protocol.specs.World.{World, Transition, party_of, with_party, tally_of, noted, newcomer, settled, reply_of, stepped, step_state, start_state, halted, stop_state, carrying, may_start, open_at, start_at, step_at, stop_at, happens}
+use Rattle.slate_protocol.specs.World.{World, Transition, party_of, with_party, tally_of, noted, first_facts, newcomer, settled, reply_of, stepped, step_state, start_state, halted, stop_state, carrying, may_start, open_at, start_at, step_at, stop_at, happens}
 use Rattle.slate_protocol.specs.declared.party.Facts.{Facts}
 use Rattle.slate_protocol.specs.declared.party.Party.{Party}
 use Rattle.slate_protocol.specs.declared.party.State.{State}
@@ -195,8 +195,8 @@ open_brings n kind db w told None None d at m h = absurd cc
 open_brings n kind db w told None (Some t) d at m h = subst (λ (o : Option Transition). elim o as (λ _. Type 0) [ None ↦ Unit {0} | Some d ↦ Brought (Open n kind db) told w d ]) h (record {
   entry = refl;
   store = refl;
-  own = subst (Matches (Some (record { facts = record { kind = kind; db = db; epoch = None; uploads = [] }; doing = Rests }))) (sym (insert_here nat_cmp number_order n (newcomer kind db) w.parties)) refl;
-  others = λ k ne. insert_else nat_cmp number_order n k (newcomer kind db) w.parties ne;
+  own = subst (Matches (Some (record { facts = first_facts n kind db; doing = Rests }))) (sym (insert_here nat_cmp number_order n (newcomer n kind db) w.parties)) refl;
+  others = λ k ne. insert_else nat_cmp number_order n k (newcomer n kind db) w.parties ne;
 })
 
 start_event : (n : ℕ) (call : Call) (w : World) (told : Option Told) (o : Option Party) (d : Transition) → party_of n w.parties ≡ o → Matches told o → start_at w n call o ≡ Some d → Brought (Start n call) told w d

@@ -286,7 +286,7 @@ module _ (w : World) (chains : Chains) (i : Inv w chains) (n : ℕ) (p : Party) 
 
   reaches : Reaches (HasDb w') s' chains' n task.call standing
   reaches = follow_reaches (HasDb w') s' chains' n task.call facts task.work moment answer (same_db facts.db (i.parties n p at).has) (same_db (db_of task.work) knows.has)
-      (log_after logs.Manifest (db_of task.work) knows.has).sound knows.fits after.brings
+      (λ k. (log_after k (db_of task.work) knows.has).sound) knows.fits after.brings
 
   own_knows : PartyKnows w' chains' n (settled task.call standing)
   own_knows = record { has = reaches.0; knows = settle_knows (HasDb w') s' chains' n task.call standing.facts standing.next reaches.1 }
@@ -340,15 +340,15 @@ stop_inv w chains n p i at Halted = i
 stop_inv w chains n p i at Resting = moved_inv w chains n p (halted p.facts) i at (record { has = (i.parties n p at).has; knows = tt })
 stop_inv w chains n p i at (Busy task) = moved_inv w chains n p (halted p.facts) i at (record { has = (i.parties n p at).has; knows = tt })
 
-open_inv : (w : World) (chains : Chains) (n : ℕ) (kind : PartyKind) (db : List ℕ) (t : Tally) → Inv w chains → party_of n w.parties ≡ None → tally_of db w.tallies ≡ Some t → Inv (record w { parties = insert_entry nat_cmp w.parties n (newcomer kind db) }) chains
+open_inv : (w : World) (chains : Chains) (n : ℕ) (kind : PartyKind) (db : List ℕ) (t : Tally) → Inv w chains → party_of n w.parties ≡ None → tally_of db w.tallies ≡ Some t → Inv (record w { parties = insert_entry nat_cmp w.parties n (newcomer n kind db) }) chains
 open_inv w chains n kind db t i none found =
-    let w' : World = record w { parties = insert_entry nat_cmp w.parties n (newcomer kind db) } in
+    let w' : World = record w { parties = insert_entry nat_cmp w.parties n (newcomer n kind db) } in
     record {
       tidy = i.tidy;
       named = i.named;
       logs = i.logs;
       told = i.told;
-      parties = each_knows w w' chains chains n (newcomer kind db) (insert_here nat_cmp number_order n (newcomer kind db) w.parties) (λ k ne. insert_else nat_cmp number_order n k (newcomer kind db) w.parties ne)
+      parties = each_knows w w' chains chains n (newcomer n kind db) (insert_here nat_cmp number_order n (newcomer n kind db) w.parties) (λ k ne. insert_else nat_cmp number_order n k (newcomer n kind db) w.parties ne)
           (λ d h. h) (λ k d h. grows_not (log_of k) d w.store (chains k d)) (record { has = ap is_some found; knows = tt }) i.parties;
     }
 

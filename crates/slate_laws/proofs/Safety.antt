@@ -42,7 +42,7 @@ use Rattle.slate_protocol.specs.declared.party.State.{State}
 use Rattle.slate_protocol.specs.declared.party.State.TheVariants.{Resting, Busy, Halted}
 use Rattle.slate_protocol.specs.declared.tally.Tally.{Tally}
 use Rattle.slate_protocol.specs.declared.work.Work.{Work}
-use Rattle.slate_protocol.specs.declared.work.Work.TheVariants.{ReadManifest, CommitManifest, PutTable, Pass}
+use Rattle.slate_protocol.specs.declared.work.Work.TheVariants.{ReadManifest, CommitManifest, ReadRecord, CommitRecord, PutTable, Pass}
 use Rattle.slate_laws.proofs.Facts.{IsReached, Grows}
 use Rattle.slate_laws.proofs.Passes.{PassKnows}
 use Rattle.slate_laws.proofs.Paths.{version_owner}
@@ -183,6 +183,8 @@ module _ (w : World) (chains : Chains) (v : World) (chains' : Chains) (a : Event
   work_gone : (n : ℕ) (facts : Facts) (call : Call) (work : Work) (s : Store) → HasDb w (db_of work) → PhraseKnows w.store chains n facts call (phrase_of work) → AllCollected v chains' (removed_by_call (asks work) w.store s)
   work_gone n facts call (ReadManifest purpose db phase) s has k = read_gone db logs.Manifest phase s
   work_gone n facts call (CommitManifest purpose now db phase) s has k = commit_gone db logs.Manifest phase s
+  work_gone n facts call (ReadRecord purpose db phase) s has k = read_gone db logs.Compactions phase s
+  work_gone n facts call (CommitRecord purpose now db phase) s has k = commit_gone db logs.Compactions phase s
   work_gone n facts call (PutTable db upload bytes) s has k = tt
   work_gone n facts call (Pass db options (gc.Reading phase)) s has k = read_gone db logs.Manifest phase s
   work_gone n facts call (Pass db options (gc.Committing now phase)) s has k = commit_gone db logs.Manifest phase s

@@ -64,6 +64,8 @@ phrase_asks (Collects db phase) = pass_asks db phase
 pub work_asks : (work : Work) → asks work ≡ phrase_asks (phrase_of work)
 work_asks (works.ReadManifest purpose db phase) = refl
 work_asks (works.CommitManifest purpose now db phase) = refl
+work_asks (works.ReadRecord purpose db phase) = refl
+work_asks (works.CommitRecord purpose now db phase) = refl
 work_asks (works.PutTable db upload bytes) = refl
 work_asks (works.Pass db options (passing.Reading phase)) = refl
 work_asks (works.Pass db options (passing.Committing now phase)) = refl
@@ -72,6 +74,8 @@ work_asks (works.Pass db options (passing.Collecting phase)) = refl
 pub work_db : (work : Work) → db_in (phrase_of work) ≡ db_of work
 work_db (works.ReadManifest purpose db phase) = refl
 work_db (works.CommitManifest purpose now db phase) = refl
+work_db (works.ReadRecord purpose db phase) = refl
+work_db (works.CommitRecord purpose now db phase) = refl
 work_db (works.PutTable db upload bytes) = refl
 work_db (works.Pass db options (passing.Reading phase)) = refl
 work_db (works.Pass db options (passing.Committing now phase)) = refl

@@ -116,6 +116,8 @@ module _ (firsts : Firsts) (chains : Chains) (h : Tells firsts chains) where
   work_told n facts call at false = h
   work_told n facts call (work.ReadManifest purpose db phase) true = read_told logs.Manifest db phase
   work_told n facts call (work.CommitManifest purpose now db phase) true = commit_told logs.Manifest db (record { party = n; facts = facts; call = call; purpose = purpose; now = now }) phase
+  work_told n facts call (work.ReadRecord purpose db phase) true = read_told logs.Compactions db phase
+  work_told n facts call (work.CommitRecord purpose now db phase) true = commit_told logs.Compactions db (record { party = n; facts = facts; call = call; purpose = purpose; now = now }) phase
   work_told n facts call (work.PutTable db upload bytes) true = h
   work_told n facts call (work.Pass db options (removing.Reading phase)) true = read_told logs.Manifest db phase
   work_told n facts call (work.Pass db options (removing.Committing now phase)) true = commit_told logs.Manifest db (record { party = n; facts = facts; call = call; purpose = Once; now = now }) phase

@@ -40,7 +40,7 @@ use Rattle.slate_protocol.specs.Works.{asks, db_of}
 use Rattle.slate_protocol.specs.World.{World, HasDb}
 use Rattle.slate_protocol.specs.declared.party.Facts.{Facts}
 use Rattle.slate_protocol.specs.declared.work.Work.{Work}
-use Rattle.slate_protocol.specs.declared.work.Work.TheVariants.{ReadManifest, CommitManifest, PutTable, Pass}
+use Rattle.slate_protocol.specs.declared.work.Work.TheVariants.{ReadManifest, CommitManifest, ReadRecord, CommitRecord, PutTable, Pass}
 use Rattle.slate_laws.proofs.Facts.{IsMade, CommitKnows}
 use Rattle.slate_laws.proofs.Facts.IsMade.{OfVersion, OfNone}
 use Rattle.slate_laws.proofs.Paths.{version_fine, boundary_fine, version_owner, boundary_owner, table_nobodys}
@@ -161,6 +161,8 @@ module _ (k : LogKind) (d : List ℕ) (named : is_db_path d ≡ true) where
   work_else : (s : Store) (chains : Chains) (n : ℕ) (facts : Facts) (call : Call) (work : Work) → is_db_path (db_of work) ≡ true → PhraseKnows s chains n facts call (phrase_of work) → WritesElse zero_path (asks work)
   work_else s chains n facts call (ReadManifest purpose db phase) own h = read_else db logs.Manifest phase
   work_else s chains n facts call (CommitManifest purpose now db phase) own h = commit_else s chains db logs.Manifest _ phase own h
+  work_else s chains n facts call (ReadRecord purpose db phase) own h = read_else db logs.Compactions phase
+  work_else s chains n facts call (CommitRecord purpose now db phase) own h = commit_else s chains db logs.Compactions _ phase own h
   work_else s chains n facts call (PutTable db upload bytes) own h = table_else db upload.table own h
   work_else s chains n facts call (Pass db options (gc.Reading phase)) own h = read_else db logs.Manifest phase
   work_else s chains n facts call (Pass db options (gc.Committing now phase)) own h = commit_else s chains db logs.Manifest _ phase own h

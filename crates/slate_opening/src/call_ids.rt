@@ -1,5 +1,5 @@
 //! The ids that calls carry: the table's columns of ids, in two pools: of checkpoints, and of tables, views and compactions.
-ghost use Rattle.std.specs.Prelude.{◌≡◌, ◌++◌, map, IfOk, OnOk};
+ghost use Rattle.std.specs.Prelude.{◌≡◌, ◌++◌, ◌∷◌, map, IfOk, OnOk};
 ghost use Rattle.std.specs.List.{filter_map};
 ghost use Rattle.slate_protocol.specs.Calls as calls;
 
@@ -42,9 +42,12 @@ pub(crate) fn named_checkpoints(
     ensures { IfOk result (λ all. all.items ≡ calls.named_checkpoints call.now) }
 {
     match call {
-        Call::OpenWriter | Call::Upload { .. } | Call::Flush { .. } | Call::Pass { .. } => {
-            listed(alloc, &[])
-        }
+        Call::OpenWriter
+        | Call::Upload { .. }
+        | Call::Flush { .. }
+        | Call::Claim { .. }
+        | Call::Report { .. }
+        | Call::Pass { .. } => listed(alloc, &[]),
         Call::WriteCheckpoint { source, .. } => listed(alloc, &[*source]),
         Call::ReplaceCheckpoint { old, source, .. } => listed(alloc, &[Some(*old), *source]),
         Call::RefreshCheckpoint { id, .. } => listed(alloc, &[Some(*id)]),
@@ -74,6 +77,18 @@ fn tables_of(alloc: Global, tables: &[FlushTable]) -> Result<Vec<Ulid>, OutOfMem
     Ok(all)
 }
 
+// An id, and others after it.
+fn with_others(alloc: Global, id: Ulid, others: &[Ulid]) -> Result<Vec<Ulid>, OutOfMemory>
+    ensures { IfOk result (λ all. all.items ≡ id ∷ others.now) }
+{
+    let mut all = Vec::new(alloc);
+    all.push(id)?;
+    for other in others {
+        all.push(*other)?;
+    }
+    Ok(all)
+}
+
 /// The ids of tables, views and compactions that a call brings anew.
 pub(crate) fn fresh_ulids(alloc: Global, call: &Call) -> Result<Vec<Ulid>, OutOfMemory>
     ensures { IfOk result (λ all. all.items ≡ calls.fresh_ulids call.now) }
@@ -91,6 +106,8 @@ pub(crate) fn named_ulids(alloc: Global, call: &Call) -> Result<Vec<Ulid>, OutOf
 {
     match call {
         Call::Flush { tables, .. } => tables_of(alloc, tables.as_slice()),
+        Call::Claim { id } => listed(alloc, &[Some(*id)]),
+        Call::Report { id, tables } => with_others(alloc, *id, tables.as_slice()),
         _ => listed(alloc, &[]),
     }
 }

@@ -86,10 +86,10 @@ fn has_wrong_output(objects: &Objects, spec: &DbSpec, compaction: &Compaction) -
 }
 
 // Whether one of a record's compactions has.
-fn record_has_wrong(objects: &Objects, spec: &DbSpec, record: &Compactions) -> bool
-    ensures { result ≡ list_any (opens.has_wrong_output objects.now.entries spec.now) record.now.entries }
+fn record_has_wrong(objects: &Objects, spec: &DbSpec, compactions: &Compactions) -> bool
+    ensures { result ≡ list_any (opens.has_wrong_output objects.now.entries spec.now) compactions.now.entries }
 {
-    for compaction in record.iter() {
+    for compaction in compactions.iter() {
         if has_wrong_output(objects, spec, compaction) {
             return true;
         }

@@ -56,10 +56,10 @@ fn all_table_ids(alloc: Global, specs: &[DbSpec]) -> Result<Vec<Ulid>, OutOfMemo
 }
 
 // Adds the ids of a record's compactions.
-fn push_record_ids(ids: &mut Vec<Ulid>, record: &Compactions) -> Result<(), OutOfMemory>
-    ensures { OnOk result (ids.new.items ≡ ids.old.items ++ map (λ c. c.id) record.now.entries) }
+fn push_record_ids(ids: &mut Vec<Ulid>, compactions: &Compactions) -> Result<(), OutOfMemory>
+    ensures { OnOk result (ids.new.items ≡ ids.old.items ++ map (λ c. c.id) compactions.now.entries) }
 {
-    for compaction in record.iter() {
+    for compaction in compactions.iter() {
         ids.push(compaction.id)?;
     }
     Ok(())

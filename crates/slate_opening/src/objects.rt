@@ -64,12 +64,12 @@ fn open_firsts(alloc: Global, specs: &[DbSpec]) -> Result<Option<Objects>, OutOf
 }
 
 // The bytes of a first record. None where it has none, or isn't what is read back of them.
-fn record_bytes(alloc: Global, record: &Compactions) -> Result<Option<ByteList>, OutOfMemory>
-    ensures { IfOk result (λ o. o ≡ opens.record_bytes record.now) }
+fn record_bytes(alloc: Global, compactions: &Compactions) -> Result<Option<ByteList>, OutOfMemory>
+    ensures { IfOk result (λ o. o ≡ opens.record_bytes compactions.now) }
 {
-    match CompactionsCodec.encode(alloc, record) {
+    match CompactionsCodec.encode(alloc, compactions) {
         Ok(bytes) => {
-            if is_normal_record(record) {
+            if is_normal_record(compactions) {
                 Ok(Some(ByteList::new(bytes)))
             } else {
                 Ok(None)
@@ -90,12 +90,12 @@ fn write_record(
     alloc: Global,
     firsts: &mut Objects,
     spec: &DbSpec,
-    record: &Compactions,
+    compactions: &Compactions,
 ) -> Result<bool, OutOfMemory>
     ensures { IfOk result (λ added. (if added then Some firsts.new.entries else None)
-        ≡ opens.record_written firsts.old.entries spec.now (opens.record_bytes record.now)) }
+        ≡ opens.record_written firsts.old.entries spec.now (opens.record_bytes compactions.now)) }
 {
-    match record_bytes(alloc, record)? {
+    match record_bytes(alloc, compactions)? {
         None => Ok(false),
         Some(bytes) => {
             firsts.insert(ObjectPath::Record(spec.path, 1), (bytes, spec.modified))?;

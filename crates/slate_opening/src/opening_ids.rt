@@ -253,11 +253,11 @@ fn push_compaction(
 }
 
 // Adds the ids of a record's compactions.
-fn push_record(all: &mut Vec<(Ulid, Carrier)>, record: &Compactions) -> Result<(), OutOfMemory>
+fn push_record(all: &mut Vec<(Ulid, Carrier)>, compactions: &Compactions) -> Result<(), OutOfMemory>
     ensures { OnOk result (all.new.items ≡ all.old.items
-        ++ map ids.only_named (flat_map opens.compaction_ulids record.now.entries)) }
+        ++ map ids.only_named (flat_map opens.compaction_ulids compactions.now.entries)) }
 {
-    for compaction in record.iter() {
+    for compaction in compactions.iter() {
         push_compaction(all, compaction)?;
     }
     Ok(())

@@ -26,6 +26,18 @@ fn writer_has(call: &Call) -> bool
     }
 }
 
+// Whether a call is a worker's.
+fn worker_has(call: &Call) -> bool
+    ensures { result ≡ has.worker_has call.now }
+{
+    match call {
+        Call::Upload { table, .. } => is_id(*table),
+        Call::Claim { .. } => true,
+        Call::Report { .. } => true,
+        _ => false,
+    }
+}
+
 // Whether a call is a holder's: it refreshes a checkpoint to a lifetime.
 fn holder_has(call: &Call) -> bool
     ensures { result ≡ has.holder_has call.now }
@@ -59,6 +71,7 @@ pub(crate) fn has_call(kind: PartyKind, call: &Call) -> bool
 {
     match kind {
         PartyKind::Writer => writer_has(call),
+        PartyKind::Worker => worker_has(call),
         PartyKind::Holder => holder_has(call),
         PartyKind::Collector => collector_has(call),
     }

@@ -13,11 +13,12 @@ use slate_store::{Mark, MemoryStore};
 use std::alloc::Global;
 
 /// A party that comes.
-pub(crate) fn newcomer(alloc: Global, kind: PartyKind, db: DbPath) -> Party
-    ensures { result ≡ comes kind db }
+pub(crate) fn newcomer(alloc: Global, number: u32, kind: PartyKind, db: DbPath) -> Party
+    ensures { result ≡ comes number kind db }
 {
     Party {
         facts: Facts {
+            number,
             kind,
             db,
             epoch: None,

@@ -107,7 +107,8 @@ impl ClusterState {
     {
         match (self.parties.get(&number), self.tallies.get(&db)) {
             (None, Some(_)) => {
-                self.parties.insert(number, newcomer(alloc, kind, db))?;
+                self.parties
+                    .insert(number, newcomer(alloc, number, kind, db))?;
                 Ok(Some(Entry::Opened { party: number }))
             }
             _ => Ok(None),

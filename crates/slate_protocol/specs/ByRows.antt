@@ -9,6 +9,7 @@ use Rattle.slate_events.specs.declared.entry.Entry.{Entry}
 use Rattle.slate_events.specs.declared.entry.Entry.TheVariants.{Opened, Started, Called, Stopped, Idle}
 use Rattle.slate_events.specs.declared.reply.Reply.{Reply}
 use Rattle.slate_protocol.specs.Rows.{Answered, Row, Asks, Replies, row, stands_after}
+use Rattle.slate_protocol.specs.World.{first_facts}
 use Rattle.slate_protocol.specs.declared.party.Facts.{Facts}
 
 -- what the trail says that a party does: it has no call, it has this one with these answers so far, or it was stopped
@@ -81,7 +82,7 @@ told_answer facts doing answer reply = record { facts = facts; doing = doing }
 
 -- what is said of the party of an event after its entry
 abbrev pub told_after : Event → Entry → Option Told → Option Told
-told_after (Open n kind db) (Opened k) told = Some (record { facts = record { kind = kind; db = db; epoch = None; uploads = [] }; doing = Rests })
+told_after (Open n kind db) (Opened k) told = Some (record { facts = first_facts n kind db; doing = Rests })
 told_after (Start n call) (Started k reply) (Some told) = Some (told_call told.facts call [] reply)
 told_after (Step n moment mark) (Called k asked at by answer reply) (Some told) = Some (told_answer told.facts told.doing (answer, at) reply)
 told_after (Stop n) (Stopped k) (Some told) = Some (record { facts = told.facts; doing = Stays })

@@ -1,11 +1,15 @@
 -- The two logs of a database, and what a run commits to them: kept beside the state, event by event.
-use Rattle.std.specs.Prelude.{ℕ, Bool, true, false, List, [], ◌∷◌, Option, Some, None, Ok, ℤ, bytes_eq, if◌then◌else◌}
+use Rattle.std.specs.Prelude.{ℕ, Bool, true, false, List, [], ◌∷◌, Option, Some, None, Result, Ok, ℤ, bytes_eq, if◌then◌else◌}
 use Rattle.slate_model.specs.declared.manifest.Manifest.{Manifest}
 use Rattle.slate_records.specs.Records.{Record}
 use Rattle.slate_updates.specs.Changes.{made, right_of, fence_of}
 use Rattle.slate_updates.specs.Checkpoints.{is_named}
-use Rattle.slate_updates.specs.Rules.{manifest_refusal, record_refusal}
+use Rattle.slate_updates.specs.Rules.{manifest_refusal}
+use Rattle.slate_record_updates.specs.RecordChanges.{made as record_made, right_of as record_right_of, fence_of as record_fence_of}
+use Rattle.slate_record_updates.specs.RecordRules.{record_refusal_of}
+use Rattle.slate_record_updates.specs.declared.record_change.RecordChange.{RecordChange}
 use Rattle.slate_updates.specs.declared.manifest_change.ManifestChange.{ManifestChange}
+use Rattle.slate_ids.specs.declared.error.SlateDBError.{SlateDBError}
 use Rattle.slate_layout.specs.Codec.{encoded}
 use Rattle.slate_layout.specs.RecordCodec.{record_encoded}
 use Rattle.slate_manifest_parts.specs.Decoding.{decoded_manifest}
@@ -19,6 +23,7 @@ use Rattle.slate_log.specs.declared.commit_phase.CommitPhase.TheVariants.{Puttin
 use Rattle.slate_log.specs.declared.log_kind.LogKind.{LogKind}
 use Rattle.slate_log.specs.declared.log_kind.LogKind.TheVariants as logs
 use Rattle.slate_log.specs.declared.read_phase.ReadPhase.{ReadPhase}
+use Rattle.slate_log.specs.declared.right.Right.{Right}
 use Rattle.slate_log.specs.declared.right.Right.TheVariants.{Plain}
 use Rattle.slate_gc.specs.declared.gc_pass.GcPass.TheVariants as passing
 use Rattle.slate_gc.specs.declared.pass_phase.PassPhase.{PassPhase}
@@ -26,7 +31,7 @@ use Rattle.slate_events.specs.declared.call.Call.{Call}
 use Rattle.slate_events.specs.declared.db_spec.DbSpec.{DbSpec}
 use Rattle.slate_events.specs.declared.event.Event.{Event}
 use Rattle.slate_events.specs.declared.event.Event.TheVariants.{Open, Start, Step, Stop}
-use Rattle.slate_protocol.specs.Calls.{change_of}
+use Rattle.slate_protocol.specs.Calls.{change_of, record_change_of}
 use Rattle.slate_protocol.specs.Chains.{Link, Log, with_link}
 use Rattle.slate_protocol.specs.Specs.{first_bytes, record_bytes, listed_or_none}
 use Rattle.slate_protocol.specs.Works.{asks, is_due}
@@ -39,7 +44,7 @@ use Rattle.slate_protocol.specs.declared.party.Task.{Task}
 use Rattle.slate_protocol.specs.declared.work.Purpose.{Purpose}
 use Rattle.slate_protocol.specs.declared.work.Purpose.TheVariants.{Once}
 use Rattle.slate_protocol.specs.declared.work.Work.{Work}
-use Rattle.slate_protocol.specs.declared.work.Work.TheVariants.{ReadManifest, CommitManifest, PutTable, Pass}
+use Rattle.slate_protocol.specs.declared.work.Work.TheVariants.{ReadManifest, CommitManifest, ReadRecord, CommitRecord, PutTable, Pass}
 
 -- ---- authors
 
@@ -54,6 +59,23 @@ pub record Author : Type 0 where
 -- what an author puts
 abbrev pub change_by : Author → ManifestChange
 change_by a = change_of a.facts a.call a.purpose
+
+-- what an author puts to the log of records, where it puts there
+abbrev pub record_change_by : Author → Option RecordChange
+record_change_by a = record_change_of a.facts a.call a.purpose
+
+-- what a change, where there is one, makes of a record; under which right; and whether its fence refuses it
+abbrev pub made_by : Option RecordChange → ℤ → ℕ → Record → Result (Option Record) SlateDBError
+made_by None now n r = Ok None
+made_by (Some change) now n r = record_made change now n r
+
+abbrev pub right_by : Option RecordChange → Right
+right_by None = Plain
+right_by (Some change) = record_right_of change
+
+abbrev pub fence_by : Option RecordChange → Record → Option SlateDBError
+fence_by None r = None
+fence_by (Some change) r = record_fence_of change r
 
 -- ---- the logs
 
@@ -72,19 +94,19 @@ manifests = record {
   fence = λ a m. fence_of (change_by a) m;
 }
 
--- the log of records: no party puts one yet
+-- the log of records; no party makes the first one yet
 abbrev pub records : Log Record Author
 records = record {
   kind = logs.Compactions;
   encoded = record_encoded;
   decoded = decoded_record;
   normal = normal_record;
-  refusal = record_refusal;
+  refusal = record_refusal_of;
   names = λ r n. false;
   first = λ a. Ok None;
-  makes = λ a n r. Ok None;
-  right = λ a. Plain;
-  fence = λ a r. None;
+  makes = λ a n r. made_by (record_change_by a) a.now n r;
+  right = λ a. right_by (record_change_by a);
+  fence = λ a r. fence_by (record_change_by a) r;
 }
 
 -- the values of a log
@@ -120,6 +142,8 @@ pub data Phrase : Type 0 where
 abbrev pub phrase_of : Work → Phrase
 phrase_of (ReadManifest purpose db phase) = Reads logs.Manifest db phase
 phrase_of (CommitManifest purpose now db phase) = Commits logs.Manifest db purpose now phase
+phrase_of (ReadRecord purpose db phase) = Reads logs.Compactions db phase
+phrase_of (CommitRecord purpose now db phase) = Commits logs.Compactions db purpose now phase
 phrase_of (PutTable db upload bytes) = Uploads db upload.table bytes
 phrase_of (Pass db options (passing.Reading phase)) = Reads logs.Manifest db phase
 phrase_of (Pass db options (passing.Committing now phase)) = Commits logs.Manifest db Once now phase

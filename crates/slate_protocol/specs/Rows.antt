@@ -3,6 +3,10 @@ use Rattle.std.specs.Prelude.{ℕ, ℤ, List, [], ◌∷◌, Option, Some, None,
 use Rattle.slate_ids.specs.declared.error.SlateDBError.{SlateDBError}
 use Rattle.slate_ids.specs.declared.error.SlateDBError.TheVariants.{LatestTransactionalObjectVersionMissing}
 use Rattle.slate_model.specs.declared.manifest.Manifest.{Manifest}
+use Rattle.slate_records.specs.Records.{Record}
+use Rattle.slate_layout.specs.RecordCodec.{record_encoded}
+use Rattle.slate_record_updates.specs.RecordChanges.{commit_of as record_commit_of}
+use Rattle.slate_record_updates.specs.declared.record_change.RecordChange.{RecordChange}
 use Rattle.slate_layout.specs.Codec.{encoded}
 use Rattle.slate_log.specs.declared.commit_phase.CommitPhase.{CommitPhase}
 use Rattle.slate_store.specs.Machines.{Goes, Stay, End}
@@ -13,14 +17,14 @@ use Rattle.slate_events.specs.declared.call.Call.{Call}
 use Rattle.slate_events.specs.declared.reply.Reply.{Reply}
 use Rattle.slate_events.specs.declared.reply.Reply.TheVariants.{Done, Refused}
 use Rattle.slate_events.specs.declared.reply.Reply.TheVariants as reply
-use Rattle.slate_protocol.specs.Calls.{refusal_at_start, first_work, change_of, done, facts_after, Next, Go, Finish}
+use Rattle.slate_protocol.specs.Calls.{refusal_at_start, first_work, change_of, done, record_change_of, record_done, facts_after, Next, Go, Finish}
 use Rattle.slate_protocol.specs.Works.{WorkGoes, asks, goes}
 use Rattle.slate_protocol.specs.declared.party.Facts.{Facts}
 use Rattle.slate_protocol.specs.declared.work.Ended.{Ended}
-use Rattle.slate_protocol.specs.declared.work.Ended.TheVariants.{NoManifest, ManifestRead, ManifestCommitted, TablePut, Passed}
+use Rattle.slate_protocol.specs.declared.work.Ended.TheVariants.{NoManifest, ManifestRead, ManifestCommitted, NoRecord, RecordRead, RecordCommitted, TablePut, Passed}
 use Rattle.slate_protocol.specs.declared.work.Purpose.{Purpose}
 use Rattle.slate_protocol.specs.declared.work.Work.{Work}
-use Rattle.slate_protocol.specs.declared.work.Work.TheVariants.{CommitManifest}
+use Rattle.slate_protocol.specs.declared.work.Work.TheVariants.{CommitManifest, CommitRecord}
 
 -- where a call stands: what is known of its party, and how the call goes on
 pub record Standing : Type 0 where
@@ -50,11 +54,29 @@ commit_next facts call purpose db now m (Ok (Some commit)) = Go (CommitManifest 
 commit_next facts call purpose db now m (Ok None) = done facts call purpose m
 commit_next facts call purpose db now m (Err e) = Finish (Refused e)
 
+-- the commit of what a change makes of a record, where there is a change
+abbrev pub commit_by : Option RecordChange → ℤ → ℕ → Record → Result (Option (CommitPhase Record)) SlateDBError
+commit_by None now n r = Ok None
+commit_by (Some change) now n r = record_commit_of record_encoded change now n r
+
+-- the commit of what a call makes, at a moment, of the record that was read for a purpose
+abbrev pub record_commit_for : Facts → Call → Purpose → ℤ → ℕ → Record → Result (Option (CommitPhase Record)) SlateDBError
+record_commit_for facts call purpose now n r = commit_by (record_change_of facts call purpose) now n r
+
+-- after a read of a record at a database, the same
+abbrev pub record_next : Facts → Call → Purpose → List ℕ → ℤ → Record → Result (Option (CommitPhase Record)) SlateDBError → Next
+record_next facts call purpose db now r (Ok (Some commit)) = Go (CommitRecord purpose now db commit)
+record_next facts call purpose db now r (Ok None) = record_done facts call purpose r
+record_next facts call purpose db now r (Err e) = Finish (Refused e)
+
 -- what follows the end of a phrase, which came at a moment
 abbrev pub after : Facts → Call → ℤ → Ended → Next
 after facts call now (NoManifest purpose) = Finish (Refused LatestTransactionalObjectVersionMissing)
 after facts call now (ManifestRead purpose db n m) = commit_next facts call purpose db now m (commit_for facts call purpose now n m)
 after facts call now (ManifestCommitted purpose db n m) = done facts call purpose m
+after facts call now (NoRecord purpose) = Finish (Refused LatestTransactionalObjectVersionMissing)
+after facts call now (RecordRead purpose db n r) = record_next facts call purpose db now r (record_commit_for facts call purpose now n r)
+after facts call now (RecordCommitted purpose db n r) = record_done facts call purpose r
 after facts call now (TablePut upload) = Finish Done
 after facts call now (Passed counts) = Finish (reply.Pass counts.picked counts.deleted counts.failed)
 

@@ -130,9 +130,13 @@ abbrev pub reply_of : Next → Option Reply
 reply_of (Go work) = None
 reply_of (Finish reply) = Some reply
 
+-- what is known of a party that comes
+abbrev pub first_facts : ℕ → PartyKind → List ℕ → Facts
+first_facts n kind db = record { number = n; kind = kind; db = db; epoch = None; uploads = [] }
+
 -- a party that comes
-abbrev pub newcomer : PartyKind → List ℕ → Party
-newcomer kind db = record { facts = record { kind = kind; db = db; epoch = None; uploads = [] }; state = Resting }
+abbrev pub newcomer : ℕ → PartyKind → List ℕ → Party
+newcomer n kind db = record { facts = first_facts n kind db; state = Resting }
 
 -- the one store call of a step, which the work asks
 abbrev pub stepped : World → ℕ → Facts → Task → ℤ → Mark → Transition
@@ -180,7 +184,7 @@ carrying n call w = record w { carried = with_call n call w.carried }
 
 -- an open, by whether the number came before and the database is there
 abbrev pub open_at : World → ℕ → PartyKind → List ℕ → Option Party → Option Tally → Option Transition
-open_at w n kind db None (Some tally) = Some (record { entry = Opened n; world = record w { parties = insert_entry nat_cmp w.parties n (newcomer kind db) } })
+open_at w n kind db None (Some tally) = Some (record { entry = Opened n; world = record w { parties = insert_entry nat_cmp w.parties n (newcomer n kind db) } })
 open_at w n kind db _ _ = None
 
 -- whether a party may start a call: its kind has it, and the call's fresh id is one

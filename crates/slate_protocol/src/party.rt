@@ -8,6 +8,8 @@ use slate_ids::DbPath;
 /// What is known of a party between its calls. It changes at the end of phrases alone.
 #[derive(Debug, Drop)]
 pub struct Facts {
+    /// Its number among the parties.
+    pub number: u32,
     pub kind: PartyKind,
     pub db: DbPath,
     /// The epoch of its last open that succeeded.

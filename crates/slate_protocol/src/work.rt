@@ -4,7 +4,7 @@ use crate::uploads::Upload;
 use slate_gc::{GcPass, PassCounts, PassOptions};
 use slate_ids::{ByteList, DbPath, Millis};
 use slate_log::{CommitPhase, ReadPhase};
-use slate_model::Manifest;
+use slate_model::{Compactions, Manifest};
 
 /// Which read or commit of its call this is.
 #[derive(Clone, Copy, Debug)]
@@ -20,6 +20,10 @@ pub enum Work {
     ReadManifest(Purpose, DbPath, ReadPhase<Manifest>),
     /// What the call made of the manifest read is committed. It was made at this moment, the one at which the read ended.
     CommitManifest(Purpose, Millis, DbPath, CommitPhase<Manifest>),
+    /// The latest record is read, and the call goes on from it.
+    ReadRecord(Purpose, DbPath, ReadPhase<Compactions>),
+    /// What the call made of the record read is committed. It was made at this moment, the one at which the read ended.
+    CommitRecord(Purpose, Millis, DbPath, CommitPhase<Compactions>),
     /// The object of a new table is put, with these bytes.
     PutTable(DbPath, Upload, ByteList),
     /// A pass of the garbage collector, with these options.
@@ -35,6 +39,12 @@ pub enum Ended {
     ManifestRead(Purpose, DbPath, u64, Manifest),
     /// A commit at this database: the number and the value that were put.
     ManifestCommitted(Purpose, DbPath, u64, Manifest),
+    /// A read that found no record.
+    NoRecord(Purpose),
+    /// A read at this database: the number and the value of the latest record.
+    RecordRead(Purpose, DbPath, u64, Compactions),
+    /// A commit at this database: the number and the value that were put.
+    RecordCommitted(Purpose, DbPath, u64, Compactions),
     /// The put of a table that the store answered.
     TablePut(Upload),
     /// A pass: how many objects it picked, deleted, and failed to delete.

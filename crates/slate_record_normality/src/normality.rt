@@ -59,10 +59,10 @@ fn is_normal_compaction(compaction: &Compaction) -> bool
 /// Whether a record is its own normal form, which is what is read back of its bytes: in each compaction views come before runs, a
 /// retention is known where there is something to go on with, and only one that was compacted, completed or failed has outputs. Takes
 /// no memory.
-pub fn is_normal_record(record: &Compactions) -> bool
-    ensures { result ≡ normal.is_normal_record record.now }
+pub fn is_normal_record(compactions: &Compactions) -> bool
+    ensures { result ≡ normal.is_normal_record compactions.now }
 {
-    for compaction in record.iter() {
+    for compaction in compactions.iter() {
         if !is_normal_compaction(compaction) {
             return false;
         }

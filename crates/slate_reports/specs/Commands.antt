@@ -61,14 +61,17 @@ run_help_text =
     ++ line (codes "  flush     {\"start\":1,\"call\":\"flush\",\"tables\":[t]}, and where")
     ++ line (codes "            wanted \"replay_after\", \"next_wal\", \"seq\", \"tick\"; a t is")
     ++ line (codes "            {\"table\":\"9:1\",\"view\":\"9:2\"}, and where wanted \"prefix\"")
+    ++ line (codes "  claim     {\"start\":1,\"call\":\"claim\",\"id\":\"8:1\"}")
+    ++ line (codes "  report    {\"start\":1,\"call\":\"report\",\"id\":\"8:1\",\"tables\":[\"9:1\"]}")
     ++ line (codes "  step      {\"step\":1,\"at\":1000}, with \"times\" up to 1000 of them,")
     ++ line (codes "            and with \"mark\" \"fail\" or \"lost\" a call that faults")
     ++ line (codes "  stop      {\"stop\":1}")
     ++ line []
-    ++ line (codes "A writer has the calls open_writer, upload and flush; a holder has")
-    ++ line (codes "write_checkpoint, replace_checkpoint, refresh_checkpoint and")
-    ++ line (codes "delete_checkpoint; a collector has pass. A script has at most")
-    ++ line (codes "1000000 events. docs/FORMAT.md has all fields and lines.")
+    ++ line (codes "A writer has the calls open_writer, upload and flush; a worker has")
+    ++ line (codes "upload, claim and report; a holder has write_checkpoint,")
+    ++ line (codes "replace_checkpoint, refresh_checkpoint and delete_checkpoint; a")
+    ++ line (codes "collector has pass. A script has at most 1000000 events.")
+    ++ line (codes "docs/FORMAT.md has all fields and lines.")
 
 -- the name and the version of the program, and of the kit that it is proved with
 unfoldable pub version_text : List ℕ

@@ -41,14 +41,17 @@ the paths of the objects left, and then ok or the first bad event.
   flush     {\"start\":1,\"call\":\"flush\",\"tables\":[t]}, and where
             wanted \"replay_after\", \"next_wal\", \"seq\", \"tick\"; a t is
             {\"table\":\"9:1\",\"view\":\"9:2\"}, and where wanted \"prefix\"
+  claim     {\"start\":1,\"call\":\"claim\",\"id\":\"8:1\"}
+  report    {\"start\":1,\"call\":\"report\",\"id\":\"8:1\",\"tables\":[\"9:1\"]}
   step      {\"step\":1,\"at\":1000}, with \"times\" up to 1000 of them,
             and with \"mark\" \"fail\" or \"lost\" a call that faults
   stop      {\"stop\":1}
 
-A writer has the calls open_writer, upload and flush; a holder has
-write_checkpoint, replace_checkpoint, refresh_checkpoint and
-delete_checkpoint; a collector has pass. A script has at most
-1000000 events. docs/FORMAT.md has all fields and lines.
+A writer has the calls open_writer, upload and flush; a worker has
+upload, claim and report; a holder has write_checkpoint,
+replace_checkpoint, refresh_checkpoint and delete_checkpoint; a
+collector has pass. A script has at most 1000000 events.
+docs/FORMAT.md has all fields and lines.
 ";
 
 const VERSION: &str = "buqtarel 0.1.0\nrattle-kit-13f logic dac8208d650f15bf\n";

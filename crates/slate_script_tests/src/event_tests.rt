@@ -18,6 +18,10 @@ const WHOLE: &str = r#"{"databases":[],
 {"start":1,"call":"flush","tables":[]},
 {"start":1,"call":"flush","tables":[{"table":"5:1","view":"6:2"},{"table":"05:1","view":"7:0","prefix":"p"}],
 "replay_after":18446744073709551615,"next_wal":0,"seq":3,"tick":-9223372036854775808},
+{"open":3,"kind":"worker","db":"a"},
+{"start":3,"call":"claim","id":"08:1"},
+{"start":3,"call":"report","id":"8:1","tables":[]},
+{"start":3,"call":"report","tables":["9:1","9:2","9:1"],"id":"8:1"},
 {"start":2,"call":"write_checkpoint","id":7},
 {"start":2,"call":"write_checkpoint","id":7,"lifetime":18446744073709551615,"source":8,"name":""},
 {"start":2,"call":"replace_checkpoint","old":3,"id":4},
@@ -35,7 +39,7 @@ const WHOLE: &str = r#"{"databases":[],
 {"stop":2}]}"#;
 
 /// What its events are.
-const EVENTS: [&str; 23] = [
+const EVENTS: [&str; 27] = [
     "open 1 Writer a",
     "open 4294967295 Holder none",
     "start 1 open writer",
@@ -43,6 +47,10 @@ const EVENTS: [&str; 23] = [
     "start 1 upload 281474976710655:1208925819614629174706175 b\"\\xc3\\xa9\" b\"\"",
     "start 1 flush 0 1 0 0",
     "start 1 flush 6:2>5:1 b\"\" 7:0>5:1 b\"p\" 18446744073709551615 0 3 -9223372036854775808",
+    "open 3 Worker a",
+    "start 3 claim 8:1",
+    "start 3 report 8:1",
+    "start 3 report 8:1 9:1 9:2 9:1",
     "start 2 write 7 None None None",
     "start 2 write 7 Some(18446744073709551615) Some(8) Some(\"\")",
     "start 2 replace 3 4 None None None",
@@ -112,6 +120,20 @@ fn push_writer_call(out: &mut String, call: &Call) -> Result<(), AllocError> {
             out.push_str("flush")?;
             push_tables(out, tables.as_slice())?;
             write!(out, " {replay_after} {next_wal} {seq} {tick}")
+        }
+        _ => push_worker_call(out, call),
+    }
+}
+
+fn push_worker_call(out: &mut String, call: &Call) -> Result<(), AllocError> {
+    match call {
+        Call::Claim { id } => push_ulid(out, "claim ", *id),
+        Call::Report { id, tables } => {
+            push_ulid(out, "report ", *id)?;
+            for table in tables.as_slice() {
+                push_ulid(out, " ", *table)?;
+            }
+            Ok(())
         }
         _ => Ok(()),
     }
@@ -278,8 +300,8 @@ fn events_that_are_none(rt: HostRuntime) {
 /// What stands before the name of a writer's call.
 const BEFORE_CALL: &str = r#"{"databases":[],"events":[{"stop":1},{"start":1,"call":"#;
 
-/// Names and fields of uploads and flushes that are none.
-const BAD_CALLS: [&str; 20] = [
+/// Names and fields of uploads, flushes, claims and reports that are none.
+const BAD_CALLS: [&str; 29] = [
     r#""upload""#,
     r#""upload","table":"1""#,
     r#""upload","table":1"#,
@@ -300,6 +322,15 @@ const BAD_CALLS: [&str; 20] = [
     r#""flush","tables":[],"tick":9223372036854775808"#,
     r#""flush","tables":[],"tick":null"#,
     r#""flush","tables":[],"id":1"#,
+    r#""claim""#,
+    r#""claim","id":1"#,
+    r#""claim","id":"1""#,
+    r#""claim","id":"1:1","tables":[]"#,
+    r#""report","id":"1:1""#,
+    r#""report","tables":[]"#,
+    r#""report","id":"1:1","tables":"1:1""#,
+    r#""report","id":"1:1","tables":[1]"#,
+    r#""report","id":"1:1","tables":[{"table":"1:1"}]"#,
 ];
 
 #[test]

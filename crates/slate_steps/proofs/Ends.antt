@@ -7,6 +7,7 @@ use Rattle.slate_store.specs.Machines.{End}
 use Rattle.slate_store.specs.declared.step.Step.TheVariants.{Done}
 use Rattle.slate_store.specs.declared.store_answer.StoreAnswer.{StoreAnswer}
 use Rattle.slate_model.specs.declared.manifest.Manifest.{Manifest}
+use Rattle.slate_records.specs.Records.{Record}
 use Rattle.slate_events.specs.declared.call.Call.{Call}
 use Rattle.slate_events.specs.declared.call.Call.TheVariants.{OpenWriter}
 use Rattle.slate_events.specs.declared.reply.Reply.{Reply}
@@ -17,7 +18,7 @@ use Rattle.slate_protocol.specs.Works.{WorkGoes, goes}
 use Rattle.slate_protocol.specs.declared.party.Facts.{Facts}
 use Rattle.slate_protocol.specs.declared.party.Task.{Task}
 use Rattle.slate_protocol.specs.declared.work.Ended.{Ended}
-use Rattle.slate_protocol.specs.declared.work.Ended.TheVariants.{NoManifest, ManifestRead, ManifestCommitted, TablePut, Passed}
+use Rattle.slate_protocol.specs.declared.work.Ended.TheVariants.{NoManifest, ManifestRead, ManifestCommitted, NoRecord, RecordRead, RecordCommitted, TablePut, Passed}
 use Rattle.slate_protocol.specs.declared.work.Purpose.{Purpose}
 use Rattle.slate_protocol.specs.declared.work.Purpose.TheVariants.{Once}
 use Rattle.slate_protocol.specs.declared.work.Work.{Work}
@@ -33,6 +34,10 @@ same_read : (facts : Facts) (call : Call) (purpose : Purpose) (db : List ℕ) (n
 same_read facts OpenWriter purpose db n m = refl
 same_read facts _ purpose db n m = refl
 
+same_record_read : (facts : Facts) (call : Call) (purpose : Purpose) (db : List ℕ) (n : ℕ) (r : Record) → facts_after facts call (RecordRead purpose db n r) ≡ facts
+same_record_read facts OpenWriter purpose db n r = refl
+same_record_read facts _ purpose db n r = refl
+
 same_done : (facts : Facts) (call : Call) (purpose : Purpose) (db : List ℕ) (n : ℕ) (m : Manifest) → done (facts_after facts call (ManifestCommitted purpose db n m)) call purpose m ≡ done facts call purpose m
 same_done facts OpenWriter Once db n m = refl
 same_done facts _ Once db n m = refl
@@ -41,6 +46,9 @@ same_after : (facts : Facts) (call : Call) (now : ℤ) (end : Ended) → after (
 same_after facts call now (NoManifest purpose) = refl
 same_after facts call now (ManifestRead purpose db n m) = ap (λ (known : Facts). after known call now (ManifestRead purpose db n m)) (same_read facts call purpose db n m)
 same_after facts call now (ManifestCommitted purpose db n m) = same_done facts call purpose db n m
+same_after facts call now (NoRecord purpose) = refl
+same_after facts call now (RecordRead purpose db n r) = ap (λ (known : Facts). after known call now (RecordRead purpose db n r)) (same_record_read facts call purpose db n r)
+same_after facts call now (RecordCommitted purpose db n r) = refl
 same_after facts call now (TablePut upload) = refl
 same_after facts call now (Passed counts) = refl
 

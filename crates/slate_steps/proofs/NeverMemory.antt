@@ -6,11 +6,13 @@ use Rattle.slate_ids.specs.Limits.{last_number}
 use Rattle.slate_ids.specs.Answers.{is_memory, OrMemory}
 use Rattle.slate_ids.specs.declared.error.FieldName.{FieldName}
 use Rattle.slate_ids.specs.declared.error.FormatName.{FormatName}
-use Rattle.slate_ids.specs.declared.error.FormatName.TheVariants.{Manifest as ManifestFormat}
+use Rattle.slate_ids.specs.declared.error.FormatName.TheVariants.{Manifest as ManifestFormat, Compactions as RecordFormat}
 use Rattle.slate_ids.specs.declared.error.SlateDBError.{SlateDBError}
 use Rattle.slate_ids.specs.declared.error.SlateDBError.TheVariants.{Corrupt, Exhausted, InvalidVersion, ManifestMissing, OutOfMemory, StoreFault}
 use Rattle.slate_model.specs.Trees.{views_of}
 use Rattle.slate_model.specs.declared.manifest.Manifest.{Manifest}
+use Rattle.slate_records.specs.Records.{Record}
+use Rattle.slate_record_bytes.specs.Records.{decoded_record, record_or_corrupt, record_after_version, first_record, second_record}
 use Rattle.slate_parts.specs.InfoCodec.{unless_field}
 use Rattle.slate_parts.specs.Reading.{u16_in}
 use Rattle.slate_manifest_parts.specs.Decoding.{decoded_manifest, or_corrupt, after_version}
@@ -33,7 +35,8 @@ use Rattle.slate_log.specs.Boundary.{boundary_of, boundary_got, greatest}
 use Rattle.slate_log.specs.Change.{some_commit, wanted}
 use Rattle.slate_log.specs.ReadPhase.{Reply, read_goes, listed_goes, decoded_goes, boundary_goes}
 use Rattle.slate_log.specs.CommitPhase.{CommitGoes, commit_goes, checked_commit, created_goes, bounded_goes, prepared}
-use Rattle.slate_log.specs.declared.log_kind.LogKind.TheVariants.{Manifest as ManifestLog}
+use Rattle.slate_log.specs.declared.log_kind.LogKind.{LogKind}
+use Rattle.slate_log.specs.declared.log_kind.LogKind.TheVariants.{Manifest as ManifestLog, Compactions as RecordLog}
 use Rattle.slate_log.specs.declared.read_phase.ReadPhase.{ReadPhase}
 use Rattle.slate_log.specs.declared.read_phase.ReadPhase.TheVariants as reading
 use Rattle.slate_log.specs.declared.commit_phase.CommitPhase.{CommitPhase}
@@ -58,11 +61,11 @@ use Rattle.slate_gc.specs.declared.pass_counts.PassCounts.{PassCounts}
 use Rattle.slate_gc.specs.declared.pass_options.PassOptions.{PassOptions}
 use Rattle.slate_gc.specs.declared.pass_phase.PassPhase.{PassPhase}
 use Rattle.slate_gc.specs.declared.pass_phase.PassPhase.TheVariants as passing
-use Rattle.slate_protocol.specs.Works.{WorkGoes, asks, goes, read_on, commit_on, put_end, pass_on}
+use Rattle.slate_protocol.specs.Works.{WorkGoes, asks, goes, read_on, commit_on, record_read_on, record_commit_on, put_end, pass_on}
 use Rattle.slate_protocol.specs.declared.work.Purpose.{Purpose}
 use Rattle.slate_protocol.specs.declared.uploads.Upload.{Upload}
 use Rattle.slate_protocol.specs.declared.work.Work.{Work}
-use Rattle.slate_protocol.specs.declared.work.Work.TheVariants.{ReadManifest, CommitManifest, PutTable, Pass}
+use Rattle.slate_protocol.specs.declared.work.Work.TheVariants.{ReadManifest, CommitManifest, ReadRecord, CommitRecord, PutTable, Pass}
 use Rattle.slate_protocol.specs.declared.work.Ended.{Ended}
 
 -- it goes on, ends well, or ends with a refusal other than that memory ran out
@@ -75,9 +78,50 @@ abbrev IsPlainResult : {R : Type 0} → Result R SlateDBError → Type 0
 IsPlainResult (Ok r) = Unit {0}
 IsPlainResult (Err e) = is_memory e ≡ false
 
-plain_listed : (n : Option ℕ) → IsPlain {P = ReadPhase Manifest} (listed_goes n)
-plain_listed None = tt
-plain_listed (Some n) = tt
+-- ---- reads and commits of any value
+
+plain_listed : (V : Type 0) (n : Option ℕ) → IsPlain {P = ReadPhase V} {R = Option (ℕ × V)} (listed_goes n)
+plain_listed V None = tt
+plain_listed V (Some n) = tt
+
+module _ {V : Type 0} where
+  plain_decoded : (n : ℕ) (r : Result V SlateDBError) → IsPlainResult r → IsPlain (decoded_goes n r)
+  plain_decoded n (Ok m) h = tt
+  plain_decoded n (Err e) h = h
+
+  plain_above : (n : ℕ) (m : V) (b : Bool) → IsPlain {P = ReadPhase V} {R = Option (ℕ × V)} (if b then Stay reading.Listing else End reading.Over (Ok (Some (n, m))))
+  plain_above n m true = tt
+  plain_above n m false = tt
+
+  plain_boundary : (n : ℕ) (m : V) (b : Option ℕ) → IsPlain (boundary_goes n m b)
+  plain_boundary n m None = refl
+  plain_boundary n m (Some b) = plain_above n m (nat_le n b)
+
+  plain_reads : (log : LogKind) (decoded : List ℕ → Result V SlateDBError) → ((bytes : List ℕ) → IsPlainResult (decoded bytes)) → (phase : ReadPhase V) (a : StoreAnswer) → IsPlain (read_goes log decoded phase a)
+  plain_reads log decoded plain reading.Listing (Found ms) = plain_listed V (greatest log ms)
+  plain_reads log decoded plain (reading.Getting n) (Got None) = tt
+  plain_reads log decoded plain (reading.Getting n) (Got (Some o)) = plain_decoded n (decoded o.bytes) (plain o.bytes)
+  plain_reads log decoded plain (reading.Bounding n m) (Got o) = plain_boundary n m (boundary_got o)
+  plain_reads log decoded plain _ _ = refl
+
+  plain_created : (n : ℕ) (m : V) (tag : Option ℕ) → IsPlain (created_goes n m tag)
+  plain_created n m None = refl
+  plain_created n m (Some tag) = tt
+
+  plain_test : (n : ℕ) (m : V) (e : SlateDBError) → is_memory e ≡ false → (b : Bool) → IsPlain {P = CommitPhase V} {R = ℕ × V} (if b then End committing.Over (Err e) else End committing.Over (Ok (n, m)))
+  plain_test n m e h true = h
+  plain_test n m e h false = tt
+
+  plain_bounded : (n : ℕ) (m : V) (b : Option ℕ) → IsPlain (bounded_goes n m b)
+  plain_bounded n m None = refl
+  plain_bounded n m (Some b) = plain_test n m _ refl (nat_le n b)
+
+  plain_commit : (phase : CommitPhase V) (a : StoreAnswer) → IsPlain (commit_goes phase a)
+  plain_commit (committing.Putting n bytes m) (Created tag) = plain_created n m tag
+  plain_commit (committing.Bounding n m) (Got o) = plain_bounded n m (boundary_got o)
+  plain_commit _ _ = refl
+
+-- ---- the bytes of manifests and of records
 
 plain_value : (o : Option Manifest) → IsPlainResult (ok_or o (Corrupt ManifestFormat))
 plain_value None = refl
@@ -92,41 +136,24 @@ plain_version : (p : Option (ℕ × List ℕ)) → IsPlainResult (after_version 
 plain_version None = refl
 plain_version (Some p) = plain_one p.0 p.1 (p.0 == 1) (p.0 == 2)
 
-plain_decoded : (n : ℕ) (r : Result Manifest SlateDBError) → IsPlainResult r → IsPlain (decoded_goes n r)
-plain_decoded n (Ok m) h = tt
-plain_decoded n (Err e) h = h
-
-plain_above : (n : ℕ) (m : Manifest) (b : Bool) → IsPlain {P = ReadPhase Manifest} {R = Option (ℕ × Manifest)} (if b then Stay reading.Listing else End reading.Over (Ok (Some (n, m))))
-plain_above n m true = tt
-plain_above n m false = tt
-
-plain_boundary : (n : ℕ) (m : Manifest) (b : Option ℕ) → IsPlain (boundary_goes n m b)
-plain_boundary n m None = refl
-plain_boundary n m (Some b) = plain_above n m (nat_le n b)
-
 plain_read : (phase : ReadPhase Manifest) (a : StoreAnswer) → IsPlain (read_goes ManifestLog decoded_manifest phase a)
-plain_read reading.Listing (Found ms) = plain_listed (greatest ManifestLog ms)
-plain_read (reading.Getting n) (Got None) = tt
-plain_read (reading.Getting n) (Got (Some o)) = plain_decoded n (decoded_manifest o.bytes) (plain_version (u16_in o.bytes))
-plain_read (reading.Bounding n m) (Got o) = plain_boundary n m (boundary_got o)
-plain_read _ _ = refl
+plain_read = plain_reads ManifestLog decoded_manifest (λ bytes. plain_version (u16_in bytes))
 
-plain_created : (n : ℕ) (m : Manifest) (tag : Option ℕ) → IsPlain (created_goes n m tag)
-plain_created n m None = refl
-plain_created n m (Some tag) = tt
+plain_record : (o : Option Record) → IsPlainResult (record_or_corrupt o)
+plain_record None = refl
+plain_record (Some r) = tt
 
-plain_test : (n : ℕ) (m : Manifest) (e : SlateDBError) → is_memory e ≡ false → (b : Bool) → IsPlain {P = CommitPhase Manifest} {R = ℕ × Manifest} (if b then End committing.Over (Err e) else End committing.Over (Ok (n, m)))
-plain_test n m e h true = h
-plain_test n m e h false = tt
+plain_one_record : (version : ℕ) (bytes : List ℕ) (one two : Bool) → IsPlainResult (if one then record_or_corrupt (first_record bytes) else if two then record_or_corrupt (second_record bytes) else Err (InvalidVersion RecordFormat version))
+plain_one_record version bytes true two = plain_record (first_record bytes)
+plain_one_record version bytes false true = plain_record (second_record bytes)
+plain_one_record version bytes false false = refl
 
-plain_bounded : (n : ℕ) (m : Manifest) (b : Option ℕ) → IsPlain (bounded_goes n m b)
-plain_bounded n m None = refl
-plain_bounded n m (Some b) = plain_test n m _ refl (nat_le n b)
+plain_record_version : (p : Option (ℕ × List ℕ)) → IsPlainResult (record_after_version p)
+plain_record_version None = refl
+plain_record_version (Some p) = plain_one_record p.0 p.1 (p.0 == 1) (p.0 == 2)
 
-plain_commit : (phase : CommitPhase Manifest) (a : StoreAnswer) → IsPlain (commit_goes phase a)
-plain_commit (committing.Putting n bytes m) (Created tag) = plain_created n m tag
-plain_commit (committing.Bounding n m) (Got o) = plain_bounded n m (boundary_got o)
-plain_commit _ _ = refl
+plain_record_read : (phase : ReadPhase Record) (a : StoreAnswer) → IsPlain (read_goes RecordLog decoded_record phase a)
+plain_record_read = plain_reads RecordLog decoded_record (λ bytes. plain_record_version (u16_in bytes))
 
 -- ---- what a pass makes of the manifest read
 
@@ -298,6 +325,17 @@ around_commit purpose made db (Stay p) h = tt
 around_commit purpose made db (End p (Ok v)) h = tt
 around_commit purpose made db (End p (Err e)) h = h
 
+around_record_read : (purpose : Purpose) (db : List ℕ) (g : Reply Record) → IsPlain g → IsPlain (record_read_on purpose db g)
+around_record_read purpose db (Stay p) h = tt
+around_record_read purpose db (End p (Ok None)) h = tt
+around_record_read purpose db (End p (Ok (Some v))) h = tt
+around_record_read purpose db (End p (Err e)) h = h
+
+around_record_commit : (purpose : Purpose) (made : ℤ) (db : List ℕ) (g : CommitGoes Record) → IsPlain g → IsPlain (record_commit_on purpose made db g)
+around_record_commit purpose made db (Stay p) h = tt
+around_record_commit purpose made db (End p (Ok v)) h = tt
+around_record_commit purpose made db (End p (Err e)) h = h
+
 around_pass : (db : List ℕ) (options : PassOptions) (g : GcGoes) → IsPlain g → IsPlain (pass_on db options g)
 around_pass db options (Stay p) h = tt
 around_pass db options (End p (Ok counts)) h = tt
@@ -310,6 +348,8 @@ around_put db upload bytes _ = refl
 plain_work : (work : Work) (now : ℤ) (a : StoreAnswer) → IsPlain (goes work now a)
 plain_work (ReadManifest purpose db phase) now a = around_read purpose db _ (plain_read phase a)
 plain_work (CommitManifest purpose made db phase) now a = around_commit purpose made db _ (plain_commit phase a)
+plain_work (ReadRecord purpose db phase) now a = around_record_read purpose db _ (plain_record_read phase a)
+plain_work (CommitRecord purpose made db phase) now a = around_record_commit purpose made db _ (plain_commit phase a)
 plain_work (PutTable db upload bytes) now a = around_put db upload bytes a
 plain_work (Pass db options pass) now a = around_pass db options _ (plain_gc options now pass a)
 

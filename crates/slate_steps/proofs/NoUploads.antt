@@ -1,6 +1,7 @@
 -- Work that puts no table doesn't end with the put of one.
 use Rattle.std.proofs.Common.{◌≡◌, ℤ, false, true≢false, List, ℕ, Some, None, Ok, Err, refl, sym, subst, inl, inr}
 use Rattle.slate_model.specs.declared.manifest.Manifest.{Manifest}
+use Rattle.slate_records.specs.Records.{Record}
 use Rattle.slate_store.specs.Machines.{Stay, End}
 use Rattle.slate_store.specs.declared.step.Step.TheVariants.{Done}
 use Rattle.slate_store.specs.declared.store_answer.StoreAnswer.{StoreAnswer}
@@ -8,11 +9,11 @@ use Rattle.slate_log.specs.CommitPhase.{CommitGoes, commit_goes}
 use Rattle.slate_log.specs.ReadPhase.{Reply, read_goes}
 use Rattle.slate_gc.specs.GcPass.{GcGoes}
 use Rattle.slate_gc.specs.declared.pass_options.PassOptions.{PassOptions}
-use Rattle.slate_protocol.specs.Works.{WorkGoes, goes, read_on, commit_on, pass_on}
+use Rattle.slate_protocol.specs.Works.{WorkGoes, goes, read_on, commit_on, record_read_on, record_commit_on, pass_on}
 use Rattle.slate_protocol.specs.declared.work.Ended.{Ended}
 use Rattle.slate_protocol.specs.declared.work.Purpose.{Purpose}
 use Rattle.slate_protocol.specs.declared.work.Work.{Work}
-use Rattle.slate_protocol.specs.declared.work.Work.TheVariants.{ReadManifest, CommitManifest, PutTable, Pass}
+use Rattle.slate_protocol.specs.declared.work.Work.TheVariants.{ReadManifest, CommitManifest, ReadRecord, CommitRecord, PutTable, Pass}
 use Rattle.slate_steps.specs.WorkSteps.{WorkGoesOn, is_upload, is_table_put}
 
 -- it goes on, is refused, or ends with something else
@@ -32,6 +33,17 @@ commit_else purpose made db (Stay p) = tt
 commit_else purpose made db (End p (Ok v)) = refl
 commit_else purpose made db (End p (Err e)) = tt
 
+record_read_else : (purpose : Purpose) (db : List ℕ) (g : Reply Record) → EndsElse (record_read_on purpose db g)
+record_read_else purpose db (Stay p) = tt
+record_read_else purpose db (End p (Ok None)) = refl
+record_read_else purpose db (End p (Ok (Some v))) = refl
+record_read_else purpose db (End p (Err e)) = tt
+
+record_commit_else : (purpose : Purpose) (made : ℤ) (db : List ℕ) (g : CommitGoes Record) → EndsElse (record_commit_on purpose made db g)
+record_commit_else purpose made db (Stay p) = tt
+record_commit_else purpose made db (End p (Ok v)) = refl
+record_commit_else purpose made db (End p (Err e)) = tt
+
 pass_else : (db : List ℕ) (options : PassOptions) (g : GcGoes) → EndsElse (pass_on db options g)
 pass_else db options (Stay p) = tt
 pass_else db options (End p (Ok counts)) = refl
@@ -40,6 +52,8 @@ pass_else db options (End p (Err e)) = tt
 work_else : (work : Work) (now : ℤ) (a : StoreAnswer) → is_upload work ≡ false → EndsElse (goes work now a)
 work_else (ReadManifest purpose db phase) now a h = read_else purpose db _
 work_else (CommitManifest purpose made db phase) now a h = commit_else purpose made db _
+work_else (ReadRecord purpose db phase) now a h = record_read_else purpose db _
+work_else (CommitRecord purpose made db phase) now a h = record_commit_else purpose made db _
 work_else (PutTable db upload bytes) now a h = absurd (true≢false h)
 work_else (Pass db options pass) now a h = pass_else db options _
 

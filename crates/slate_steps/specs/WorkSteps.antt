@@ -1,6 +1,7 @@
 -- How a phrase goes on from an answer.
 use Rattle.std.specs.Prelude.{◌≡◌, ℕ, ℤ, Bool, true, false, Ok}
 use Rattle.slate_model.specs.declared.manifest.Manifest.{Manifest}
+use Rattle.slate_records.specs.Records.{Record}
 use Rattle.slate_store.specs.Calls.{is_reading}
 use Rattle.slate_store.specs.Machines.{GoesOn}
 use Rattle.slate_store.specs.declared.store_answer.StoreAnswer.{StoreAnswer}
@@ -13,11 +14,11 @@ use Rattle.slate_events.specs.declared.call.Call.{Call}
 use Rattle.slate_events.specs.declared.call.Call.TheVariants.{Upload}
 use Rattle.slate_protocol.specs.Works.{asks, goes}
 use Rattle.slate_protocol.specs.declared.work.Work.{Work}
-use Rattle.slate_protocol.specs.declared.work.Work.TheVariants.{ReadManifest, CommitManifest, PutTable, Pass}
+use Rattle.slate_protocol.specs.declared.work.Work.TheVariants.{ReadManifest, CommitManifest, ReadRecord, CommitRecord, PutTable, Pass}
 use Rattle.slate_protocol.specs.declared.work.Purpose.{Purpose}
 use Rattle.slate_protocol.specs.declared.work.Purpose.TheVariants.{Once}
 use Rattle.slate_protocol.specs.declared.work.Ended.{Ended}
-use Rattle.slate_protocol.specs.declared.work.Ended.TheVariants.{NoManifest, ManifestRead, ManifestCommitted, TablePut, Passed}
+use Rattle.slate_protocol.specs.declared.work.Ended.TheVariants.{NoManifest, ManifestRead, ManifestCommitted, NoRecord, RecordRead, RecordCommitted, TablePut, Passed}
 
 -- the work goes on from the answer, which came at a moment, unless memory runs out
 abbrev pub WorkGoesOn : Work → Work → ℤ → StoreAnswer → Step Ended → Type 0
@@ -46,28 +47,55 @@ is_table_put _ = false
 abbrev pub purpose_of : Work → Purpose
 purpose_of (ReadManifest purpose db phase) = purpose
 purpose_of (CommitManifest purpose now db phase) = purpose
+purpose_of (ReadRecord purpose db phase) = purpose
+purpose_of (CommitRecord purpose now db phase) = purpose
 purpose_of (PutTable db upload bytes) = Once
 purpose_of (Pass db options phase) = Once
 
--- a read that gave this version, put back to its last phase; other work as it is
+-- a read that gave this manifest, put back to its last phase; other work as it is
 abbrev pub read_again : ℕ → Manifest → Work → Work
 read_again n m (ReadManifest purpose db phase) = ReadManifest purpose db (reading.Bounding n m)
 read_again n m (CommitManifest purpose now db phase) = CommitManifest purpose now db phase
+read_again n m (ReadRecord purpose db phase) = ReadRecord purpose db phase
+read_again n m (CommitRecord purpose now db phase) = CommitRecord purpose now db phase
 read_again n m (PutTable db upload bytes) = PutTable db upload bytes
 read_again n m (Pass db options phase) = Pass db options phase
 
--- a commit that gave this version, put back to its last phase; other work as it is
+-- a commit that gave this manifest, put back to its last phase; other work as it is
 abbrev pub commit_again : ℕ → Manifest → Work → Work
 commit_again n m (ReadManifest purpose db phase) = ReadManifest purpose db phase
 commit_again n m (CommitManifest purpose now db phase) = CommitManifest purpose now db (committing.Bounding n m)
+commit_again n m (ReadRecord purpose db phase) = ReadRecord purpose db phase
+commit_again n m (CommitRecord purpose now db phase) = CommitRecord purpose now db phase
 commit_again n m (PutTable db upload bytes) = PutTable db upload bytes
 commit_again n m (Pass db options phase) = Pass db options phase
+
+-- a read that gave this record, put back to its last phase; other work as it is
+abbrev pub record_read_again : ℕ → Record → Work → Work
+record_read_again n r (ReadManifest purpose db phase) = ReadManifest purpose db phase
+record_read_again n r (CommitManifest purpose now db phase) = CommitManifest purpose now db phase
+record_read_again n r (ReadRecord purpose db phase) = ReadRecord purpose db (reading.Bounding n r)
+record_read_again n r (CommitRecord purpose now db phase) = CommitRecord purpose now db phase
+record_read_again n r (PutTable db upload bytes) = PutTable db upload bytes
+record_read_again n r (Pass db options phase) = Pass db options phase
+
+-- a commit that gave this record, put back to its last phase; other work as it is
+abbrev pub record_commit_again : ℕ → Record → Work → Work
+record_commit_again n r (ReadManifest purpose db phase) = ReadManifest purpose db phase
+record_commit_again n r (CommitManifest purpose now db phase) = CommitManifest purpose now db phase
+record_commit_again n r (ReadRecord purpose db phase) = ReadRecord purpose db phase
+record_commit_again n r (CommitRecord purpose now db phase) = CommitRecord purpose now db (committing.Bounding n r)
+record_commit_again n r (PutTable db upload bytes) = PutTable db upload bytes
+record_commit_again n r (Pass db options phase) = Pass db options phase
 
 -- work that ended with a version, put back to its last phase
 abbrev pub rewound : Ended → Work → Work
 rewound (NoManifest purpose) work = work
 rewound (ManifestRead purpose db n m) work = read_again n m work
 rewound (ManifestCommitted purpose db n m) work = commit_again n m work
+rewound (NoRecord purpose) work = work
+rewound (RecordRead purpose db n r) work = record_read_again n r work
+rewound (RecordCommitted purpose db n r) work = record_commit_again n r work
 rewound (TablePut upload) work = work
 rewound (Passed counts) work = work
 
@@ -76,6 +104,9 @@ abbrev pub has_version : Ended → Bool
 has_version (NoManifest purpose) = false
 has_version (ManifestRead purpose db n m) = true
 has_version (ManifestCommitted purpose db n m) = true
+has_version (NoRecord purpose) = false
+has_version (RecordRead purpose db n r) = true
+has_version (RecordCommitted purpose db n r) = true
 has_version (TablePut upload) = false
 has_version (Passed counts) = false
 

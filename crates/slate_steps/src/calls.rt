@@ -3,6 +3,7 @@ ghost use Rattle.std.specs.Prelude.{◌≡◌, false, IfOk, map};
 ghost use Rattle.std.specs.List.{find};
 ghost use Rattle.slate_parts.specs.InfoCodec.{encoded_info};
 ghost use Rattle.slate_events.specs.declared.call.Call.TheVariants.{Upload as UploadCall};
+ghost use Rattle.slate_events.specs.declared.reply.Reply.TheVariants as reply;
 ghost use Rattle.slate_updates.specs.Checkpoints.{checkpoint_at};
 ghost use Rattle.slate_protocol.specs.Calls as calls;
 ghost use Rattle.slate_protocol.specs.Rows as rows;
@@ -21,6 +22,7 @@ use slate_layout::encode_info;
 use slate_log::ReadPhase;
 use slate_model::{CheckpointOptions, Manifest, Plain, SsTableHandle, SsTableId, SsTableInfo};
 use slate_protocol::{Ended, Facts, Purpose, Upload, Uploads, Work};
+use slate_record_updates::RecordChange;
 use slate_updates::{FlushBatch, FlushedTable, ManifestChange, find_checkpoint};
 use std::alloc::Global;
 
@@ -44,11 +46,30 @@ pub(crate) fn refuse(refusal: SlateDBError) -> Result<Reply, OutOfMemory>
     }
 }
 
+// Whether a table wasn't uploaded.
+fn is_unknown(uploads: &Uploads, table: &Ulid) -> bool
+    ensures { result ≡ calls.is_unknown uploads.now table.now }
+{
+    uploads.get(table).is_none()
+}
+
+// The refusal that names the first output that wasn't uploaded.
+fn refusal_of_unknown(uploads: &Uploads, tables: &[Ulid]) -> Option<SlateDBError>
+    ensures { result ≡ calls.refusal_of_unknown (find (calls.is_unknown uploads.now) tables.now) }
+{
+    for table in tables {
+        if is_unknown(uploads, table) {
+            return Some(SlateDBError::InvalidDBState(StateCause::NotUploaded(*table)));
+        }
+    }
+    None
+}
+
 // Whether a table of a flush wasn't uploaded.
 fn is_missing(uploads: &Uploads, table: &FlushTable) -> bool
     ensures { result ≡ calls.is_missing uploads.now table.now }
 {
-    uploads.get(&table.table).is_none()
+    is_unknown(uploads, &table.table)
 }
 
 // The refusal that names the first table that wasn't uploaded.
@@ -82,6 +103,7 @@ fn refusal_at_start(facts: &Facts, call: &Call) -> Option<SlateDBError>
     match call {
         Call::Upload { .. } => unreachable!(),
         Call::Flush { tables, .. } => refusal_of_flush(facts, tables.as_slice()),
+        Call::Report { tables, .. } => refusal_of_unknown(&facts.uploads, tables.as_slice()),
         _ => None,
     }
 }
@@ -142,6 +164,9 @@ fn first_work(alloc: Global, facts: &Facts, call: &Call) -> Result<Work, OutOfMe
 {
     match call {
         Call::Upload { .. } => unreachable!(),
+        Call::Claim { .. } | Call::Report { .. } => {
+            Ok(Work::ReadRecord(Purpose::Once, facts.db, ReadPhase::Listing))
+        }
         Call::Pass {
             min_age,
             dry_run,
@@ -186,6 +211,36 @@ fn known_info(alloc: Global, uploads: &Uploads, table: &Ulid) -> Result<SsTableI
     }
 }
 
+// A table in format version 1, with what is known of it.
+fn uploaded_table(
+    alloc: Global,
+    uploads: &Uploads,
+    table: &Ulid,
+) -> Result<SsTableHandle, OutOfMemory>
+    ensures { IfOk result (λ sst. sst ≡ calls.uploaded_table uploads.now table.now) }
+{
+    Ok(SsTableHandle {
+        id: SsTableId::Compacted(*table),
+        format_version: 1,
+        info: known_info(alloc, uploads, table)?,
+    })
+}
+
+// The outputs of a report, with what is known of them.
+fn uploaded_tables(
+    alloc: Global,
+    uploads: &Uploads,
+    tables: &[Ulid],
+) -> Result<Listed<SsTableHandle>, OutOfMemory>
+    ensures { IfOk result (λ outputs. outputs ≡ map (calls.uploaded_table uploads.now) tables.now) }
+{
+    let mut outputs = Listed::new(alloc);
+    for table in tables {
+        outputs.push(uploaded_table(alloc, uploads, table)?)?;
+    }
+    Ok(outputs)
+}
+
 // A table of a flush, with what is known of it.
 fn flushed_table(
     alloc: Global,
@@ -197,11 +252,7 @@ fn flushed_table(
     Ok(FlushedTable {
         view: table.view,
         prefix: Plain::clone(&table.prefix, alloc)?,
-        sst: SsTableHandle {
-            id: SsTableId::Compacted(table.table),
-            format_version: 1,
-            info: known_info(alloc, uploads, &table.table)?,
-        },
+        sst: uploaded_table(alloc, uploads, &table.table)?,
     })
 }
 
@@ -288,8 +339,40 @@ pub(crate) fn change_of(
             lifetime: *lifetime,
         },
         Call::DeleteCheckpoint { id } => ManifestChange::DeleteCheckpoint { id: *id },
-        Call::Upload { .. } | Call::Pass { .. } => ManifestChange::DropExpired,
+        Call::Upload { .. } | Call::Claim { .. } | Call::Report { .. } | Call::Pass { .. } => {
+            ManifestChange::DropExpired
+        }
     })
+}
+
+/// What a call makes of the record that was read for a purpose, where it is one that reads a record.
+pub(crate) fn record_change_of(
+    alloc: Global,
+    facts: &Facts,
+    call: &Call,
+    _purpose: Purpose,
+) -> Result<Option<RecordChange>, OutOfMemory>
+    ensures { IfOk result (λ change. change ≡ calls.record_change_of facts.now call.now _purpose) }
+{
+    match call {
+        Call::Claim { id } => Ok(Some(RecordChange::Claim {
+            id: *id,
+            worker: facts.number,
+        })),
+        Call::Report { id, tables } => Ok(Some(RecordChange::Report {
+            id: *id,
+            worker: facts.number,
+            outputs: uploaded_tables(alloc, &facts.uploads, tables.as_slice())?,
+        })),
+        _ => Ok(None),
+    }
+}
+
+/// What follows where a record was committed, or needed no commit.
+pub(crate) fn record_done() -> Onward
+    ensures { next_of result ≡ calls.Finish reply.Done }
+{
+    Onward::Finish(Reply::Done)
 }
 
 // The checkpoint of an id, as a reply.
@@ -317,9 +400,11 @@ pub(crate) fn done(
 {
     Ok(match call {
         Call::OpenWriter => Onward::Finish(Reply::Epoch(manifest.writer_epoch)),
-        Call::Upload { .. } | Call::Flush { .. } | Call::DeleteCheckpoint { .. } => {
-            Onward::Finish(Reply::Done)
-        }
+        Call::Upload { .. }
+        | Call::Flush { .. }
+        | Call::Claim { .. }
+        | Call::Report { .. }
+        | Call::DeleteCheckpoint { .. } => Onward::Finish(Reply::Done),
         Call::WriteCheckpoint { id, .. } => checkpoint_reply(*id, manifest),
         Call::ReplaceCheckpoint { id, .. } => checkpoint_reply(*id, manifest),
         Call::RefreshCheckpoint { id, .. } => checkpoint_reply(*id, manifest),

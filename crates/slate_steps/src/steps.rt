@@ -1,18 +1,43 @@
 //! One step of a call.
 ghost use Rattle.std.specs.Prelude.{◌≡◌, true, false, IfOk, OnErr};
-ghost use Rattle.slate_protocol.specs.Rows.{after as after_end};
+ghost use Rattle.slate_protocol.specs.Rows.{after as after_end, record_next, record_commit_for};
 ghost use Rattle.slate_steps.specs.Onward.{next_of};
 ghost use Rattle.slate_steps.specs.WorkSteps.{has_version, is_table_put, is_upload};
 ghost use Rattle.slate_steps.specs.Followed.{standing, next_by, Follows, Kept, Ends};
 
-use crate::calls::{Onward, change_of, done, learn, refuse};
+use crate::calls::{Onward, change_of, done, learn, record_change_of, record_done, refuse};
 use crate::works::{goes_on, rewind};
 use slate_events::{Call, Reply};
-use slate_ids::{Millis, OutOfMemory, SlateDBError};
-use slate_layout::ManifestCodec;
-use slate_protocol::{Ended, Facts, Task, Work};
+use slate_ids::{DbPath, Millis, OutOfMemory, SlateDBError};
+use slate_layout::{CompactionsCodec, ManifestCodec};
+use slate_model::Compactions;
+use slate_protocol::{Ended, Facts, Purpose, Task, Work};
 use slate_store::{Step, StoreAnswer};
 use std::alloc::Global;
+
+// What follows a read at a database that found version `n` of the record, which ended at a moment.
+fn after_record(
+    alloc: Global,
+    facts: &Facts,
+    call: &Call,
+    purpose: Purpose,
+    now: Millis,
+    db: DbPath,
+    n: u64,
+    compactions: &Compactions,
+) -> Result<Onward, OutOfMemory>
+    ensures { IfOk result (λ next. next_of next ≡ record_next facts.now call.now purpose db now compactions.now
+        (record_commit_for facts.now call.now purpose now n compactions.now)) }
+{
+    let Some(change) = record_change_of(alloc, facts, call, purpose)? else {
+        return Ok(record_done());
+    };
+    match change.commit(alloc, &CompactionsCodec, now, n, compactions) {
+        Ok(Some(commit)) => Ok(Onward::Go(Work::CommitRecord(purpose, now, db, commit))),
+        Ok(None) => Ok(record_done()),
+        Err(e) => Ok(Onward::Finish(refuse(e)?)),
+    }
+}
 
 // What follows the end of a phrase, which came at a moment. Memory runs out only after a version.
 fn after(
@@ -26,7 +51,7 @@ fn after(
     ensures err { OnErr result (has_version ended.now ≡ true) }
 {
     match ended {
-        Ended::NoManifest(_) => Ok(Onward::Finish(Reply::Refused(
+        Ended::NoManifest(_) | Ended::NoRecord(_) => Ok(Onward::Finish(Reply::Refused(
             SlateDBError::LatestTransactionalObjectVersionMissing,
         ))),
         Ended::ManifestRead(purpose, db, n, manifest) => {
@@ -42,6 +67,10 @@ fn after(
         Ended::ManifestCommitted(purpose, _, _, manifest) => {
             done(alloc, facts, call, *purpose, manifest)
         }
+        Ended::RecordRead(purpose, db, n, record) => {
+            after_record(alloc, facts, call, *purpose, now, *db, *n, record)
+        }
+        Ended::RecordCommitted(_, _, _, _) => Ok(record_done()),
         Ended::TablePut(_) => Ok(Onward::Finish(Reply::Done)),
         Ended::Passed(counts) => Ok(Onward::Finish(Reply::Pass {
             picked: counts.picked,

@@ -108,8 +108,6 @@ pub(crate) fn step_upload(
         Work::PutTable(db, upload, bytes) => put_table(
             alloc, facts, *db, upload, bytes, store, moment, mark,
         ),
-        Work::ReadManifest(_, _, _) | Work::CommitManifest(_, _, _, _) | Work::Pass(_, _, _) => {
-            unreachable!()
-        }
+        _ => unreachable!(),
     }
 }

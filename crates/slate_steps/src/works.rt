@@ -9,9 +9,9 @@ ghost use Rattle.slate_steps.specs.WorkSteps as rewinding;
 
 use slate_gc::{GcPass, PassOptions};
 use slate_ids::{ByteList, DbPath, Millis, ObjectPath, OutOfMemory, Ulid};
-use slate_layout::ManifestCodec;
+use slate_layout::{CompactionsCodec, ManifestCodec};
 use slate_log::{CommitPhase, LogKind, ReadPhase, Sequenced};
-use slate_model::Manifest;
+use slate_model::{Compactions, Manifest};
 use slate_protocol::{Ended, Purpose, Work};
 use slate_store::{Step, StoreAnswer, StoreCall};
 use std::alloc::Global;
@@ -22,6 +22,14 @@ fn manifests(db: DbPath) -> Sequenced<Manifest, ManifestCodec>
     ensures log { result.log ≡ LogKind.Manifest }
 {
     Sequenced::new(db, LogKind::Manifest, ManifestCodec)
+}
+
+// The log of records of a database.
+fn records(db: DbPath) -> Sequenced<Compactions, CompactionsCodec>
+    ensures db { result.db ≡ db }
+    ensures log { result.log ≡ LogKind.Compactions }
+{
+    Sequenced::new(db, LogKind::Compactions, CompactionsCodec)
 }
 
 /// The put of a table.
@@ -43,6 +51,8 @@ pub(crate) fn asked(alloc: Global, work: &Work) -> Result<StoreCall, OutOfMemory
     match work {
         Work::ReadManifest(_, db, phase) => Ok(phase.asks(&manifests(*db))),
         Work::CommitManifest(_, _, db, phase) => phase.asks(alloc, &manifests(*db)),
+        Work::ReadRecord(_, db, phase) => Ok(phase.asks(&records(*db))),
+        Work::CommitRecord(_, _, db, phase) => phase.asks(alloc, &records(*db)),
         Work::PutTable(db, upload, bytes) => put_call(alloc, *db, upload.table, bytes),
         Work::Pass(db, _, phase) => phase.asks(alloc, &manifests(*db)),
     }
@@ -90,6 +100,46 @@ fn commit_goes_on(
     }
 }
 
+// A read of records goes on.
+fn record_read_goes_on(
+    alloc: Global,
+    purpose: Purpose,
+    db: DbPath,
+    phase: &mut ReadPhase<Compactions>,
+    answer: &StoreAnswer,
+) -> Step<Ended>
+    ensures goes { WorkGoesOn (work.ReadRecord purpose db phase.old) (work.ReadRecord purpose db phase.new)
+        (pos 0) answer.now result }
+    ensures end { AtEnd (work.ReadRecord purpose db phase.old) (work.ReadRecord purpose db phase.new) result }
+{
+    match phase.goes_on(alloc, &records(db), answer) {
+        Step::Again => Step::Again,
+        Step::Done(Ok(None)) => Step::Done(Ok(Ended::NoRecord(purpose))),
+        Step::Done(Ok(Some((n, value)))) => Step::Done(Ok(Ended::RecordRead(
+            purpose, db, n, value,
+        ))),
+        Step::Done(Err(e)) => Step::Done(Err(e)),
+    }
+}
+
+// A commit of a record, which was made at some moment, goes on.
+fn record_commit_goes_on(
+    purpose: Purpose,
+    db: DbPath,
+    phase: &mut CommitPhase<Compactions>,
+    answer: &StoreAnswer,
+) -> Step<Ended>
+    ensures goes { (made : ℤ) → WorkGoesOn (work.CommitRecord purpose made db phase.old)
+        (work.CommitRecord purpose made db phase.new) (pos 0) answer.now result }
+    ensures out { (made : ℤ) → OutReading (work.CommitRecord purpose made db phase.old) result }
+{
+    match phase.goes_on(answer) {
+        Step::Again => Step::Again,
+        Step::Done(Ok((n, value))) => Step::Done(Ok(Ended::RecordCommitted(purpose, db, n, value))),
+        Step::Done(Err(e)) => Step::Done(Err(e)),
+    }
+}
+
 // A pass goes on, at the moment of its call.
 fn pass_goes_on(
     alloc: Global,
@@ -117,6 +167,8 @@ pub fn is_due(work: &Work) -> bool
     match work {
         Work::ReadManifest(_, _, phase) => phase.due(),
         Work::CommitManifest(_, _, _, phase) => phase.due(),
+        Work::ReadRecord(_, _, phase) => phase.due(),
+        Work::CommitRecord(_, _, _, phase) => phase.due(),
         Work::PutTable(_, _, _) => true,
         Work::Pass(_, _, phase) => phase.due(),
     }
@@ -129,6 +181,8 @@ fn purpose_of(work: &Work) -> Purpose
     match work {
         Work::ReadManifest(purpose, _, _) => *purpose,
         Work::CommitManifest(purpose, _, _, _) => *purpose,
+        Work::ReadRecord(purpose, _, _) => *purpose,
+        Work::CommitRecord(purpose, _, _, _) => *purpose,
         Work::PutTable(_, _, _) | Work::Pass(_, _, _) => Purpose::Once,
     }
 }
@@ -140,6 +194,8 @@ fn db_of(work: &Work) -> DbPath
     match work {
         Work::ReadManifest(_, db, _) => *db,
         Work::CommitManifest(_, _, db, _) => *db,
+        Work::ReadRecord(_, db, _) => *db,
+        Work::CommitRecord(_, _, db, _) => *db,
         Work::PutTable(db, _, _) => *db,
         Work::Pass(db, _, _) => *db,
     }
@@ -170,12 +226,14 @@ pub(crate) fn goes_on(
     match work {
         Work::ReadManifest(_, _, phase) => read_goes_on(alloc, purpose, db, phase, answer),
         Work::CommitManifest(_, _, _, phase) => commit_goes_on(purpose, db, phase, answer),
+        Work::ReadRecord(_, _, phase) => record_read_goes_on(alloc, purpose, db, phase, answer),
+        Work::CommitRecord(_, _, _, phase) => record_commit_goes_on(purpose, db, phase, answer),
         Work::PutTable(_, _, _) => unreachable!(),
         Work::Pass(_, options, phase) => { pass_goes_on(alloc, db, options, phase, moment, answer) }
     }
 }
 
-// Puts a read that gave a version back to its last phase.
+// Puts a read that gave a manifest back to its last phase.
 fn read_again(work: &mut Work, n: u64, value: Manifest)
     ensures { work.new ≡ rewinding.read_again n value work.old }
 {
@@ -184,11 +242,29 @@ fn read_again(work: &mut Work, n: u64, value: Manifest)
     }
 }
 
-// Puts a commit that gave a version back to its last phase.
+// Puts a commit that gave a manifest back to its last phase.
 fn commit_again(work: &mut Work, n: u64, value: Manifest)
     ensures { work.new ≡ rewinding.commit_again n value work.old }
 {
     if let Work::CommitManifest(_, _, _, phase) = work {
+        *phase = CommitPhase::Bounding(n, value);
+    }
+}
+
+// Puts a read that gave a record back to its last phase.
+fn record_read_again(work: &mut Work, n: u64, value: Compactions)
+    ensures { work.new ≡ rewinding.record_read_again n value work.old }
+{
+    if let Work::ReadRecord(_, _, phase) = work {
+        *phase = ReadPhase::Bounding(n, value);
+    }
+}
+
+// Puts a commit that gave a record back to its last phase.
+fn record_commit_again(work: &mut Work, n: u64, value: Compactions)
+    ensures { work.new ≡ rewinding.record_commit_again n value work.old }
+{
+    if let Work::CommitRecord(_, _, _, phase) = work {
         *phase = CommitPhase::Bounding(n, value);
     }
 }
@@ -200,6 +276,8 @@ pub(crate) fn rewind(work: &mut Work, ended: Ended)
     match ended {
         Ended::ManifestRead(_, _, n, value) => read_again(work, n, value),
         Ended::ManifestCommitted(_, _, n, value) => commit_again(work, n, value),
-        Ended::NoManifest(_) | Ended::TablePut(_) | Ended::Passed(_) => {}
+        Ended::RecordRead(_, _, n, value) => record_read_again(work, n, value),
+        Ended::RecordCommitted(_, _, n, value) => record_commit_again(work, n, value),
+        Ended::NoManifest(_) | Ended::NoRecord(_) | Ended::TablePut(_) | Ended::Passed(_) => {}
     }
 }

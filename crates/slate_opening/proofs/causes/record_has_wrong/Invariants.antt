@@ -5,4 +5,4 @@ use Rattle.slate_opening.proofs.causes.record_has_wrong.Given as goal
 
 -- the compactions that are left decide
 abbrev pub invariant-loop-compaction : goal.invariant-loop-compaction
-invariant-loop-compaction l = list_any (has_wrong_output l.objects.entries l.spec) l.compaction-iterator ≡ list_any (has_wrong_output l.objects.entries l.spec) l.record.entries
+invariant-loop-compaction l = list_any (has_wrong_output l.objects.entries l.spec) l.compaction-iterator ≡ list_any (has_wrong_output l.objects.entries l.spec) l.compactions.entries

@@ -6,4 +6,4 @@ use Rattle.slate_opening.proofs.opening_ids.push_record.Given as goal
 
 -- the ids so far and the compactions that are left
 abbrev pub invariant-loop-compaction : goal.invariant-loop-compaction
-invariant-loop-compaction l = l.all.items ++ map only_named (flat_map compaction_ulids l.compaction-iterator) ≡ l.fn.all.items ++ map only_named (flat_map compaction_ulids l.record.entries)
+invariant-loop-compaction l = l.all.items ++ map only_named (flat_map compaction_ulids l.compaction-iterator) ≡ l.fn.all.items ++ map only_named (flat_map compaction_ulids l.compactions.entries)

@@ -5,4 +5,4 @@ use Rattle.slate_record_normality.proofs.normality.is_normal_record.Given as goa
 
 -- the compactions that are left decide
 abbrev pub invariant-loop-compaction : goal.invariant-loop-compaction
-invariant-loop-compaction l = list_all is_normal_compaction l.compaction-iterator ≡ is_normal_record l.record
+invariant-loop-compaction l = list_all is_normal_compaction l.compaction-iterator ≡ is_normal_record l.compactions

@@ -1,0 +1,30 @@
+//! The call that a start of a worker stands for.
+ghost use Rattle.serde_json.specs.View.{view};
+ghost use Rattle.slate_json.specs.Fields.{Gives};
+ghost use Rattle.slate_calls.specs.Calls.{claim_in, report_in};
+
+use serde_json::Value;
+use slate_events::Call;
+use slate_json::{JsonError, only, required};
+use std::alloc::Global;
+
+/// The claim of a compaction.
+#[tactic(auto, unfolding(crate::specs::Calls::claim_in))]
+pub(crate) fn read_claim(alloc: Global, d: &Value) -> Result<Call, JsonError>
+    ensures { Gives result (claim_in (view d.now)) }
+{
+    only(d, &["start", "call", "id"])?;
+    let id = required(alloc, d, "id")?;
+    Ok(Call::Claim { id })
+}
+
+/// The report of a compaction with its outputs.
+#[tactic(auto, unfolding(crate::specs::Calls::report_in))]
+pub(crate) fn read_report(alloc: Global, d: &Value) -> Result<Call, JsonError>
+    ensures { Gives result (report_in (view d.now)) }
+{
+    only(d, &["start", "call", "id", "tables"])?;
+    let id = required(alloc, d, "id")?;
+    let tables = required(alloc, d, "tables")?;
+    Ok(Call::Report { id, tables })
+}
