@@ -2,12 +2,12 @@
 use Rattle.std.specs.Prelude.{◌≡◌, ◌≢◌, ℕ, Bool, true, false, List, Option, Some, None, Result, Ok, Err, refl}
 use Rattle.std.proofs.Common.{ap}
 use Rattle.slate_compactions_store.proofs.NoFaults as record_bytes
-use Rattle.slate_compactor_writer.specs.Opening.{open_asks, open_due, open_goes, open_retrying, open_start, opens_to, manifest_read, was_raised, record_read, gives_epoch, was_first, was_given, was_reset}
-use Rattle.slate_compactor_writer.specs.Puts.{raise_put, epoch_put, first_put, reset_put}
+use Rattle.slate_compactor_writer.specs.Opening.{open_asks, open_due, open_goes, open_retrying, open_start, opens_to, manifest_read, was_raised, record_read, gives_epoch, resets, was_first, was_given, was_reset}
+use Rattle.slate_compactor_writer.specs.Puts.{raise_put, first_put, record_change_put, unfenced_record_put}
 use Rattle.slate_compactor_writer.specs.Retrying.{leads}
 use Rattle.slate_compactor_writer.specs.declared.open_phase.OpenPhase.{OpenPhase}
 use Rattle.slate_compactor_writer.specs.declared.open_phase.OpenPhase.TheVariants.{ReadingManifest, Raising, ReadingRecord, CommittingFirst, GivingEpoch, Resetting, Over}
-use Rattle.slate_compactor_writer.proofs.PutFaults.{Fits, RecordsPlain, leads_fits, raise_fits, epoch_fits, first_fits, reset_fits}
+use Rattle.slate_compactor_writer.proofs.PutFaults.{Fits, RecordsPlain, leads_fits, raise_fits, first_fits, record_change_fits, unfenced_record_fits}
 use Rattle.slate_compactor_writer.proofs.Sound.{Sound, sound_again, sound_commit, sound_ends, sound_read}
 use Rattle.slate_ids.specs.declared.error.SlateDBError.{SlateDBError}
 use Rattle.slate_ids.specs.declared.error.SlateDBError.TheVariants.{LatestTransactionalObjectVersionMissing}
@@ -19,6 +19,7 @@ use Rattle.slate_manifest_parts.specs.Decoding.{decoded_manifest}
 use Rattle.slate_manifest_store.proofs.NoFaults as manifest_bytes
 use Rattle.slate_model.specs.declared.manifest.Manifest.{Manifest}
 use Rattle.slate_record_bytes.specs.Records.{decoded_record}
+use Rattle.slate_record_updates.specs.declared.record_change.RecordChange.TheVariants.{GiveEpoch, Reset}
 use Rattle.slate_records.specs.Records.{Record}
 use Rattle.slate_store.specs.Calls.{IsAnswerTo}
 use Rattle.slate_store.specs.Machines.{Goes, Stay, End}
@@ -40,7 +41,10 @@ raise_fine (End commit (Ok v)) fine = fine_stay open_due _ refl
 raise_fine (End commit (Err e)) fine = fine_err open_due Over e (λ same. fine.ends commit (ap (λ (k : SlateDBError). End commit (Err k)) same))
 
 epoch_fine : RecordsPlain → (m : ℕ × Manifest) (v : ℕ × Record) → Fine open_due (gives_epoch m v)
-epoch_fine plain m v = to_fine (leads (GivingEpoch m) (epoch_put m.1.compactor_epoch v.0 v.1)) (leads_fits commit_due open_due (GivingEpoch m) (epoch_put m.1.compactor_epoch v.0 v.1) (λ k due. due) (epoch_fits plain m.1.compactor_epoch v.0 v.1))
+epoch_fine plain m v = to_fine (leads (GivingEpoch m) (record_change_put (GiveEpoch m.1.compactor_epoch) v.0 v.1)) (leads_fits commit_due open_due (GivingEpoch m) (record_change_put (GiveEpoch m.1.compactor_epoch) v.0 v.1) (λ k due. due) (record_change_fits plain (GiveEpoch m.1.compactor_epoch) v.0 v.1))
+
+resets_fine : RecordsPlain → (m : ℕ × Manifest) (v : ℕ × Record) → Fine open_due (resets m v)
+resets_fine plain m v = to_fine (leads (Resetting m) (unfenced_record_put (Reset m.1.compactor_epoch) v.0 v.1)) (leads_fits commit_due open_due (Resetting m) (unfenced_record_put (Reset m.1.compactor_epoch) v.0 v.1) (λ k due. due) (unfenced_record_fits plain (Reset m.1.compactor_epoch) v.0 v.1))
 
 record_fine : RecordsPlain → (m : ℕ × Manifest) (out : Reply Record) → Fine read_due out → Fine open_due (record_read m out)
 record_fine plain m (Stay read) fine = fine_stay open_due (ReadingRecord m true read) (fine.stays read refl)
@@ -55,7 +59,7 @@ first_fine plain m (End commit (Err e)) fine = fine_err open_due Over e (λ same
 
 given_fine : RecordsPlain → (m : ℕ × Manifest) (out : CommitGoes Record) → Fine commit_due out → Fine open_due (was_given m out)
 given_fine plain m (Stay commit) fine = fine_stay open_due (GivingEpoch m commit) (fine.stays commit refl)
-given_fine plain m (End commit (Ok v)) fine = to_fine (leads (Resetting m) (reset_put v.0 v.1)) (leads_fits commit_due open_due (Resetting m) (reset_put v.0 v.1) (λ k due. due) (reset_fits plain v.0 v.1))
+given_fine plain m (End commit (Ok v)) fine = resets_fine plain m v
 given_fine plain m (End commit (Err e)) fine = fine_err open_due Over e (λ same. fine.ends commit (ap (λ (k : SlateDBError). End commit (Err k)) same))
 
 reset_fine : (db : List ℕ) (m : ℕ × Manifest) (out : CommitGoes Record) → Fine commit_due out → Fine open_due (was_reset db m out)

@@ -4,7 +4,8 @@ use Rattle.std.proofs.Common.{ap}
 use Rattle.slate_compactions_store.proofs.NoFaults as record_bytes
 use Rattle.slate_compactor.specs.Local.{refreshed}
 use Rattle.slate_compactor.specs.declared.local_state.LocalState.{LocalState}
-use Rattle.slate_compactor_writer.specs.Puts.{manifest_put, trees_put, with_checkpoint, schedule_put, statuses_put}
+use Rattle.slate_compactor_changes.specs.declared.compactor_change.CompactorChange.TheVariants.{KeepTrees}
+use Rattle.slate_compactor_writer.specs.Puts.{change_put, record_change_put, trees_put}
 use Rattle.slate_compactor_writer.specs.Retrying.{leads}
 use Rattle.slate_compactor_writer.specs.StateCalls.{begins_again, start_phase, state_retrying}
 use Rattle.slate_compactor_writer.specs.StateSteps.{StateAt, StateGoes, after_manifest, after_record, after_trees, checkpoint_or_trees, goes_to, manifest_read, phase_due, record_read, refresh_of, refresh_read, refreshed_to, state_asks, state_due, state_goes, trees_phase, was_checkpointed, was_merged, was_recorded, was_scheduled}
@@ -16,19 +17,21 @@ use Rattle.slate_compactor_writer.specs.declared.state_phase.StatePhase.{StatePh
 use Rattle.slate_compactor_writer.specs.declared.state_phase.StatePhase.TheVariants.{ReadingRecord, CommittingSchedule, CommittingStatuses, RefreshingManifest, ReadingManifest, CommittingCheckpoint, CommittingTrees, Over}
 use Rattle.slate_compactor_writer.specs.declared.state_phase.StateStart.{StateStart}
 use Rattle.slate_compactor_writer.specs.declared.state_phase.StateStart.TheVariants.{AtRecord, AtManifest}
-use Rattle.slate_compactor_writer.proofs.PutFaults.{Fits, RecordsPlain, checkpoint_fits, fence_fits, leads_fits, manifest_fits, refreshed_apart, schedule_fits, statuses_fit, trees_fit}
+use Rattle.slate_compactor_writer.proofs.PutFaults.{Fits, MayPut, RecordsPlain, change_fits, fence_fits, leads_fits, record_change_fits, refreshed_apart, trees_fit}
 use Rattle.slate_compactor_writer.proofs.Sound.{Sound, sound_again, sound_commit, sound_ends, sound_read}
 use Rattle.slate_ids.specs.declared.error.SlateDBError.{SlateDBError}
 use Rattle.slate_ids.specs.declared.error.SlateDBError.TheVariants.{LatestTransactionalObjectVersionMissing, StoreFault}
 use Rattle.slate_log.specs.CommitPhase.{commit_due, CommitGoes}
 use Rattle.slate_log.specs.ReadPhase.{read_due, Reply}
 use Rattle.slate_log.specs.declared.log_kind.LogKind.TheVariants.{Compactions as RecordLog, Manifest as ManifestLog}
-use Rattle.slate_log.specs.declared.right.Right.TheVariants.{Plain}
+use Rattle.slate_log.specs.declared.commit_phase.CommitPhase.{CommitPhase}
 use Rattle.slate_log.proofs.Faults.{OnlyFaults, Fine, fine_stay, fine_ok, fine_err}
 use Rattle.slate_manifest_parts.specs.Decoding.{decoded_manifest}
 use Rattle.slate_manifest_store.proofs.NoFaults as manifest_bytes
 use Rattle.slate_model.specs.declared.manifest.Manifest.{Manifest}
 use Rattle.slate_record_bytes.specs.Records.{decoded_record}
+use Rattle.slate_record_updates.specs.declared.record_change.RecordChange.{RecordChange}
+use Rattle.slate_record_updates.specs.declared.record_change.RecordChange.TheVariants as changes
 use Rattle.slate_records.specs.Records.{Record}
 use Rattle.slate_store.specs.Calls.{IsAnswerTo}
 use Rattle.slate_store.specs.Machines.{Goes, Stay, End}
@@ -40,10 +43,13 @@ to_fine w (Err e) fits = fine_err state_due (Over, w) e fits
 
 -- ---- the record
 
+commit_fits : RecordsPlain → (to : CommitPhase Record → StatePhase) → ((k : CommitPhase Record) → commit_due k ≡ true → phase_due (to k) ≡ true) → (change : RecordChange) (n : ℕ) (r : Record) → Fits phase_due (leads to (record_change_put change n r))
+commit_fits plain to here change n r = leads_fits commit_due phase_due to (record_change_put change n r) here (record_change_fits plain change n r)
+
 after_fits : RecordsPlain → (purpose : RecordUse) (w : Writer) (n : ℕ) (r : Record) → Fits phase_due (after_record purpose w n r)
 after_fits plain Refresh w n r = fence_fits phase_due w.epoch r.compactor_epoch _ refl
-after_fits plain (Schedule id) w n r = leads_fits commit_due phase_due CommittingSchedule (schedule_put w.epoch id n r) (λ k due. due) (schedule_fits plain w.epoch id n r)
-after_fits plain Statuses w n r = leads_fits commit_due phase_due CommittingStatuses (statuses_put w.epoch w.local n r) (λ k due. due) (statuses_fit plain w.epoch w.local n r)
+after_fits plain (Schedule id) w n r = commit_fits plain CommittingSchedule (λ k due. due) (changes.Schedule (Some w.epoch) id) n r
+after_fits plain Statuses w n r = commit_fits plain CommittingStatuses (λ k due. due) (changes.PutStatuses (Some w.epoch) w.local.compactions w.local.pending) n r
 
 record_fine : RecordsPlain → (purpose : RecordUse) (w : Writer) (out : Reply Record) → Fine read_due out → Fine state_due (record_read purpose w out)
 record_fine plain purpose w (Stay read) fine = fine_stay state_due (ReadingRecord purpose true read, w) (fine.stays read refl)
@@ -80,16 +86,16 @@ refresh_fine w (End read (Ok None)) fine = fine_err state_due (Over, w) LatestTr
 refresh_fine w (End read (Ok (Some v))) fine = local_fine (with_manifest v w) (refresh_of w v.1) (refresh_fits w v.1)
 refresh_fine w (End read (Err e)) fine = fine_err state_due (Over, w) e (λ same. fine.ends read (ap (λ (k : SlateDBError). End read (Err k)) same))
 
-phase_fits : (whole : Bool) (local : LocalState) (n : ℕ) (m : Manifest) → Fits phase_due (trees_phase whole local n m)
-phase_fits whole local n m = leads_fits commit_due phase_due (CommittingTrees whole) (trees_put n m local) (λ k due. due) (trees_fit n m local)
+phase_fits : (whole : Bool) (w : Writer) (n : ℕ) (m : Manifest) → Fits phase_due (trees_phase whole w n m)
+phase_fits whole w n m = leads_fits commit_due phase_due (CommittingTrees whole) (trees_put w.epoch w.local n m) (λ k due. due) (trees_fit w.epoch w.local n m)
 
-or_fits : (whole : Bool) (local : LocalState) (n : ℕ) (m : Manifest) (made : Result (Option Manifest) SlateDBError) → made ≢ Err StoreFault → Fits phase_due (checkpoint_or_trees whole local n m made)
-or_fits whole local n m (Ok (Some new)) apart = leads_fits commit_due phase_due (CommittingCheckpoint whole) (manifest_put n m new Plain) (λ k due. due) (manifest_fits n m new Plain)
-or_fits whole local n m (Ok None) apart = phase_fits whole local n m
-or_fits whole local n m (Err e) apart = λ same. apart (ap (λ (k : SlateDBError). Err k) same)
+or_fits : (whole : Bool) (w : Writer) (n : ℕ) (m : Manifest) (commit : Result (Option (CommitPhase Manifest)) SlateDBError) → MayPut commit → Fits phase_due (checkpoint_or_trees whole w n m commit)
+or_fits whole w n m (Ok (Some commit)) fits = fits
+or_fits whole w n m (Ok None) fits = phase_fits whole w n m
+or_fits whole w n m (Err e) fits = fits
 
 write_fits : (moment : ℤ) (write : ManifestWrite) (w : Writer) (n : ℕ) (m : Manifest) → Fits phase_due (after_manifest moment write w n m)
-write_fits moment write w n m = fence_fits phase_due w.epoch m.compactor_epoch _ (or_fits write.whole w.local n m (with_checkpoint write.checkpoint moment n m) (checkpoint_fits write.checkpoint moment n m))
+write_fits moment write w n m = or_fits write.whole w n m (change_put (KeepTrees (Some w.epoch) write.checkpoint) moment n m) (change_fits (KeepTrees (Some w.epoch) write.checkpoint) moment n m)
 
 manifest_fine : (moment : ℤ) (write : ManifestWrite) (w : Writer) (out : Reply Manifest) → Fine read_due out → Fine state_due (manifest_read moment write w out)
 manifest_fine moment write w (Stay read) fine = fine_stay state_due (ReadingManifest write read, w) (fine.stays read refl)
@@ -99,7 +105,7 @@ manifest_fine moment write w (End read (Err e)) fine = fine_err state_due (Over,
 
 checkpoint_fine : (whole : Bool) (w : Writer) (out : CommitGoes Manifest) → Fine commit_due out → Fine state_due (was_checkpointed whole w out)
 checkpoint_fine whole w (Stay commit) fine = fine_stay state_due (CommittingCheckpoint whole commit, w) (fine.stays commit refl)
-checkpoint_fine whole w (End commit (Ok v)) fine = to_fine (with_manifest v w) (trees_phase whole w.local v.0 v.1) (phase_fits whole w.local v.0 v.1)
+checkpoint_fine whole w (End commit (Ok v)) fine = to_fine (with_manifest v w) (trees_phase whole w v.0 v.1) (phase_fits whole w v.0 v.1)
 checkpoint_fine whole w (End commit (Err e)) fine = fine_err state_due (Over, w) e (λ same. fine.ends commit (ap (λ (k : SlateDBError). End commit (Err k)) same))
 
 next_fine : (whole : Bool) (w : Writer) → Fine state_due (after_trees whole w)

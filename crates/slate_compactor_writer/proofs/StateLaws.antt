@@ -2,7 +2,8 @@
 use Rattle.std.specs.Prelude.{◌≡◌, ℕ, ℤ, not, Bool, true, false, Option, Some, None, Result, Ok, Err, refl}
 use Rattle.std.proofs.Common.{◌⊎◌, inl, inr, ap, sym, ◌∙◌}
 use Rattle.slate_compactor.specs.declared.local_state.LocalState.{LocalState}
-use Rattle.slate_compactor_writer.specs.Puts.{manifest_put, schedule_put, statuses_put, trees_put, with_checkpoint}
+use Rattle.slate_compactor_changes.specs.declared.compactor_change.CompactorChange.TheVariants.{KeepTrees}
+use Rattle.slate_compactor_writer.specs.Puts.{change_put, record_change_put, trees_put}
 use Rattle.slate_compactor_writer.specs.Retrying.{leads}
 use Rattle.slate_compactor_writer.specs.StateLaws.{RecordFollows, RefusalsKeepLocal, StepsKeepLocal, TreesStand}
 use Rattle.slate_compactor_writer.specs.StateSteps.{StateAt, StateGoes, after_manifest, after_record, after_trees, checkpoint_or_trees, goes_to, manifest_read, record_read, refresh_of, refresh_read, refreshed_to, state_goes, trees_phase, was_checkpointed, was_merged, was_recorded, was_scheduled}
@@ -19,12 +20,12 @@ use Rattle.slate_log.specs.Fence.{unless, fence}
 use Rattle.slate_log.specs.ReadPhase.{read_goes, Reply}
 use Rattle.slate_log.specs.declared.commit_phase.CommitPhase.{CommitPhase}
 use Rattle.slate_log.specs.declared.commit_phase.CommitPhase.TheVariants.{Bounding}
-use Rattle.slate_log.specs.declared.right.Right.TheVariants.{Plain}
 use Rattle.slate_log.specs.declared.log_kind.LogKind.TheVariants.{Compactions as RecordLog, Manifest as ManifestLog}
 use Rattle.slate_log.specs.declared.read_phase.ReadPhase.{ReadPhase}
 use Rattle.slate_manifest_parts.specs.Decoding.{decoded_manifest}
 use Rattle.slate_model.specs.declared.manifest.Manifest.{Manifest}
 use Rattle.slate_record_bytes.specs.Records.{decoded_record}
+use Rattle.slate_record_updates.specs.declared.record_change.RecordChange.TheVariants as changes
 use Rattle.slate_records.specs.Records.{Record}
 use Rattle.slate_store.specs.Machines.{Goes, Stay, End}
 use Rattle.slate_store.specs.declared.store_answer.StoreAnswer.{StoreAnswer}
@@ -75,7 +76,7 @@ manifest_keeps moment write w (End read (Err e)) = refl
 
 checkpoint_keeps : (whole : Bool) (w : Writer) (out : CommitGoes Manifest) → Keeps w.local (was_checkpointed whole w out)
 checkpoint_keeps whole w (Stay commit) = refl
-checkpoint_keeps whole w (End commit (Ok v)) = to_keeps (with_manifest v w) (trees_phase whole w.local v.0 v.1)
+checkpoint_keeps whole w (End commit (Ok v)) = to_keeps (with_manifest v w) (trees_phase whole w v.0 v.1)
 checkpoint_keeps whole w (End commit (Err e)) = refl
 
 -- a step of the last commit of the manifest keeps it, or the trees stand
@@ -152,13 +153,13 @@ leads_early to (Err e) early = refl
 
 after_early : (purpose : RecordUse) (w : Writer) (n : ℕ) (r : Record) → follows_late (after_record purpose w n r) ≡ false
 after_early Refresh w n r = fence_early (fence w.epoch r.compactor_epoch) _ refl
-after_early (Schedule id) w n r = leads_early CommittingSchedule (schedule_put w.epoch id n r) (λ k. refl)
-after_early Statuses w n r = leads_early CommittingStatuses (statuses_put w.epoch w.local n r) (λ k. refl)
+after_early (Schedule id) w n r = leads_early CommittingSchedule (record_change_put (changes.Schedule (Some w.epoch) id) n r) (λ k. refl)
+after_early Statuses w n r = leads_early CommittingStatuses (record_change_put (changes.PutStatuses (Some w.epoch) w.local.compactions w.local.pending) n r) (λ k. refl)
 
-or_early : (whole : Bool) (local : LocalState) (n : ℕ) (m : Manifest) (made : Result (Option Manifest) SlateDBError) → follows_late (checkpoint_or_trees whole local n m made) ≡ false
-or_early whole local n m (Ok (Some new)) = leads_early (CommittingCheckpoint whole) (manifest_put n m new Plain) (λ k. refl)
-or_early whole local n m (Ok None) = leads_early (CommittingTrees whole) (trees_put n m local) (λ k. refl)
-or_early whole local n m (Err e) = refl
+or_early : (whole : Bool) (w : Writer) (n : ℕ) (m : Manifest) (commit : Result (Option (CommitPhase Manifest)) SlateDBError) → follows_late (checkpoint_or_trees whole w n m commit) ≡ false
+or_early whole w n m (Ok (Some commit)) = refl
+or_early whole w n m (Ok None) = leads_early (CommittingTrees whole) (trees_put w.epoch w.local n m) (λ k. refl)
+or_early whole w n m (Err e) = refl
 
 record_early : (purpose : RecordUse) (w : Writer) (out : Reply Record) → comes_late (record_read purpose w out) ≡ false
 record_early purpose w (Stay read) = refl
@@ -190,12 +191,12 @@ manifest_early : (moment : ℤ) (write : ManifestWrite) (w : Writer) (out : Repl
 manifest_early moment write w (Stay read) = refl
 manifest_early moment write w (End read (Ok None)) = refl
 manifest_early moment write w (End read (Ok (Some v))) =
-    to_early (with_manifest v w) (after_manifest moment write w v.0 v.1) (fence_early (fence w.epoch v.1.compactor_epoch) _ (or_early write.whole w.local v.0 v.1 (with_checkpoint write.checkpoint moment v.0 v.1)))
+    to_early (with_manifest v w) (after_manifest moment write w v.0 v.1) (or_early write.whole w v.0 v.1 (change_put (KeepTrees (Some w.epoch) write.checkpoint) moment v.0 v.1))
 manifest_early moment write w (End read (Err e)) = refl
 
 checkpoint_early : (whole : Bool) (w : Writer) (out : CommitGoes Manifest) → comes_late (was_checkpointed whole w out) ≡ false
 checkpoint_early whole w (Stay commit) = refl
-checkpoint_early whole w (End commit (Ok v)) = to_early (with_manifest v w) (trees_phase whole w.local v.0 v.1) (leads_early (CommittingTrees whole) (trees_put v.0 v.1 w.local) (λ k. refl))
+checkpoint_early whole w (End commit (Ok v)) = to_early (with_manifest v w) (trees_phase whole w v.0 v.1) (leads_early (CommittingTrees whole) (trees_put w.epoch w.local v.0 v.1) (λ k. refl))
 checkpoint_early whole w (End commit (Err e)) = refl
 
 -- what isn't there doesn't come to the record

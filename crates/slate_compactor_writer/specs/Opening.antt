@@ -1,6 +1,6 @@
 -- How a compactor opens a database: it raises the epoch of the manifest, gives it to the record, and resets that.
 use Rattle.std.specs.Prelude.{◌≡◌, ◌⊎◌, ◌<◌, ◌+◌, ℕ, ℤ, Bool, true, false, List, Option, Some, None, Result, Ok, Err}
-use Rattle.slate_compactor_writer.specs.Puts.{raise_put, first_put, epoch_put, reset_put}
+use Rattle.slate_compactor_writer.specs.Puts.{raise_put, first_put, record_change_put, unfenced_record_put}
 use Rattle.slate_compactor_writer.specs.Retrying.{leads, retrying}
 use Rattle.slate_compactor_writer.specs.Writer.{Writer, opened_writer}
 use Rattle.slate_compactor_writer.specs.declared.open_phase.OpenPhase.{OpenPhase}
@@ -17,6 +17,7 @@ use Rattle.slate_log.specs.declared.read_phase.ReadPhase.TheVariants.{Listing}
 use Rattle.slate_manifest_parts.specs.Decoding.{decoded_manifest}
 use Rattle.slate_model.specs.declared.manifest.Manifest.{Manifest}
 use Rattle.slate_record_bytes.specs.Records.{decoded_record}
+use Rattle.slate_record_updates.specs.declared.record_change.RecordChange.TheVariants.{GiveEpoch, Reset}
 use Rattle.slate_records.specs.Records.{Record}
 use Rattle.slate_store.specs.Calls.{Told}
 use Rattle.slate_store.specs.Machines.{Goes, Stay, End}
@@ -48,7 +49,7 @@ was_raised (End commit (Err e)) = End Over (Err e)
 
 -- a version of the record gets the epoch that was raised
 abbrev pub gives_epoch : ℕ × Manifest → ℕ × Record → OpenGoes
-gives_epoch m v = opens_to (leads (GivingEpoch m) (epoch_put m.1.compactor_epoch v.0 v.1))
+gives_epoch m v = opens_to (leads (GivingEpoch m) (record_change_put (GiveEpoch m.1.compactor_epoch) v.0 v.1))
 
 -- the record read does, and where there is none a first one is made
 abbrev pub record_read : ℕ × Manifest → Goes (ReadPhase Record) (Option (ℕ × Record)) → OpenGoes
@@ -63,10 +64,14 @@ was_first m (Stay commit) = Stay (CommittingFirst m commit)
 was_first m (End commit (Ok v)) = gives_epoch m v
 was_first m (End commit (Err e)) = End Over (Err e)
 
--- once the record has the epoch it is reset
+-- the version with that epoch is reset, without a fence
+abbrev pub resets : ℕ × Manifest → ℕ × Record → OpenGoes
+resets m v = opens_to (leads (Resetting m) (unfenced_record_put (Reset m.1.compactor_epoch) v.0 v.1))
+
+-- once it stands
 abbrev pub was_given : ℕ × Manifest → Goes (CommitPhase Record) (ℕ × Record) → OpenGoes
 was_given m (Stay commit) = Stay (GivingEpoch m commit)
-was_given m (End commit (Ok v)) = opens_to (leads (Resetting m) (reset_put v.0 v.1))
+was_given m (End commit (Ok v)) = resets m v
 was_given m (End commit (Err e)) = End Over (Err e)
 
 -- and then all is held

@@ -2,7 +2,8 @@
 use Rattle.std.specs.Prelude.{◌≡◌, ◌⊎◌, ◌<◌, ◌+◌, ℕ, ℤ, Bool, true, false, List, Option, Some, None, Result, Ok, Err}
 use Rattle.slate_compactor.specs.Local.{refreshed, scheduled, manifest_committed, record_committed}
 use Rattle.slate_compactor.specs.declared.local_state.LocalState.{LocalState}
-use Rattle.slate_compactor_writer.specs.Puts.{manifest_put, schedule_put, statuses_put, trees_put, with_checkpoint}
+use Rattle.slate_compactor_changes.specs.declared.compactor_change.CompactorChange.TheVariants.{KeepTrees}
+use Rattle.slate_compactor_writer.specs.Puts.{change_put, record_change_put, trees_put}
 use Rattle.slate_compactor_writer.specs.Retrying.{leads}
 use Rattle.slate_compactor_writer.specs.Writer.{Writer, with_local, with_manifest, with_record}
 use Rattle.slate_compactor_writer.specs.declared.state_phase.ManifestWrite.{ManifestWrite}
@@ -19,10 +20,10 @@ use Rattle.slate_log.specs.declared.commit_phase.CommitPhase.{CommitPhase}
 use Rattle.slate_log.specs.declared.log_kind.LogKind.TheVariants.{Compactions as RecordLog, Manifest as ManifestLog}
 use Rattle.slate_log.specs.declared.read_phase.ReadPhase.{ReadPhase}
 use Rattle.slate_log.specs.declared.read_phase.ReadPhase.TheVariants.{Listing}
-use Rattle.slate_log.specs.declared.right.Right.TheVariants.{Plain}
 use Rattle.slate_manifest_parts.specs.Decoding.{decoded_manifest}
 use Rattle.slate_model.specs.declared.manifest.Manifest.{Manifest}
 use Rattle.slate_record_bytes.specs.Records.{decoded_record}
+use Rattle.slate_record_updates.specs.declared.record_change.RecordChange.TheVariants as changes
 use Rattle.slate_records.specs.Records.{Record}
 use Rattle.slate_store.specs.Machines.{Goes, Stay, End}
 use Rattle.slate_store.specs.declared.store_answer.StoreAnswer.{StoreAnswer}
@@ -46,8 +47,8 @@ goes_to w (Err e) = End (Over, w) (Err e)
 -- what follows a version of the record: a refresh reads the manifest next, the other calls commit
 abbrev pub after_record : RecordUse → Writer → ℕ → Record → Result StatePhase SlateDBError
 after_record Refresh w n r = unless (fence w.epoch r.compactor_epoch) (Ok (RefreshingManifest false Listing))
-after_record (Schedule id) w n r = leads CommittingSchedule (schedule_put w.epoch id n r)
-after_record Statuses w n r = leads CommittingStatuses (statuses_put w.epoch w.local n r)
+after_record (Schedule id) w n r = leads CommittingSchedule (record_change_put (changes.Schedule (Some w.epoch) id) n r)
+after_record Statuses w n r = leads CommittingStatuses (record_change_put (changes.PutStatuses (Some w.epoch) w.local.compactions w.local.pending) n r)
 
 -- the record read is held; there has to be one
 abbrev pub record_read : RecordUse → Writer → Goes (ReadPhase Record) (Option (ℕ × Record)) → StateGoes
@@ -89,18 +90,18 @@ refresh_read w (End read (Err e)) = End (Over, w) (Err e)
 -- ---- the manifest, for a write
 
 -- the manifest with the local trees is committed, and the record follows where the whole state is written
-abbrev pub trees_phase : Bool → LocalState → ℕ → Manifest → Result StatePhase SlateDBError
-trees_phase whole local n m = leads (CommittingTrees whole) (trees_put n m local)
+abbrev pub trees_phase : Bool → Writer → ℕ → Manifest → Result StatePhase SlateDBError
+trees_phase whole w n m = leads (CommittingTrees whole) (trees_put w.epoch w.local n m)
 
 -- the manifest with the checkpoint is committed first; where that is there, the one with the local trees is
-abbrev pub checkpoint_or_trees : Bool → LocalState → ℕ → Manifest → Result (Option Manifest) SlateDBError → Result StatePhase SlateDBError
-checkpoint_or_trees whole local n m (Ok (Some new)) = leads (CommittingCheckpoint whole) (manifest_put n m new Plain)
-checkpoint_or_trees whole local n m (Ok None) = trees_phase whole local n m
-checkpoint_or_trees whole local n m (Err e) = Err e
+abbrev pub checkpoint_or_trees : Bool → Writer → ℕ → Manifest → Result (Option (CommitPhase Manifest)) SlateDBError → Result StatePhase SlateDBError
+checkpoint_or_trees whole w n m (Ok (Some commit)) = Ok (CommittingCheckpoint whole commit)
+checkpoint_or_trees whole w n m (Ok None) = trees_phase whole w n m
+checkpoint_or_trees whole w n m (Err e) = Err e
 
--- what follows a version of the manifest
+-- what follows a version of the manifest, unless the fence refuses it
 abbrev pub after_manifest : ℤ → ManifestWrite → Writer → ℕ → Manifest → Result StatePhase SlateDBError
-after_manifest moment write w n m = unless (fence w.epoch m.compactor_epoch) (checkpoint_or_trees write.whole w.local n m (with_checkpoint write.checkpoint moment n m))
+after_manifest moment write w n m = checkpoint_or_trees write.whole w n m (change_put (KeepTrees (Some w.epoch) write.checkpoint) moment n m)
 
 -- the manifest read is held; there has to be one
 abbrev pub manifest_read : ℤ → ManifestWrite → Writer → Goes (ReadPhase Manifest) (Option (ℕ × Manifest)) → StateGoes
@@ -112,7 +113,7 @@ manifest_read moment write w (End read (Err e)) = End (Over, w) (Err e)
 -- the manifest with the checkpoint is held, and the local trees are merged into it
 abbrev pub was_checkpointed : Bool → Writer → Goes (CommitPhase Manifest) (ℕ × Manifest) → StateGoes
 was_checkpointed whole w (Stay commit) = Stay (CommittingCheckpoint whole commit, w)
-was_checkpointed whole w (End commit (Ok v)) = goes_to (with_manifest v w) (trees_phase whole w.local v.0 v.1)
+was_checkpointed whole w (End commit (Ok v)) = goes_to (with_manifest v w) (trees_phase whole w v.0 v.1)
 was_checkpointed whole w (End commit (Err e)) = End (Over, w) (Err e)
 
 -- where the whole state is written the record is next

@@ -22,12 +22,13 @@ ghost use Rattle.slate_store.specs.Machines.{GoesOn, IsAgain, Steps};
 use crate::compactor_writer::CompactorStateWriter;
 use crate::logs::{manifests, records};
 use crate::manifest_puts::raise_put;
-use crate::record_puts::{epoch_put, first_put, reset_put};
+use crate::record_puts::{first_put, record_change_put, unfenced_record_put};
 use slate_compactions::records_are_plain;
 use slate_compactor::LocalState;
 use slate_ids::{DbPath, Millis, OutOfMemory, SlateDBError};
 use slate_log::{CommitPhase, ReadPhase};
 use slate_model::{Compactions, Manifest, Plain};
+use slate_record_updates::RecordChange;
 use slate_store::{ObjectStore, Step, StoreAnswer, StoreCall, perform};
 use std::alloc::Global;
 use std::mem;
@@ -251,7 +252,8 @@ impl OpenPhase {
             → OpenFalls (ReadingRecord raised counts (AtBoundary n compactions)) self.new }
         ensures due { StillDue result (open_due self.new) }
     {
-        let commit = epoch_put(alloc, raised.1.compactor_epoch, n, &compactions);
+        let epoch = raised.1.compactor_epoch;
+        let commit = record_change_put(alloc, RecordChange::GiveEpoch { epoch }, n, &compactions);
         match commit {
             Ok(commit) => {
                 drop(compactions);
@@ -363,7 +365,8 @@ impl OpenPhase {
         ensures falls { IsAgain result → OpenFalls (CommittingFirst raised (Bounding n compactions)) self.new }
         ensures due { StillDue result (open_due self.new) }
     {
-        let commit = epoch_put(alloc, raised.1.compactor_epoch, n, &compactions);
+        let epoch = raised.1.compactor_epoch;
+        let commit = record_change_put(alloc, RecordChange::GiveEpoch { epoch }, n, &compactions);
         match commit {
             Ok(commit) => {
                 drop(compactions);
@@ -429,12 +432,13 @@ impl OpenPhase {
         n: u64,
         compactions: Compactions,
     ) -> Step<CompactorStateWriter>
-        ensures goes { GoesOn (opening.opens_to (leads (Resetting raised) (puts.reset_put n compactions)))
+        ensures goes { GoesOn (opening.resets raised (n, compactions))
             (GivingEpoch raised (Bounding n compactions)) self.new result }
         ensures falls { IsAgain result → OpenFalls (GivingEpoch raised (Bounding n compactions)) self.new }
         ensures due { StillDue result (open_due self.new) }
     {
-        let commit = reset_put(alloc, n, &compactions);
+        let epoch = raised.1.compactor_epoch;
+        let commit = unfenced_record_put(alloc, RecordChange::Reset { epoch }, n, &compactions);
         match commit {
             Ok(commit) => {
                 drop(compactions);

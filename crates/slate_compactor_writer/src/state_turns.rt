@@ -1,22 +1,44 @@
 //! What follows a version that a call on the state read.
-ghost use Rattle.std.specs.Prelude.{◌≡◌, ◌<◌, Ok, true, IfOk};
+ghost use Rattle.std.specs.Prelude.{◌≡◌, ◌<◌, Some, true, IfOk};
 ghost use Rattle.slate_compactor_writer.specs.Puts as puts;
-ghost use Rattle.slate_compactor_writer.specs.Retrying.{leads};
 ghost use Rattle.slate_compactor_writer.specs.StateSteps as steps;
 ghost use Rattle.slate_compactor_writer.specs.StateSteps.{phase_due, phase_rank};
-ghost use Rattle.slate_compactor_writer.specs.declared.state_phase.StatePhase.TheVariants.{CommittingCheckpoint};
 ghost use Rattle.slate_ids.specs.Answers.{Gives};
-ghost use Rattle.slate_log.specs.declared.right.Right.TheVariants.{Plain};
+ghost use Rattle.slate_record_updates.specs.declared.record_change.RecordChange.TheVariants.{PutStatuses};
 
 use crate::compactor_writer::CompactorStateWriter;
-use crate::manifest_puts::{manifest_put, trees_put, with_checkpoint};
-use crate::record_puts::{schedule_put, statuses_put};
+use crate::manifest_puts::{change_put, sure, unfenced_put};
+use crate::record_puts::record_change_put;
 use crate::state_phase::{ManifestWrite, RecordUse, StatePhase};
 use slate_compactor::LocalState;
-use slate_ids::{Millis, SlateDBError};
-use slate_log::{ReadPhase, Right, fence};
-use slate_model::{Compactions, Manifest};
+use slate_compactor_changes::CompactorChange;
+use slate_ids::{Millis, OutOfMemory, SlateDBError};
+use slate_log::{ReadPhase, fence};
+use slate_model::{Compactions, Manifest, Plain};
+use slate_record_updates::RecordChange;
 use std::alloc::Global;
+
+// The change of the record by the local statuses, trimmed but for what is pending.
+fn statuses_of(alloc: Global, epoch: u64, local: &LocalState) -> Result<RecordChange, OutOfMemory>
+    ensures { IfOk result (λ change. change ≡ PutStatuses (Some epoch) local.now.compactions local.now.pending) }
+{
+    Ok(RecordChange::PutStatuses {
+        compactor: Some(epoch),
+        local: Plain::clone(&local.compactions, alloc)?,
+        pending: local.pending.copy(alloc)?,
+    })
+}
+
+// The change of the manifest by the local trees, with the outputs that are pending.
+fn merge_of(alloc: Global, epoch: u64, local: &LocalState) -> Result<CompactorChange, OutOfMemory>
+    ensures { IfOk result (λ change. change ≡ puts.merge_of epoch local.now) }
+{
+    Ok(CompactorChange::MergeTrees {
+        compactor: Some(epoch),
+        trees: Plain::clone(&local.trees, alloc)?,
+        outputs: local.pending_outputs(alloc)?,
+    })
+}
 
 /// What follows version `n` of the record: a refresh reads the manifest next, the other calls commit.
 #[tactic(auto, using(crate::proofs::Ranks::putting_rank, crate::proofs::Ranks::putting_due))]
@@ -38,11 +60,16 @@ pub(crate) fn after_record(
             None => Ok(StatePhase::RefreshingManifest(false, ReadPhase::Listing)),
         },
         RecordUse::Schedule(id) => {
-            let commit = schedule_put(alloc, epoch, *id, n, compactions)?;
+            let change = RecordChange::Schedule {
+                compactor: Some(epoch),
+                id: *id,
+            };
+            let commit = record_change_put(alloc, change, n, compactions)?;
             Ok(StatePhase::CommittingSchedule(commit))
         }
         RecordUse::Statuses => {
-            let commit = statuses_put(alloc, epoch, &writer.local, n, compactions)?;
+            let change = statuses_of(alloc, epoch, &writer.local)?;
+            let commit = record_change_put(alloc, change, n, compactions)?;
             Ok(StatePhase::CommittingStatuses(commit))
         }
     }
@@ -73,51 +100,17 @@ pub(crate) fn trees_phase(
     n: u64,
     manifest: &Manifest,
 ) -> Result<StatePhase, SlateDBError>
-    ensures next { Gives result (steps.trees_phase whole writer.now.local n manifest.now) }
+    ensures next { Gives result (steps.trees_phase whole writer.now n manifest.now) }
     ensures due { IfOk result (λ phase. phase_due phase ≡ true) }
     ensures rank { IfOk result (λ phase. phase_rank phase ≡ 9) }
 {
-    let commit = trees_put(alloc, n, manifest, &writer.local)?;
+    let change = merge_of(alloc, writer.epoch, &writer.local)?;
+    let commit = sure(unfenced_put(alloc, &change, 0, n, manifest)?)?;
     Ok(StatePhase::CommittingTrees(whole, commit))
 }
 
-// The commit of version `n` with the checkpoint, which the local trees follow.
-#[tactic(auto, using(crate::proofs::Ranks::putting_rank, crate::proofs::Ranks::putting_due))]
-fn checkpoint_phase(
-    alloc: Global,
-    whole: bool,
-    n: u64,
-    manifest: &Manifest,
-    made: Manifest,
-) -> Result<StatePhase, SlateDBError>
-    ensures next { Gives result (leads (CommittingCheckpoint whole) (puts.manifest_put n manifest.now made Plain)) }
-    ensures due { IfOk result (λ phase. phase_due phase ≡ true) }
-    ensures rank { IfOk result (λ phase. phase_rank phase ≡ 12) }
-{
-    let commit = manifest_put(alloc, n, manifest, &made, &Right::Plain)?;
-    Ok(StatePhase::CommittingCheckpoint(whole, commit))
-}
-
-// What follows version `n` of the manifest and what a checkpoint made of it: its commit, or that of the local trees where it made none.
-fn checkpoint_or_trees(
-    alloc: Global,
-    whole: bool,
-    writer: &CompactorStateWriter,
-    n: u64,
-    manifest: &Manifest,
-    made: Option<Manifest>,
-) -> Result<StatePhase, SlateDBError>
-    ensures next { Gives result (steps.checkpoint_or_trees whole writer.now.local n manifest.now (Ok made)) }
-    ensures due { IfOk result (λ phase. phase_due phase ≡ true) }
-    ensures rank { IfOk result (λ phase. phase_rank phase < 13) }
-{
-    match made {
-        Some(made) => checkpoint_phase(alloc, whole, n, manifest, made),
-        None => trees_phase(alloc, whole, writer, n, manifest),
-    }
-}
-
 /// What follows version `n` of the manifest: the checkpoint is committed first, and where it is there the local trees are.
+#[tactic(auto, using(crate::proofs::Ranks::putting_rank, crate::proofs::Ranks::putting_due))]
 pub(crate) fn after_manifest(
     alloc: Global,
     moment: Millis,
@@ -130,11 +123,12 @@ pub(crate) fn after_manifest(
     ensures due { IfOk result (λ phase. phase_due phase ≡ true) }
     ensures rank { IfOk result (λ phase. phase_rank phase < 13) }
 {
-    match fence(writer.epoch, manifest.compactor_epoch) {
-        Some(refusal) => Err(refusal),
-        None => {
-            let made = with_checkpoint(alloc, write.checkpoint, moment, n, manifest)?;
-            checkpoint_or_trees(alloc, write.whole, writer, n, manifest, made)
-        }
+    let change = CompactorChange::KeepTrees {
+        compactor: Some(writer.epoch),
+        checkpoint: write.checkpoint,
+    };
+    match change_put(alloc, &change, moment, n, manifest)? {
+        Some(commit) => Ok(StatePhase::CommittingCheckpoint(write.whole, commit)),
+        None => trees_phase(alloc, write.whole, writer, n, manifest),
     }
 }
