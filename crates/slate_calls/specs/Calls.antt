@@ -1,5 +1,5 @@
 -- The call that an item with `start` stands for, by its name.
-use Rattle.std.specs.Prelude.{pos, false, [], ◌∷◌, Option, Some, codes}
+use Rattle.std.specs.Prelude.{ℕ, pos, false, List, [], ◌∷◌, Option, Some, codes}
 use Rattle.serde_json.specs.Data.{Data}
 use Rattle.serde_json.specs.Find.{as_str}
 use Rattle.slate_json.specs.Fields.{◌>>=◌, only, required, defaulted, optional, list_in, u64_in, i64_in, bool_in, checkpoint_id_in}
@@ -8,16 +8,16 @@ use Rattle.slate_json.specs.WrittenIds.{id_in}
 use Rattle.slate_json.specs.Words.{pass_in, filter_in}
 use Rattle.slate_calls.specs.Names.{name_in}
 use Rattle.slate_events.specs.declared.call.Call.{Call}
-use Rattle.slate_events.specs.declared.call.Call.TheVariants.{OpenWriter, Upload, Flush, Claim, Report, WriteCheckpoint, ReplaceCheckpoint, RefreshCheckpoint, DeleteCheckpoint, Pass}
+use Rattle.slate_events.specs.declared.call.Call.TheVariants.{OpenWriter, Upload, Flush, OpenCompactor, Refresh, Schedule, Finish, Fail, WriteManifest, WriteRecord, WriteState, Claim, Report, WriteCheckpoint, ReplaceCheckpoint, RefreshCheckpoint, DeleteCheckpoint, Pass}
 use Rattle.slate_gc.specs.declared.filter_word.FilterWord.TheVariants.{All}
 use Rattle.slate_calls.specs.declared.call_name.CallName.{CallName}
 use Rattle.slate_calls.specs.declared.call_name.CallName.TheVariants as name
 
--- no field of its own
-unfoldable pub open_writer_in : Data → Option Call
-open_writer_in d = do
+-- a call with no field of its own
+unfoldable pub bare_in : Call → Data → Option Call
+bare_in call d = do
   _ ← only (codes "start" ∷ codes "call" ∷ []) d
-  Some OpenWriter
+  Some call
 
 -- a new table, whose keys go from "a" to "z" where no others are given
 unfoldable pub upload_in : Data → Option Call
@@ -39,11 +39,52 @@ flush_in d = do
   tick ← defaulted (pos 0) i64_in (codes "tick") d
   Some (Flush tables replay_after next_wal seq tick)
 
+-- the compaction of a call with no other field of its own
+unfoldable pub compaction_in : Data → Option (ℕ × ℕ)
+compaction_in d = do
+  _ ← only (codes "start" ∷ codes "call" ∷ codes "id" ∷ []) d
+  required id_in (codes "id") d
+
+-- a compaction that is Submitted becomes Scheduled
+unfoldable pub schedule_in : Data → Option Call
+schedule_in d = do
+  id ← compaction_in d
+  Some (Schedule id)
+
+-- a compaction that is Compacted becomes Completed
+unfoldable pub finish_in : Data → Option Call
+finish_in d = do
+  id ← compaction_in d
+  Some (Finish id)
+
+-- a compaction becomes Failed
+unfoldable pub fail_in : Data → Option Call
+fail_in d = do
+  id ← compaction_in d
+  Some (Fail id)
+
+-- the checkpoint of a call with no other field of its own
+unfoldable pub checkpoint_in : Data → Option (List ℕ)
+checkpoint_in d = do
+  _ ← only (codes "start" ∷ codes "call" ∷ codes "checkpoint" ∷ []) d
+  required checkpoint_id_in (codes "checkpoint") d
+
+-- a compactor's trees are written into the manifest, under a new checkpoint
+unfoldable pub write_manifest_in : Data → Option Call
+write_manifest_in d = do
+  checkpoint ← checkpoint_in d
+  Some (WriteManifest checkpoint)
+
+-- the manifest and then the record are written
+unfoldable pub write_state_in : Data → Option Call
+write_state_in d = do
+  checkpoint ← checkpoint_in d
+  Some (WriteState checkpoint)
+
 -- the claim of a compaction
 unfoldable pub claim_in : Data → Option Call
 claim_in d = do
-  _ ← only (codes "start" ∷ codes "call" ∷ codes "id" ∷ []) d
-  id ← required id_in (codes "id") d
+  id ← compaction_in d
   Some (Claim id)
 
 -- the report of a compaction with its outputs
@@ -102,9 +143,17 @@ collector_pass_in d = do
 
 -- the call of this name, with its fields
 abbrev pub call_of : CallName → Data → Option Call
-call_of name.OpenWriter d = open_writer_in d
+call_of name.OpenWriter d = bare_in OpenWriter d
 call_of name.Upload d = upload_in d
 call_of name.Flush d = flush_in d
+call_of name.OpenCompactor d = bare_in OpenCompactor d
+call_of name.Refresh d = bare_in Refresh d
+call_of name.Schedule d = schedule_in d
+call_of name.Finish d = finish_in d
+call_of name.Fail d = fail_in d
+call_of name.WriteManifest d = write_manifest_in d
+call_of name.WriteRecord d = bare_in WriteRecord d
+call_of name.WriteState d = write_state_in d
 call_of name.Claim d = claim_in d
 call_of name.Report d = report_in d
 call_of name.WriteCheckpoint d = write_checkpoint_in d

@@ -3,7 +3,9 @@
 
 mod call_name;
 mod items;
+mod parts;
 mod read_call;
+mod read_compactor_call;
 mod read_pass;
 mod read_worker_call;
 mod read_writer_call;

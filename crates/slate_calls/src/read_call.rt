@@ -4,9 +4,13 @@ ghost use Rattle.slate_json.specs.Fields.{Gives};
 ghost use Rattle.slate_calls.specs.Calls.{write_checkpoint_in, replace_checkpoint_in, refresh_checkpoint_in, delete_checkpoint_in, call_in};
 
 use crate::call_name::CallName;
+use crate::parts::read_bare;
+use crate::read_compactor_call::{
+    read_fail, read_finish, read_schedule, read_write_manifest, read_write_state,
+};
 use crate::read_pass::read_pass;
 use crate::read_worker_call::{read_claim, read_report};
-use crate::read_writer_call::{read_flush, read_open_writer, read_upload};
+use crate::read_writer_call::{read_flush, read_upload};
 use serde_json::Value;
 use slate_events::Call;
 use slate_json::{JsonError, only, optional, required};
@@ -76,9 +80,17 @@ pub(crate) fn read_call(alloc: Global, d: &Value) -> Result<Call, JsonError>
     ensures { Gives result (call_in (view d.now)) }
 {
     match required(alloc, d, "call")? {
-        CallName::OpenWriter => read_open_writer(d),
+        CallName::OpenWriter => read_bare(d, Call::OpenWriter),
         CallName::Upload => read_upload(alloc, d),
         CallName::Flush => read_flush(alloc, d),
+        CallName::OpenCompactor => read_bare(d, Call::OpenCompactor),
+        CallName::Refresh => read_bare(d, Call::Refresh),
+        CallName::Schedule => read_schedule(alloc, d),
+        CallName::Finish => read_finish(alloc, d),
+        CallName::Fail => read_fail(alloc, d),
+        CallName::WriteManifest => read_write_manifest(alloc, d),
+        CallName::WriteRecord => read_bare(d, Call::WriteRecord),
+        CallName::WriteState => read_write_state(alloc, d),
         CallName::Claim => read_claim(alloc, d),
         CallName::Report => read_report(alloc, d),
         CallName::WriteCheckpoint => write_checkpoint(alloc, d),

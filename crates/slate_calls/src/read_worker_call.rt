@@ -3,6 +3,7 @@ ghost use Rattle.serde_json.specs.View.{view};
 ghost use Rattle.slate_json.specs.Fields.{Gives};
 ghost use Rattle.slate_calls.specs.Calls.{claim_in, report_in};
 
+use crate::parts::read_compaction;
 use serde_json::Value;
 use slate_events::Call;
 use slate_json::{JsonError, only, required};
@@ -13,8 +14,7 @@ use std::alloc::Global;
 pub(crate) fn read_claim(alloc: Global, d: &Value) -> Result<Call, JsonError>
     ensures { Gives result (claim_in (view d.now)) }
 {
-    only(d, &["start", "call", "id"])?;
-    let id = required(alloc, d, "id")?;
+    let id = read_compaction(alloc, d)?;
     Ok(Call::Claim { id })
 }
 

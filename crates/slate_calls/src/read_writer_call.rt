@@ -1,22 +1,13 @@
 //! The call that a start of a writer stands for.
 ghost use Rattle.serde_json.specs.View.{view};
 ghost use Rattle.slate_json.specs.Fields.{Gives};
-ghost use Rattle.slate_calls.specs.Calls.{open_writer_in, upload_in, flush_in};
+ghost use Rattle.slate_calls.specs.Calls.{upload_in, flush_in};
 
 use bytes::Bytes;
 use serde_json::Value;
 use slate_events::Call;
 use slate_json::{JsonError, defaulted, only, required};
 use std::alloc::Global;
-
-/// An open, which has no field of its own.
-#[tactic(auto, unfolding(crate::specs::Calls::open_writer_in))]
-pub(crate) fn read_open_writer(d: &Value) -> Result<Call, JsonError>
-    ensures { Gives result (open_writer_in (view d.now)) }
-{
-    only(d, &["start", "call"])?;
-    Ok(Call::OpenWriter)
-}
 
 /// An upload with its table and the table's keys.
 #[tactic(auto, unfolding(crate::specs::Calls::upload_in))]

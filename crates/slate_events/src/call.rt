@@ -33,6 +33,48 @@ pub enum Call {
         seq: u64,
         tick: Millis,
     },
+    /// Reads the latest manifest and commits it with its compactor epoch plus one. Then reads the latest record: where there is none, the
+    /// first one is committed, with epoch 0 and no compactions. Then the record is committed with the manifest's epoch, and once more with
+    /// each compaction that is Scheduled Submitted, without a worker, and without those that are over, but for the last one that is
+    /// Completed. Refused with `Exhausted` at the last epoch, and with `Fenced` where the record read has a greater one. From then on the
+    /// party holds the trees of the manifest that it committed and the record that it committed last. The reply is that epoch.
+    OpenCompactor,
+    /// Reads the latest record and then the latest manifest. The party then holds the record read, with its own statuses of compactions that
+    /// are over, and its trees merged with those of the manifest. Refused, as each call of a compactor but its open, with `InvalidDBState`
+    /// at the start before the party's open succeeded, and with `Fenced` where a version read has a compactor epoch above the party's; as a
+    /// claim where there is no record; and with `SegmentWithoutWriter` where a segment that it holds has tables and the manifest has none of
+    /// its prefix. The reply is `done`.
+    Refresh,
+    /// Reads the latest record and commits it with this compaction Scheduled, from Submitted. The party then holds that record, with its own
+    /// statuses of compactions that are over. Refused with `InvalidDBState` where the record read lacks the compaction or it isn't Submitted.
+    /// The reply is `done`.
+    Schedule {
+        id: Ulid,
+    },
+    /// Makes no store call: in what the party holds, the sources of this compaction, which is Compacted, leave the tree of its segment, and
+    /// the run of its outputs comes in their place; it is Completed. Refused with `InvalidDBState` at the start: where the party holds no
+    /// such compaction, it isn't Compacted, or its sources are bad. The reply is `done`.
+    Finish {
+        id: Ulid,
+    },
+    /// Makes no store call: in what the party holds, this compaction is Failed. Refused with `InvalidDBState` at the start where the party
+    /// holds no such compaction or it is over. The reply is `done`.
+    Fail {
+        id: Ulid,
+    },
+    /// Reads the latest manifest and commits it with this new checkpoint, for a quarter of an hour, and then with the party's trees merged
+    /// into it. Where the checkpoint is there already, only the second is committed. The party then holds the trees committed. Refused with
+    /// `InvalidDBState` where the database is not ready for use, and with `SegmentWithoutWriter` as a refresh. The reply is `done`.
+    WriteManifest {
+        checkpoint: CheckpointId,
+    },
+    /// Reads the latest record and commits it with the party's statuses of compactions that are over, without those that are over, but for the
+    /// last one that is Completed and those that no manifest has yet. The party then holds the record committed. The reply is `done`.
+    WriteRecord,
+    /// As `WriteManifest`, and then as `WriteRecord`.
+    WriteState {
+        checkpoint: CheckpointId,
+    },
     /// Reads the latest record and commits it with this compaction Running, from Scheduled, under this party as its worker. Refused with
     /// `LatestTransactionalObjectVersionMissing` where there is no record, and with `InvalidDBState` where the record read lacks the
     /// compaction or it isn't Scheduled. The reply is `done`.
@@ -103,6 +145,26 @@ fn upload(alloc: Global, table: Ulid, first: &Bytes, last: &Bytes) -> Result<Cal
     })
 }
 
+// A flush of these tables, with these numbers.
+fn flush(
+    alloc: Global,
+    tables: &Listed<FlushTable>,
+    replay_after: u64,
+    next_wal: u64,
+    seq: u64,
+    tick: Millis,
+) -> Result<Call, OutOfMemory>
+    ensures { IfOk result (λ call. call ≡ calls.Flush tables.now replay_after next_wal seq tick) }
+{
+    Ok(Call::Flush {
+        tables: Plain::clone(tables, alloc)?,
+        replay_after,
+        next_wal,
+        seq,
+        tick,
+    })
+}
+
 // A report of a compaction with these outputs.
 fn report(alloc: Global, id: Ulid, tables: &Listed<Ulid>) -> Result<Call, OutOfMemory>
     ensures { IfOk result (λ call. call ≡ calls.Report id tables.now) }
@@ -131,6 +193,26 @@ fn write_checkpoint(
     })
 }
 
+// A new checkpoint in the place of another.
+fn replace_checkpoint(
+    alloc: Global,
+    old: CheckpointId,
+    id: CheckpointId,
+    lifetime: Option<u64>,
+    source: Option<CheckpointId>,
+    name: &Option<Text>,
+) -> Result<Call, OutOfMemory>
+    ensures { IfOk result (λ call. call ≡ calls.ReplaceCheckpoint old id lifetime source name.now) }
+{
+    Ok(Call::ReplaceCheckpoint {
+        old,
+        id,
+        lifetime,
+        source,
+        name: Plain::clone(name, alloc)?,
+    })
+}
+
 impl Call {
     /// An equal call.
     pub fn copy(&self, alloc: Global) -> Result<Call, OutOfMemory>
@@ -145,12 +227,18 @@ impl Call {
                 next_wal,
                 seq,
                 tick,
-            } => Call::Flush {
-                tables: Plain::clone(tables, alloc)?,
-                replay_after: *replay_after,
-                next_wal: *next_wal,
-                seq: *seq,
-                tick: *tick,
+            } => flush(alloc, tables, *replay_after, *next_wal, *seq, *tick)?,
+            Call::OpenCompactor => Call::OpenCompactor,
+            Call::Refresh => Call::Refresh,
+            Call::Schedule { id } => Call::Schedule { id: *id },
+            Call::Finish { id } => Call::Finish { id: *id },
+            Call::Fail { id } => Call::Fail { id: *id },
+            Call::WriteManifest { checkpoint } => Call::WriteManifest {
+                checkpoint: *checkpoint,
+            },
+            Call::WriteRecord => Call::WriteRecord,
+            Call::WriteState { checkpoint } => Call::WriteState {
+                checkpoint: *checkpoint,
             },
             Call::Claim { id } => Call::Claim { id: *id },
             Call::Report { id, tables } => report(alloc, *id, tables)?,
@@ -166,13 +254,7 @@ impl Call {
                 lifetime,
                 source,
                 name,
-            } => Call::ReplaceCheckpoint {
-                old: *old,
-                id: *id,
-                lifetime: *lifetime,
-                source: *source,
-                name: Plain::clone(name, alloc)?,
-            },
+            } => replace_checkpoint(alloc, *old, *id, *lifetime, *source, name)?,
             Call::RefreshCheckpoint { id, lifetime } => Call::RefreshCheckpoint {
                 id: *id,
                 lifetime: *lifetime,

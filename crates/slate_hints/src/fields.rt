@@ -43,11 +43,15 @@ pub(crate) enum Object {
     Open,
     Step,
     Stop,
-    OpenWriter,
+    /// A start of a call with no field of its own.
+    Bare,
     Upload,
     Flush,
     FlushTable,
-    Claim,
+    /// A start of a call that has just the id of a compaction.
+    OfCompaction,
+    /// A start of a call that has just a new checkpoint.
+    UnderCheckpoint,
     Report,
     WriteCheckpoint,
     ReplaceCheckpoint,
@@ -132,7 +136,7 @@ static STEP: [Field; 4] = [
 
 static STOP: [Field; 1] = [Field(Name::Stop, Needed, One(Plain::Whole32))];
 
-static OPEN_WRITER: [Field; 2] = [
+static BARE: [Field; 2] = [
     Field(Name::Start, Needed, One(Plain::Whole32)),
     Field(Name::Call, Needed, One(Plain::CallName)),
 ];
@@ -161,10 +165,16 @@ static FLUSH_TABLE: [Field; 3] = [
     Field(Name::Prefix, Optional, One(Plain::Text)),
 ];
 
-static CLAIM: [Field; 3] = [
+static OF_COMPACTION: [Field; 3] = [
     Field(Name::Start, Needed, One(Plain::Whole32)),
     Field(Name::Call, Needed, One(Plain::CallName)),
     Field(Name::Id, Needed, One(Plain::Id)),
+];
+
+static UNDER_CHECKPOINT: [Field; 3] = [
+    Field(Name::Start, Needed, One(Plain::Whole32)),
+    Field(Name::Call, Needed, One(Plain::CallName)),
+    Field(Name::Checkpoint, Needed, One(Plain::Checkpoint)),
 ];
 
 static REPORT: [Field; 4] = [
@@ -230,11 +240,12 @@ impl Object {
             Object::Open => &OPEN,
             Object::Step => &STEP,
             Object::Stop => &STOP,
-            Object::OpenWriter => &OPEN_WRITER,
+            Object::Bare => &BARE,
             Object::Upload => &UPLOAD,
             Object::Flush => &FLUSH,
             Object::FlushTable => &FLUSH_TABLE,
-            Object::Claim => &CLAIM,
+            Object::OfCompaction => &OF_COMPACTION,
+            Object::UnderCheckpoint => &UNDER_CHECKPOINT,
             Object::Report => &REPORT,
             Object::WriteCheckpoint => &WRITE_CHECKPOINT,
             Object::ReplaceCheckpoint => &REPLACE_CHECKPOINT,
@@ -247,10 +258,11 @@ impl Object {
     /// What a start of the call of a name stands as.
     pub(crate) fn of_call(name: &str) -> Option<Object> {
         match name {
-            "open_writer" => Some(Object::OpenWriter),
+            "open_writer" | "open_compactor" | "refresh" | "write_record" => Some(Object::Bare),
             "upload" => Some(Object::Upload),
             "flush" => Some(Object::Flush),
-            "claim" => Some(Object::Claim),
+            "schedule" | "finish" | "fail" | "claim" => Some(Object::OfCompaction),
+            "write_manifest" | "write_state" => Some(Object::UnderCheckpoint),
             "report" => Some(Object::Report),
             "write_checkpoint" => Some(Object::WriteCheckpoint),
             "replace_checkpoint" => Some(Object::ReplaceCheckpoint),

@@ -90,7 +90,7 @@ impl Plain {
             Plain::Path => "a text of 1 to 64 characters of a to z, 0 to 9, _ and -",
             Plain::Id =>
                 "a text \"ms:tail\" of two whole numbers, the first below 2^48, the second below 2^80",
-            Plain::Kind => "\"writer\", \"worker\", \"holder\" or \"collector\"",
+            Plain::Kind => "\"writer\", \"compactor\", \"worker\", \"holder\" or \"collector\"",
             Plain::Status =>
                 "\"submitted\", \"scheduled\", \"running\", \"compacted\", \"completed\" or \"failed\"",
             Plain::Drain => "true",

@@ -21,7 +21,7 @@ word_in (w ∷ ws) s = if bytes_eq s w.0 then Some w.1 else word_in ws s
 
 -- the kinds of parties
 unfoldable pub kind_word : List ℕ → Option PartyKind
-kind_word s = word_in ((codes "writer", kind.Writer) ∷ (codes "worker", kind.Worker) ∷ (codes "holder", kind.Holder) ∷ (codes "collector", kind.Collector) ∷ []) s
+kind_word s = word_in ((codes "writer", kind.Writer) ∷ (codes "compactor", kind.Compactor) ∷ (codes "worker", kind.Worker) ∷ (codes "holder", kind.Holder) ∷ (codes "collector", kind.Collector) ∷ []) s
 
 -- a text that is the word of a kind
 abbrev pub kind_in : Data → Option PartyKind

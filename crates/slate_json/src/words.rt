@@ -17,6 +17,7 @@ fn kind_of(text: &str) -> Option<PartyKind>
 {
     match text {
         "writer" => Some(PartyKind::Writer),
+        "compactor" => Some(PartyKind::Compactor),
         "worker" => Some(PartyKind::Worker),
         "holder" => Some(PartyKind::Holder),
         "collector" => Some(PartyKind::Collector),

@@ -42,6 +42,7 @@ use Rattle.slate_protocol.specs.declared.tally.Tally.{Tally}
 use Rattle.slate_protocol.specs.declared.work.Ended.{Ended}
 use Rattle.slate_protocol.specs.declared.work.Ended.TheVariants.{NoManifest, ManifestRead, ManifestCommitted, NoRecord, RecordRead, RecordCommitted, TablePut, Passed}
 use Rattle.slate_protocol.specs.declared.work.Purpose.TheVariants.{Once}
+use Rattle.slate_laws.proofs.FactsKept.{ends_same, starts_same}
 use Rattle.slate_laws.proofs.GoingOn.{run_world}
 use Rattle.slate_laws.proofs.Maps.{number_order, name_order, set_here, set_else, insert_here, insert_else}
 use Rattle.slate_laws.proofs.Pools.{or_false, shuffle, any_alike, ulid_at, call_carried, call_carried_ulids, databases_open, checkpoints_open, ulids_open}
@@ -84,30 +85,9 @@ first_kind k (Step n moment mark) es = refl
 first_kind k (Stop n) es = refl
 
 -- no phrase changes the kind of its party
-open_kind : (facts : Facts) (end : Ended) → (facts_after facts OpenWriter end).kind ≡ facts.kind
-open_kind facts (NoManifest purpose) = refl
-open_kind facts (ManifestRead purpose db n m) = refl
-open_kind facts (ManifestCommitted Once db n m) = refl
-open_kind facts (NoRecord purpose) = refl
-open_kind facts (RecordRead purpose db n r) = refl
-open_kind facts (RecordCommitted purpose db n r) = refl
-open_kind facts (TablePut upload) = refl
-open_kind facts (Passed counts) = refl
-
-end_kind : (facts : Facts) (call : Call) (end : Ended) → (facts_after facts call end).kind ≡ facts.kind
-end_kind facts call (TablePut upload) = refl
-end_kind facts OpenWriter end = open_kind facts end
-end_kind facts _ (NoManifest purpose) = refl
-end_kind facts _ (ManifestRead purpose db n m) = refl
-end_kind facts _ (ManifestCommitted purpose db n m) = refl
-end_kind facts _ (NoRecord purpose) = refl
-end_kind facts _ (RecordRead purpose db n r) = refl
-end_kind facts _ (RecordCommitted purpose db n r) = refl
-end_kind facts _ (Passed counts) = refl
-
 follow_kind : (facts : Facts) (call : Call) (now : ℤ) (g : WorkGoes) → (follow facts call now g).facts.kind ≡ facts.kind
 follow_kind facts call now (Stay at) = refl
-follow_kind facts call now (End at (Ok end)) = end_kind facts call end
+follow_kind facts call now (End at (Ok end)) = (ends_same facts call end).kind
 follow_kind facts call now (End at (Err e)) = refl
 
 same_number : (a b : ℕ) → (a == b) ≡ true → a ≡ b
@@ -206,7 +186,7 @@ module _ (n : ℕ) (w : World) (p : Party) (at : party_of n w.parties ≡ Some p
       by_state : (state : State) → Does (Start n call) w (start_state (carrying n call w) n p.facts state call).world
       by_state Resting = record {
         databases = λ d. refl;
-        kinds = λ k. kind_kept (settled call (begin p.facts call)) refl k ∙ sym (or_none (kind_at k w));
+        kinds = λ k. kind_kept (settled call (begin p.facts call)) (starts_same p.facts call).kind k ∙ sym (or_none (kind_at k w));
         names = λ id. call_carried id n call w.carried.checkpoints;
         ulids = λ id. call_carried_ulids id n call w.carried.ulids;
       }

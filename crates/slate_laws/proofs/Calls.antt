@@ -1,5 +1,5 @@
 -- What a call makes of its work's end.
-use Rattle.std.proofs.Common.{◌≡◌, ℕ, ℤ, ◌+◌, ◌<◌, ◌≤◌, ◌^◌, ◌==◌, true, false, List, Option, Some, None, Result, Ok, Err, refl, sym, ap, ◌∙◌, subst, arith}
+use Rattle.std.proofs.Common.{◌≡◌, ℕ, ℤ, ◌+◌, ◌<◌, ◌≤◌, ◌^◌, ◌==◌, true, false, true≢false, List, Option, Some, None, Result, Ok, Err, refl, sym, ap, ◌∙◌, subst, ◌⊎◌, inl, inr, arith}
 use Rattle.std.proofs.lemmas.Bool.Decides.{nat_tests}
 use Rattle.slate_ids.specs.Limits.{last_number}
 use Rattle.slate_ids.specs.Ulids.{is_id}
@@ -10,21 +10,20 @@ use Rattle.slate_model.specs.declared.manifest.Manifest.{Manifest}
 use Rattle.slate_records.specs.Records.{Record}
 use Rattle.slate_record_bytes.specs.Records.{decoded_record}
 use Rattle.slate_layout.specs.RecordCodec.{record_encoded}
-use Rattle.slate_record_updates.specs.RecordChanges.{made as record_made, right_of as record_right_of, fence_of as record_fence_of}
+use Rattle.slate_record_updates.specs.RecordChanges.{made as record_made, right_of as record_right_of, fence_of as record_fence_of, compactor_fence}
 use Rattle.slate_record_updates.specs.RecordRules.{record_refusal_of}
-use Rattle.slate_record_updates.specs.declared.record_change.RecordChange.{RecordChange}
 use Rattle.slate_store.specs.Machines.{Stay, End}
 use Rattle.slate_store.specs.Store.{Store}
 use Rattle.slate_store.specs.declared.store_answer.StoreAnswer.{StoreAnswer}
 use Rattle.slate_store.specs.declared.store_answer.StoreAnswer.TheVariants.{Written}
-use Rattle.slate_updates.specs.Changes.{made, right_of, fence_of, commit_of}
+use Rattle.slate_updates.specs.Changes.{commit_of}
 use Rattle.slate_updates.specs.Rules.{manifest_refusal}
-use Rattle.slate_updates.specs.declared.manifest_change.ManifestChange.{ManifestChange}
 use Rattle.slate_updates.specs.declared.manifest_change.ManifestChange.TheVariants.{DropExpired}
-use Rattle.slate_log.specs.CommitPhase.{CommitGoes, commit_goes}
+use Rattle.slate_log.specs.CommitPhase.{CommitGoes, commit_goes, encoded_commit}
 use Rattle.slate_log.specs.ReadPhase.{Reply, read_goes}
 use Rattle.slate_log.specs.declared.commit_phase.CommitPhase.{CommitPhase}
 use Rattle.slate_log.specs.declared.log_kind.LogKind.{LogKind}
+use Rattle.slate_log.specs.declared.read_phase.ReadPhase.TheVariants as reading
 use Rattle.slate_log.specs.declared.log_kind.LogKind.TheVariants as logs
 use Rattle.slate_gc.specs.GcPass.{GcGoes, gc_goes, removal_goes}
 use Rattle.slate_gc.specs.GcPass as whole
@@ -33,32 +32,38 @@ use Rattle.slate_gc.specs.declared.gc_pass.GcPass.{GcPass}
 use Rattle.slate_gc.specs.declared.gc_pass.GcPass.TheVariants.{Reading, Committing, Collecting}
 use Rattle.slate_gc.specs.declared.pass_options.PassOptions.{PassOptions}
 use Rattle.slate_events.specs.declared.call.Call.{Call}
-use Rattle.slate_events.specs.declared.call.Call.TheVariants.{OpenWriter, Upload as UploadCall, Pass}
+use Rattle.slate_events.specs.declared.call.Call.TheVariants.{Upload as UploadCall, OpenCompactor, Refresh, Finish as FinishCall, Fail, WriteState, Pass}
 use Rattle.slate_events.specs.declared.party_kind.PartyKind.{PartyKind}
-use Rattle.slate_events.specs.declared.party_kind.PartyKind.TheVariants.{Writer, Worker, Holder, Collector}
-use Rattle.slate_protocol.specs.Calls.{has_call, refusal_at_start, first_work, change_of, done, record_change_of, facts_after, Next, Go, Finish}
+use Rattle.slate_events.specs.declared.party_kind.PartyKind.TheVariants.{Writer, Compactor, Worker, Holder, Collector}
+use Rattle.slate_encodable.specs.Normal.{normal_manifest}
+use Rattle.slate_record_bytes.specs.RecordNormal.{normal_record}
+use Rattle.slate_protocol.specs.Calls.{has_call, refusal_at_start, facts_at_start, change_of, again, done_once, done_merged, done, record_change_of, record_again, record_done_once, record_done, refresh_next, first_of, facts_after, Next, Go, Finish}
 use Rattle.slate_protocol.specs.Chains.{Link, Log, link_at, top}
-use Rattle.slate_protocol.specs.Logs.{Chains, manifests, records, log_of, made_by, right_by, fence_by, phrase_of}
-use Rattle.slate_protocol.specs.Rows.{Standing, begin_unless, begin, commit_for, commit_next, commit_by, record_commit_for, record_next, after, ended, follow}
+use Rattle.slate_protocol.specs.Logs.{Chains, Phrase, Reads, Commits, Uploads, Collects, manifests, records, log_of, phrase_of}
+use Rattle.slate_protocol.specs.PartyChanges.{change_made, change_right, change_fence, made_by, right_by, fence_by, manifest_commit}
+use Rattle.slate_protocol.specs.Rows.{Standing, first_next, begin_unless, begin, commit_for, last_next, then_next, commit_next, record_commit_for, record_next, record_then, first_put, no_record, after, ended, follow}
 use Rattle.slate_protocol.specs.Works.{WorkGoes, db_of, read_on, commit_on, record_read_on, record_commit_on, put_end, pass_on, goes}
 use Rattle.slate_protocol.specs.declared.party.Facts.{Facts}
+use Rattle.slate_protocol.specs.declared.party_change.PartyChange.{PartyChange}
+use Rattle.slate_protocol.specs.declared.party_change.PartyChange.TheVariants.{Shared}
 use Rattle.slate_protocol.specs.declared.uploads.Upload.{Upload}
 use Rattle.slate_protocol.specs.declared.work.Ended.{Ended}
 use Rattle.slate_protocol.specs.declared.work.Ended.TheVariants.{NoManifest, ManifestRead, ManifestCommitted, NoRecord, RecordRead, RecordCommitted, TablePut, Passed}
 use Rattle.slate_protocol.specs.declared.work.Purpose.{Purpose}
-use Rattle.slate_protocol.specs.declared.work.Purpose.TheVariants.{Once}
+use Rattle.slate_protocol.specs.declared.work.Purpose.TheVariants.{Once, First, Reset, Merge}
 use Rattle.slate_protocol.specs.declared.work.Work.{Work}
 use Rattle.slate_protocol.specs.declared.work.Work.TheVariants as works
 use Rattle.slate_laws.proofs.Links.{link_number, at_most}
 use Rattle.slate_laws.proofs.Facts.{IsSound, IsValue, IsNext, ReadBrings, CommitKnows, CommitBrings}
-use Rattle.slate_laws.proofs.Facts.IsMade.{OfVersion}
+use Rattle.slate_laws.proofs.Facts.IsMade.{OfVersion, OfNone}
+use Rattle.slate_laws.proofs.FactsKept.{ends_same, starts_same, is_commit, commits, end_or_commit}
 use Rattle.slate_laws.proofs.Manifests.{IsChanged, change_commits}
 use Rattle.slate_laws.proofs.Passes.{PassBrings}
 use Rattle.slate_laws.proofs.Steps.{author_of, PhraseKnows, PhraseBrings}
 
 -- the work of a pass is that of a call that drops the expired checkpoints
 abbrev pub Fits : Call → Work → Type 0
-Fits call (works.Pass db options phase) = (facts : Facts) → change_of facts call Once ≡ DropExpired
+Fits call (works.Pass db options phase) = (facts : Facts) → change_of facts call Once ≡ Some (Shared DropExpired)
 Fits call (works.ReadManifest purpose db phase) = Unit {0}
 Fits call (works.CommitManifest purpose now db phase) = Unit {0}
 Fits call (works.ReadRecord purpose db phase) = Unit {0}
@@ -79,24 +84,6 @@ NextKnows Has s chains n facts call (Finish reply) = Unit {0}
 room_for : (n top : ℕ) → n ≤ top → top < 2 ^ 64 → (n == last_number) ≡ false → n + 1 < 2 ^ 64
 room_for n top le small room = grind (arith, nat_tests)
 
--- facts change, but for the database
-pub same_db : (facts : Facts) (call : Call) (end : Ended) → (facts_after facts call end).db ≡ facts.db
-same_db facts call (TablePut upload) = refl
-same_db facts OpenWriter (ManifestCommitted Once db n m) = refl
-same_db facts OpenWriter (ManifestRead purpose db n m) = refl
-same_db facts OpenWriter (NoManifest purpose) = refl
-same_db facts OpenWriter (NoRecord purpose) = refl
-same_db facts OpenWriter (RecordRead purpose db n r) = refl
-same_db facts OpenWriter (RecordCommitted purpose db n r) = refl
-same_db facts OpenWriter (Passed counts) = refl
-same_db facts _ (ManifestCommitted purpose db n m) = refl
-same_db facts _ (ManifestRead purpose db n m) = refl
-same_db facts _ (NoManifest purpose) = refl
-same_db facts _ (NoRecord purpose) = refl
-same_db facts _ (RecordRead purpose db n r) = refl
-same_db facts _ (RecordCommitted purpose db n r) = refl
-same_db facts _ (Passed counts) = refl
-
 -- what is committed of what an author makes of a committed version is the next one
 module _ {V A : Type 0} (log : Log V A) (db : List ℕ) (s : Store) (c : List (Link V A)) (i : IsSound log db s c) (author : A) (k : ℕ) (v : V) (value : IsValue c k v) (commit : CommitPhase V) where
   pub next_knows : IsChanged log.refusal log.encoded (log.makes author) (log.right author) (log.fence author v) k v commit → CommitKnows log db s c author commit
@@ -114,64 +101,137 @@ module _ {V A : Type 0} (log : Log V A) (db : List ℕ) (s : Store) (c : List (L
       } in
       subst (λ (x : CommitPhase V). CommitKnows log db s c author x) (sym p.is) next
 
--- what is committed of a record is what its change makes, where there is one
-record_changed : (change : Option RecordChange) (now : ℤ) (k : ℕ) (r : Record) (commit : CommitPhase Record) → commit_by change now k r ≡ Ok (Some commit)
-    → IsChanged record_refusal_of record_encoded (made_by change now) (right_by change) (fence_by change r) k r commit
-record_changed None now k r commit h = absurd cc
-record_changed (Some change) now k r commit h = change_commits record_refusal_of record_encoded (record_made change now) (record_right_of change) (record_fence_of change r) k r commit h
-
 module _ (Has : List ℕ → Type 0) (s : Store) (chains : Chains) (n : ℕ) (call : Call) where
   -- the commit of what a call makes of a committed manifest
   made_next : (facts : Facts) (purpose : Purpose) (db : List ℕ) → IsSound manifests db s (chains logs.Manifest db) → (now : ℤ) (k : ℕ) (m : Manifest) (commit : CommitPhase Manifest) → IsValue (chains logs.Manifest db) k m
       → commit_for facts call purpose now k m ≡ Ok (Some commit) → CommitKnows manifests db s (chains logs.Manifest db) (author_of n facts call purpose now) commit
   made_next facts purpose db i now k m commit v h =
       let change = change_of facts call purpose in
-      next_knows manifests db s (chains logs.Manifest db) i (author_of n facts call purpose now) k m v commit (change_commits manifest_refusal encoded (made change now) (right_of change) (fence_of change m) k m commit h)
+      next_knows manifests db s (chains logs.Manifest db) i (author_of n facts call purpose now) k m v commit
+      (change_commits manifest_refusal encoded (made_by change_made change now) (right_by change_right change) (fence_by change_fence change m) k m commit h)
 
   -- and of a committed record
   record_made_next : (facts : Facts) (purpose : Purpose) (db : List ℕ) → IsSound records db s (chains logs.Compactions db) → (now : ℤ) (k : ℕ) (r : Record) (commit : CommitPhase Record) → IsValue (chains logs.Compactions db) k r
       → record_commit_for facts call purpose now k r ≡ Ok (Some commit) → CommitKnows records db s (chains logs.Compactions db) (author_of n facts call purpose now) commit
   record_made_next facts purpose db i now k r commit v h =
-      next_knows records db s (chains logs.Compactions db) i (author_of n facts call purpose now) k r v commit (record_changed (record_change_of facts call purpose) now k r commit h)
+      let change = record_change_of facts call purpose in
+      next_knows records db s (chains logs.Compactions db) i (author_of n facts call purpose now) k r v commit
+      (change_commits record_refusal_of record_encoded (made_by record_made change now) (right_by record_right_of change) (fence_by record_fence_of change r) k r commit h)
+
+  -- a read begins with nothing known
+  read_reaches : (facts : Facts) (by : Call) (purpose : Purpose) → Has facts.db → NextKnows Has s chains n facts by (Go (works.ReadManifest purpose facts.db reading.Listing))
+  read_reaches facts by purpose has = record { has = has; fits = tt; knows = tt }
+
+  record_read_reaches : (facts : Facts) (by : Call) (purpose : Purpose) → Has facts.db → NextKnows Has s chains n facts by (Go (works.ReadRecord purpose facts.db reading.Listing))
+  record_read_reaches facts by purpose has = record { has = has; fits = tt; knows = tt }
 
   -- what follows a commit, or a read after which none is needed
+  once_reaches : (facts : Facts) (by : Call) (m : Manifest) → Has facts.db → NextKnows Has s chains n facts by (done_once facts by m)
+  once_reaches facts OpenCompactor m has = record_read_reaches facts OpenCompactor Once has
+  once_reaches facts (Pass pass min_age dry_run filter) m has = record { has = has; fits = λ f. refl; knows = tt }
+  once_reaches facts _ m has = tt
+
+  merged_reaches : (facts : Facts) (by : Call) → Has facts.db → NextKnows Has s chains n facts by (done_merged facts by)
+  merged_reaches facts (WriteState checkpoint) has = record_read_reaches facts (WriteState checkpoint) Once has
+  merged_reaches facts _ has = tt
+
   done_reaches : (facts : Facts) (by : Call) (purpose : Purpose) (m : Manifest) → Has facts.db → NextKnows Has s chains n facts by (done facts by purpose m)
-  done_reaches facts (Pass pass min_age dry_run filter) Once m has = record { has = has; fits = λ f. refl; knows = tt }
-  done_reaches facts _ Once m has = tt
+  done_reaches facts by Once m has = once_reaches facts by m has
+  done_reaches facts by Merge m has = merged_reaches facts by has
+  done_reaches facts by First m has = tt
+  done_reaches facts by Reset m has = tt
+
+  last_reaches : (facts : Facts) (purpose : Purpose) (db : List ℕ) → Has facts.db → Has db → IsSound manifests db s (chains logs.Manifest db) → (now : ℤ) (k : ℕ) (m : Manifest) (r : Result (Option (CommitPhase Manifest)) SlateDBError)
+      → IsValue (chains logs.Manifest db) k m → commit_for facts call purpose now k m ≡ r → NextKnows Has s chains n facts call (last_next facts call purpose db now m r)
+  last_reaches facts purpose db own has i now k m (Ok (Some commit)) v h = record { has = has; fits = tt; knows = made_next facts purpose db i now k m commit v h }
+  last_reaches facts purpose db own has i now k m (Ok None) v h = done_reaches facts call purpose m own
+  last_reaches facts purpose db own has i now k m (Err e) v h = tt
+
+  then_reaches : (next : Option Purpose) (facts : Facts) (purpose : Purpose) (db : List ℕ) → Has facts.db → Has db → IsSound manifests db s (chains logs.Manifest db) → (now : ℤ) (k : ℕ) (m committed : Manifest)
+      → IsValue (chains logs.Manifest db) k committed → NextKnows Has s chains n facts call (then_next next facts call purpose db now k m committed)
+  then_reaches None facts purpose db own has i now k m committed v = done_reaches facts call purpose m own
+  then_reaches (Some next) facts purpose db own has i now k m committed v = last_reaches facts next db own has i now k committed (commit_for facts call next now k committed) v refl
 
   commit_reaches : (facts : Facts) (purpose : Purpose) (db : List ℕ) → Has facts.db → Has db → IsSound manifests db s (chains logs.Manifest db) → (now : ℤ) (k : ℕ) (m : Manifest) (r : Result (Option (CommitPhase Manifest)) SlateDBError)
-      → IsValue (chains logs.Manifest db) k m → commit_for facts call purpose now k m ≡ r → NextKnows Has s chains n facts call (commit_next facts call purpose db now m r)
+      → IsValue (chains logs.Manifest db) k m → commit_for facts call purpose now k m ≡ r → NextKnows Has s chains n facts call (commit_next facts call purpose db now k m r)
   commit_reaches facts purpose db own has i now k m (Ok (Some commit)) v h = record { has = has; fits = tt; knows = made_next facts purpose db i now k m commit v h }
-  commit_reaches facts purpose db own has i now k m (Ok None) v h = done_reaches facts call purpose m own
+  commit_reaches facts purpose db own has i now k m (Ok None) v h = then_reaches (again call purpose) facts purpose db own has i now k m m v
   commit_reaches facts purpose db own has i now k m (Err e) v h = tt
 
   -- the same of records
-  record_reaches : (facts : Facts) (purpose : Purpose) (db : List ℕ) → Has db → IsSound records db s (chains logs.Compactions db) → (now : ℤ) (k : ℕ) (r : Record) (result : Result (Option (CommitPhase Record)) SlateDBError)
+  refresh_reaches : (facts : Facts) (by : Call) (o : Option SlateDBError) → Has facts.db → NextKnows Has s chains n facts by (refresh_next facts.db o)
+  refresh_reaches facts by None has = read_reaches facts by Once has
+  refresh_reaches facts by (Some e) has = tt
+
+  record_once_reaches : (facts : Facts) (by : Call) (r : Record) → Has facts.db → NextKnows Has s chains n facts by (record_done_once facts by r)
+  record_once_reaches facts Refresh r has = refresh_reaches facts Refresh (compactor_fence facts.epoch r.compactor_epoch) has
+  record_once_reaches facts _ r has = tt
+
+  record_done_reaches : (facts : Facts) (by : Call) (purpose : Purpose) (r : Record) → Has facts.db → NextKnows Has s chains n facts by (record_done facts by purpose r)
+  record_done_reaches facts by Once r has = record_once_reaches facts by r has
+  record_done_reaches facts by Reset r has = tt
+  record_done_reaches facts by First r has = tt
+  record_done_reaches facts by Merge r has = tt
+
+  record_reaches : (facts : Facts) (purpose : Purpose) (db : List ℕ) → Has facts.db → Has db → IsSound records db s (chains logs.Compactions db) → (now : ℤ) (k : ℕ) (r : Record) (result : Result (Option (CommitPhase Record)) SlateDBError)
       → IsValue (chains logs.Compactions db) k r → record_commit_for facts call purpose now k r ≡ result → NextKnows Has s chains n facts call (record_next facts call purpose db now r result)
-  record_reaches facts purpose db has i now k r (Ok (Some commit)) v h = record { has = has; fits = tt; knows = record_made_next facts purpose db i now k r commit v h }
-  record_reaches facts purpose db has i now k r (Ok None) v h = tt
-  record_reaches facts purpose db has i now k r (Err e) v h = tt
+  record_reaches facts purpose db own has i now k r (Ok (Some commit)) v h = record { has = has; fits = tt; knows = record_made_next facts purpose db i now k r commit v h }
+  record_reaches facts purpose db own has i now k r (Ok None) v h = record_done_reaches facts call purpose r own
+  record_reaches facts purpose db own has i now k r (Err e) v h = tt
+
+  record_then_reaches : (next : Option Purpose) (facts : Facts) (purpose : Purpose) (db : List ℕ) → Has facts.db → Has db → IsSound records db s (chains logs.Compactions db) → (now : ℤ) (k : ℕ) (r committed : Record)
+      → IsValue (chains logs.Compactions db) k committed → NextKnows Has s chains n facts call (record_then next facts call purpose db now k r committed)
+  record_then_reaches None facts purpose db own has i now k r committed v = record_done_reaches facts call purpose r own
+  record_then_reaches (Some next) facts purpose db own has i now k r committed v = record_reaches facts next db own has i now k committed (record_commit_for facts call next now k committed) v refl
+
+  -- the first record is made of none
+  first_reaches : (facts : Facts) (now : ℤ) (r : Record) (result : Result (List ℕ) SlateDBError) → Has facts.db → first_of call First ≡ Some r → record_encoded r ≡ result
+      → NextKnows Has s chains n facts call (first_put facts.db now (encoded_commit 1 r result))
+  first_reaches facts now r (Ok bytes) has is encodes =
+      record { has = has; fits = tt; knows = record { small = omega arith; encodes = encodes; made = OfNone refl (ap (λ (o : Option Record). Ok o) is) } }
+  first_reaches facts now r (Err e) has is encodes = tt
+
+  none_reaches : (facts : Facts) (now : ℤ) (o : Option Record) → Has facts.db → first_of call First ≡ o → NextKnows Has s chains n facts call (no_record o facts.db now)
+  none_reaches facts now None has is = tt
+  none_reaches facts now (Some r) has is = first_reaches facts now r (record_encoded r) has is refl
 
   -- what an end brings
-  abbrev EndBrings : Ended → Type 0
+  abbrev pub EndBrings : Ended → Type 0
   EndBrings (NoManifest purpose) = Unit {0}
   EndBrings (ManifestRead purpose db k m) = Has db × (IsSound manifests db s (chains logs.Manifest db) × IsValue (chains logs.Manifest db) k m)
-  EndBrings (ManifestCommitted purpose db k m) = Unit {0}
+  EndBrings (ManifestCommitted purpose db k m) = Has db × (IsSound manifests db s (chains logs.Manifest db) × IsValue (chains logs.Manifest db) k (normal_manifest m))
   EndBrings (NoRecord purpose) = Unit {0}
   EndBrings (RecordRead purpose db k r) = Has db × (IsSound records db s (chains logs.Compactions db) × IsValue (chains logs.Compactions db) k r)
-  EndBrings (RecordCommitted purpose db k r) = Unit {0}
+  EndBrings (RecordCommitted purpose db k r) = Has db × (IsSound records db s (chains logs.Compactions db) × IsValue (chains logs.Compactions db) k (normal_record r))
   EndBrings (TablePut upload) = Unit {0}
   EndBrings (Passed counts) = Unit {0}
 
   after_reaches : (facts : Facts) (now : ℤ) (end : Ended) → Has facts.db → EndBrings end → NextKnows Has s chains n facts call (after facts call now end)
   after_reaches facts now (NoManifest purpose) own b = tt
   after_reaches facts now (ManifestRead purpose db k m) own b = commit_reaches facts purpose db own b.0 b.1.0 now k m (commit_for facts call purpose now k m) b.1.1 refl
-  after_reaches facts now (ManifestCommitted purpose db k m) own b = done_reaches facts call purpose m own
-  after_reaches facts now (NoRecord purpose) own b = tt
-  after_reaches facts now (RecordRead purpose db k r) own b = record_reaches facts purpose db b.0 b.1.0 now k r (record_commit_for facts call purpose now k r) b.1.1 refl
-  after_reaches facts now (RecordCommitted purpose db k r) own b = tt
+  after_reaches facts now (ManifestCommitted purpose db k m) own b = then_reaches (again call purpose) facts purpose db own b.0 b.1.0 now k m (normal_manifest m) b.1.1
+  after_reaches facts now (NoRecord purpose) own b = none_reaches facts now (first_of call First) own refl
+  after_reaches facts now (RecordRead purpose db k r) own b = record_reaches facts purpose db own b.0 b.1.0 now k r (record_commit_for facts call purpose now k r) b.1.1 refl
+  after_reaches facts now (RecordCommitted purpose db k r) own b = record_then_reaches (record_again call purpose) facts purpose db own b.0 b.1.0 now k r (normal_record r) b.1.1
   after_reaches facts now (TablePut upload) own b = tt
   after_reaches facts now (Passed counts) own b = tt
+
+  -- ---- with what the end of the phrase tells
+
+  -- what is known in a phrase that commits nothing doesn't speak of facts
+  phrase_still : (facts known : Facts) (phrase : Phrase) → is_commit phrase ≡ false → PhraseKnows s chains n facts call phrase → PhraseKnows s chains n known call phrase
+  phrase_still facts known (Reads k db phase) is h = h
+  phrase_still facts known (Commits k db purpose now phase) is h = absurd (true≢false is)
+  phrase_still facts known (Uploads db table bytes) is h = h
+  phrase_still facts known (Collects db phase) is h = h
+
+  next_still : (facts known : Facts) (next : Next) → commits next ≡ false → NextKnows Has s chains n facts call next → NextKnows Has s chains n known call next
+  next_still facts known (Go work) is h = record { has = h.has; fits = h.fits; knows = phrase_still facts known (phrase_of work) is h.knows }
+  next_still facts known (Finish reply) is h = tt
+
+  known_reaches : (facts known : Facts) (next : Next) → (known ≡ facts) ⊎ (commits next ≡ false) → NextKnows Has s chains n facts call next → NextKnows Has s chains n known call next
+  known_reaches facts known next (inl same) h = subst (λ (f : Facts). NextKnows Has s chains n f call next) (sym same) h
+  known_reaches facts known next (inr is) h = next_still facts known next is h
 
   -- where a call stands
   abbrev pub Reaches : Standing → Type 0
@@ -179,11 +239,10 @@ module _ (Has : List ℕ → Type 0) (s : Store) (chains : Chains) (n : ℕ) (ca
 
   ended_reaches : (facts : Facts) (now : ℤ) (end : Ended) → Has facts.db → EndBrings end → Reaches (ended facts call now end)
   ended_reaches facts now end own b =
-      let own' = subst Has (sym (same_db facts call end)) own in
-      (own', after_reaches (facts_after facts call end) now end own' b)
+      (subst Has (sym (ends_same facts call end).db) own, known_reaches facts (facts_after facts call end) (after facts call now end) (end_or_commit facts call now end) (after_reaches facts now end own b))
 
   -- how work goes on
-  abbrev GoesOn : Facts → WorkGoes → Type 0
+  abbrev pub GoesOn : Facts → WorkGoes → Type 0
   GoesOn facts (Stay work) = WorkKnows Has s chains n facts call work
   GoesOn facts (End work (Ok end)) = EndBrings end
   GoesOn facts (End work (Err e)) = Unit {0}
@@ -202,11 +261,11 @@ module _ (Has : List ℕ → Type 0) (s : Store) (chains : Chains) (n : ℕ) (ca
 
     commit_goes_on : (purpose : Purpose) (now : ℤ) (g : CommitGoes Manifest) → CommitBrings manifests db s (chains logs.Manifest db) (author_of n facts call purpose now) g → GoesOn facts (commit_on purpose now db g)
     commit_goes_on purpose now (Stay phase) b = record { has = has; fits = tt; knows = b }
-    commit_goes_on purpose now (End phase (Ok version)) b = tt
+    commit_goes_on purpose now (End phase (Ok version)) b = (has, (i, b))
     commit_goes_on purpose now (End phase (Err e)) b = tt
 
     -- ---- a whole pass
-    module _ (options : PassOptions) (fits : (f : Facts) → change_of f call Once ≡ DropExpired) where
+    module _ (options : PassOptions) (fits : (f : Facts) → change_of f call Once ≡ Some (Shared DropExpired)) where
       abbrev GcBrings : GcGoes → Type 0
       GcBrings (Stay phase) = PhraseKnows s chains n facts call (phrase_of (works.Pass db options phase))
       GcBrings (End phase r) = Unit {0}
@@ -217,7 +276,7 @@ module _ (Has : List ℕ → Type 0) (s : Store) (chains : Chains) (n : ℕ) (ca
       pass_goes_on (End phase (Err e)) b = tt
 
       removal_brings : (now : ℤ) (k : ℕ) (m : Manifest) (r : Result (Option (CommitPhase Manifest)) SlateDBError) → IsValue (chains logs.Manifest db) k m → commit_of encoded DropExpired now k m ≡ r → GcBrings (removal_goes now r)
-      removal_brings now k m (Ok (Some commit)) v h = made_next facts Once db i now k m commit v (ap (λ (change : ManifestChange). commit_of encoded change now k m) (fits facts) ∙ h)
+      removal_brings now k m (Ok (Some commit)) v h = made_next facts Once db i now k m commit v (ap (λ (change : Option PartyChange). manifest_commit change now k m) (fits facts) ∙ h)
       removal_brings now k m (Ok None) v h = tt
       removal_brings now k m (Err e) v h = tt
 
@@ -250,7 +309,7 @@ module _ (Has : List ℕ → Type 0) (s : Store) (chains : Chains) (n : ℕ) (ca
 
     record_commit_goes_on : (purpose : Purpose) (now : ℤ) (g : CommitGoes Record) → CommitBrings records db s (chains logs.Compactions db) (author_of n facts call purpose now) g → GoesOn facts (record_commit_on purpose now db g)
     record_commit_goes_on purpose now (Stay phase) b = record { has = has; fits = tt; knows = b }
-    record_commit_goes_on purpose now (End phase (Ok version)) b = tt
+    record_commit_goes_on purpose now (End phase (Ok version)) b = (has, (i, b))
     record_commit_goes_on purpose now (End phase (Err e)) b = tt
 
   -- the put of a table ends its call
@@ -258,7 +317,7 @@ module _ (Has : List ℕ → Type 0) (s : Store) (chains : Chains) (n : ℕ) (ca
   put_goes_on facts db upload bytes (Written tag) = tt
   put_goes_on facts db upload bytes _ = tt
 
-  work_goes_on : (facts : Facts) (work : Work) (now : ℤ) (answer : StoreAnswer) → Has (db_of work) → ((k : LogKind) → IsSound (log_of k) (db_of work) s (chains k (db_of work))) → Fits call work → PhraseBrings s chains n facts call (phrase_of work) now answer
+  pub work_goes_on : (facts : Facts) (work : Work) (now : ℤ) (answer : StoreAnswer) → Has (db_of work) → ((k : LogKind) → IsSound (log_of k) (db_of work) s (chains k (db_of work))) → Fits call work → PhraseBrings s chains n facts call (phrase_of work) now answer
       → GoesOn facts (goes work now answer)
   work_goes_on facts (works.ReadManifest purpose db phase) now answer has i fits b = read_goes_on facts db has (i logs.Manifest) purpose (read_goes logs.Manifest decoded_manifest phase answer) b
   work_goes_on facts (works.CommitManifest purpose at db phase) now answer has i fits b = commit_goes_on facts db has (i logs.Manifest) purpose at (commit_goes phase answer) b
@@ -275,19 +334,22 @@ module _ (Has : List ℕ → Type 0) (s : Store) (chains : Chains) (n : ℕ) (ca
 -- a table that a party may upload has the numbers of an id
 upload_is_id : (kind : PartyKind) (table : ℕ × ℕ) (first last : List ℕ) → has_call kind (UploadCall table first last) ≡ true → is_id table ≡ true
 upload_is_id Writer table first last h = h
+upload_is_id Compactor table first last h = absurd cc
 upload_is_id Worker table first last h = h
 upload_is_id Holder table first last h = absurd cc
 upload_is_id Collector table first last h = absurd cc
 
--- how a call begins that the party has
-first_reaches : (Has : List ℕ → Type 0) (s : Store) (chains : Chains) (n : ℕ) (facts : Facts) (call : Call) → has_call facts.kind call ≡ true → Has facts.db → WorkKnows Has s chains n facts call (first_work facts call)
-first_reaches Has s chains n facts (UploadCall table first last) may own = record { has = own; fits = tt; knows = upload_is_id facts.kind table first last may }
-first_reaches Has s chains n facts (Pass pass min_age dry_run filter) may own = record { has = own; fits = λ f. refl; knows = tt }
-first_reaches Has s chains n facts _ may own = record { has = own; fits = tt; knows = tt }
+-- how a call begins that the party has, once it isn't refused
+first_reached : (Has : List ℕ → Type 0) (s : Store) (chains : Chains) (n : ℕ) (facts : Facts) (call : Call) → has_call facts.kind call ≡ true → Has facts.db → NextKnows Has s chains n (facts_at_start facts call) call (first_next facts call)
+first_reached Has s chains n facts (UploadCall table first last) may own = record { has = own; fits = tt; knows = upload_is_id facts.kind table first last may }
+first_reached Has s chains n facts (Pass pass min_age dry_run filter) may own = record { has = own; fits = λ f. refl; knows = tt }
+first_reached Has s chains n facts (FinishCall id) may own = tt
+first_reached Has s chains n facts (Fail id) may own = tt
+first_reached Has s chains n facts _ may own = record { has = own; fits = tt; knows = tt }
 
-pub begin_reaches : (Has : List ℕ → Type 0) (s : Store) (chains : Chains) (n : ℕ) (facts : Facts) (call : Call) → has_call facts.kind call ≡ true → Has facts.db → NextKnows Has s chains n facts call (begin facts call).next
-begin_reaches Has s chains n facts call may own = unless (refusal_at_start facts call)
+pub begin_reaches : (Has : List ℕ → Type 0) (s : Store) (chains : Chains) (n : ℕ) (facts : Facts) (call : Call) → has_call facts.kind call ≡ true → Has facts.db → Reaches Has s chains n call (begin facts call)
+begin_reaches Has s chains n facts call may own = (subst Has (sym (starts_same facts call).db) own, unless (refusal_at_start facts call))
   where
-    unless : (o : Option SlateDBError) → NextKnows Has s chains n facts call (begin_unless o facts call)
+    unless : (o : Option SlateDBError) → NextKnows Has s chains n (facts_at_start facts call) call (begin_unless o facts call)
     unless (Some e) = tt
-    unless None = first_reaches Has s chains n facts call may own
+    unless None = first_reached Has s chains n facts call may own

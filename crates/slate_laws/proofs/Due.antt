@@ -10,7 +10,7 @@ use Rattle.slate_model.specs.declared.manifest.Manifest.{Manifest}
 use Rattle.slate_records.specs.Records.{Record}
 use Rattle.slate_record_bytes.specs.Records.{decoded_record}
 use Rattle.slate_layout.specs.RecordCodec.{record_encoded}
-use Rattle.slate_record_updates.specs.RecordChanges.{made as record_made, right_of as record_right_of, fence_of as record_fence_of}
+use Rattle.slate_record_updates.specs.RecordChanges.{made as record_made, right_of as record_right_of, fence_of as record_fence_of, compactor_fence}
 use Rattle.slate_record_updates.specs.RecordRules.{record_refusal_of}
 use Rattle.slate_record_updates.specs.declared.record_change.RecordChange.{RecordChange}
 use Rattle.slate_store.specs.Machines.{Goes, Stay, End}
@@ -19,7 +19,7 @@ use Rattle.slate_store.specs.declared.object.StoredObject.{StoredObject}
 use Rattle.slate_store.specs.declared.store_answer.StoreAnswer.{StoreAnswer}
 use Rattle.slate_store.specs.declared.store_answer.StoreAnswer.TheVariants.{Found, Got, Created, Replaced, Deleted, Fault}
 use Rattle.slate_events.specs.declared.call.Call.{Call}
-use Rattle.slate_events.specs.declared.call.Call.TheVariants.{Upload as UploadCall, Pass}
+use Rattle.slate_events.specs.declared.call.Call.TheVariants.{Upload as UploadCall, OpenCompactor, Refresh, Finish as FinishCall, Fail, WriteState, Pass}
 use Rattle.slate_log.specs.AdvancePhase.{AdvanceGoes, advance_goes, advance_due, read_goes_to, bound_goes, written_goes}
 use Rattle.slate_log.specs.Boundary.{boundary_of, boundary_got, greatest}
 use Rattle.slate_log.specs.Change.{wanted, some_commit}
@@ -35,9 +35,7 @@ use Rattle.slate_log.specs.declared.log_kind.LogKind.TheVariants.{Manifest as Ma
 use Rattle.slate_log.specs.declared.read_phase.ReadPhase.{ReadPhase}
 use Rattle.slate_log.specs.declared.read_phase.ReadPhase.TheVariants as reading
 use Rattle.slate_log.specs.declared.right.Right.{Right}
-use Rattle.slate_updates.specs.Changes.{made, right_of, fence_of, commit_of}
 use Rattle.slate_updates.specs.Rules.{manifest_refusal}
-use Rattle.slate_updates.specs.declared.manifest_change.ManifestChange.{ManifestChange}
 use Rattle.slate_updates.specs.declared.manifest_change.ManifestChange.TheVariants.{DropExpired}
 use Rattle.slate_gc.specs.GcPass as whole
 use Rattle.slate_gc.specs.GcPass.{GcGoes, gc_goes, gc_due}
@@ -50,15 +48,20 @@ use Rattle.slate_gc.specs.declared.pass_counts.PassCounts.{PassCounts}
 use Rattle.slate_gc.specs.declared.pass_options.PassOptions.{PassOptions}
 use Rattle.slate_gc.specs.declared.pass_phase.PassPhase.{PassPhase}
 use Rattle.slate_gc.specs.declared.pass_phase.PassPhase.TheVariants as passing
-use Rattle.slate_protocol.specs.Calls.{refusal_at_start, first_work, change_of, done, record_change_of, facts_after, Next, Go, Finish}
-use Rattle.slate_protocol.specs.Rows.{commit_for, commit_next, commit_by, record_commit_for, record_next, after, follow, begin_unless, begin}
+use Rattle.slate_encodable.specs.Normal.{normal_manifest}
+use Rattle.slate_record_bytes.specs.RecordNormal.{normal_record}
+use Rattle.slate_protocol.specs.Calls.{refusal_at_start, change_of, again, done_once, done_merged, done, record_change_of, record_again, record_done_once, record_done, refresh_next, first_of, Next, Go, Finish}
+use Rattle.slate_protocol.specs.PartyChanges.{change_made, change_right, change_fence, made_by, right_by, fence_by, manifest_commit, record_commit}
+use Rattle.slate_protocol.specs.Rows.{commit_for, last_next, then_next, commit_next, record_commit_for, record_next, record_then, first_put, no_record, after, follow, first_next, begin_unless, begin}
 use Rattle.slate_protocol.specs.Works.{WorkGoes, goes, is_due, read_on, commit_on, record_read_on, record_commit_on, put_end, pass_on}
 use Rattle.slate_protocol.specs.declared.party.Facts.{Facts}
+use Rattle.slate_protocol.specs.declared.party_change.PartyChange.{PartyChange}
+use Rattle.slate_protocol.specs.declared.party_change.PartyChange.TheVariants.{Shared}
 use Rattle.slate_protocol.specs.declared.uploads.Upload.{Upload}
 use Rattle.slate_protocol.specs.declared.work.Ended.{Ended}
 use Rattle.slate_protocol.specs.declared.work.Ended.TheVariants.{NoManifest, ManifestRead, ManifestCommitted, NoRecord, RecordRead, RecordCommitted, TablePut, Passed}
 use Rattle.slate_protocol.specs.declared.work.Purpose.{Purpose}
-use Rattle.slate_protocol.specs.declared.work.Purpose.TheVariants.{Once}
+use Rattle.slate_protocol.specs.declared.work.Purpose.TheVariants.{Once, First, Reset, Merge}
 use Rattle.slate_protocol.specs.declared.work.Work.{Work}
 use Rattle.slate_protocol.specs.declared.work.Work.TheVariants as work
 
@@ -148,12 +151,11 @@ module _ {V : Type 0} where
     unfenced_due (Some e) r = tt
     unfenced_due None r = wanted_due r
 
-made_due : (change : ManifestChange) (now : ℤ) (n : ℕ) (m : Manifest) → DueCommit (commit_of encoded change now n m)
-made_due change now n m = unfenced_due manifest_refusal encoded n m (right_of change) (fence_of change m) (made change now n m)
+made_due : (change : Option PartyChange) (now : ℤ) (n : ℕ) (m : Manifest) → DueCommit (manifest_commit change now n m)
+made_due change now n m = unfenced_due manifest_refusal encoded n m (right_by change_right change) (fence_by change_fence change m) (made_by change_made change now n m)
 
-record_made_due : (change : Option RecordChange) (now : ℤ) (n : ℕ) (r : Record) → DueCommit (commit_by change now n r)
-record_made_due None now n r = tt
-record_made_due (Some change) now n r = unfenced_due record_refusal_of record_encoded n r (record_right_of change) (record_fence_of change r) (record_made change now n r)
+record_made_due : (change : Option RecordChange) (now : ℤ) (n : ℕ) (r : Record) → DueCommit (record_commit change now n r)
+record_made_due change now n r = unfenced_due record_refusal_of record_encoded n r (right_by record_right_of change) (fence_by record_fence_of change r) (made_by record_made change now n r)
 
 -- ---- passes
 
@@ -258,7 +260,7 @@ removal_due now (Err e) h = tt
 gc_read_due : (now : ℤ) (g : Goes (ReadPhase Manifest) (Option (ℕ × Manifest))) → ReadAt g → GcAt (whole.read_on encoded now g)
 gc_read_due now (Stay phase) h = h
 gc_read_due now (End phase (Ok None)) h = tt
-gc_read_due now (End phase (Ok (Some version))) h = removal_due now _ (made_due DropExpired now version.0 version.1)
+gc_read_due now (End phase (Ok (Some version))) h = removal_due now _ (made_due (Some (Shared DropExpired)) now version.0 version.1)
 gc_read_due now (End phase (Err e)) h = tt
 
 gc_commit_due : (now : ℤ) (g : Goes (CommitPhase Manifest) (ℕ × Manifest)) → CommitAt g → GcAt (whole.commit_on now g)
@@ -324,41 +326,89 @@ abbrev pub DueNext : Next → Type 0
 DueNext (Go at) = is_due at ≡ true
 DueNext (Finish reply) = Unit {0}
 
-done_due : (facts : Facts) (m : Manifest) (call : Call) (purpose : Purpose) → DueNext (done facts call purpose m)
-done_due facts m (Pass pass min_age dry_run filter) Once = refl
-done_due facts m _ Once = tt
+once_due : (facts : Facts) (m : Manifest) (call : Call) → DueNext (done_once facts call m)
+once_due facts m OpenCompactor = refl
+once_due facts m (Pass pass min_age dry_run filter) = refl
+once_due facts m _ = tt
 
-commit_at : (facts : Facts) (call : Call) (purpose : Purpose) (db : List ℕ) (now : ℤ) (m : Manifest) (r : Result (Option (CommitPhase Manifest)) SlateDBError) → DueCommit r → DueNext (commit_next facts call purpose db now m r)
-commit_at facts call purpose db now m (Ok (Some commit)) h = h
-commit_at facts call purpose db now m (Ok None) h = done_due facts m call purpose
-commit_at facts call purpose db now m (Err e) h = tt
+merged_due : (facts : Facts) (call : Call) → DueNext (done_merged facts call)
+merged_due facts (WriteState checkpoint) = refl
+merged_due facts _ = tt
+
+done_due : (facts : Facts) (m : Manifest) (call : Call) (purpose : Purpose) → DueNext (done facts call purpose m)
+done_due facts m call Once = once_due facts m call
+done_due facts m call Merge = merged_due facts call
+done_due facts m call First = tt
+done_due facts m call Reset = tt
+
+last_due : (facts : Facts) (call : Call) (purpose : Purpose) (db : List ℕ) (now : ℤ) (m : Manifest) (r : Result (Option (CommitPhase Manifest)) SlateDBError) → DueCommit r → DueNext (last_next facts call purpose db now m r)
+last_due facts call purpose db now m (Ok (Some commit)) h = h
+last_due facts call purpose db now m (Ok None) h = done_due facts m call purpose
+last_due facts call purpose db now m (Err e) h = tt
+
+then_due : (next : Option Purpose) (facts : Facts) (call : Call) (purpose : Purpose) (db : List ℕ) (now : ℤ) (n : ℕ) (m committed : Manifest) → DueNext (then_next next facts call purpose db now n m committed)
+then_due None facts call purpose db now n m committed = done_due facts m call purpose
+then_due (Some next) facts call purpose db now n m committed = last_due facts call next db now committed (commit_for facts call next now n committed) (made_due (change_of facts call next) now n committed)
+
+commit_at : (facts : Facts) (call : Call) (purpose : Purpose) (db : List ℕ) (now : ℤ) (n : ℕ) (m : Manifest) (r : Result (Option (CommitPhase Manifest)) SlateDBError) → DueCommit r → DueNext (commit_next facts call purpose db now n m r)
+commit_at facts call purpose db now n m (Ok (Some commit)) h = h
+commit_at facts call purpose db now n m (Ok None) h = then_due (again call purpose) facts call purpose db now n m m
+commit_at facts call purpose db now n m (Err e) h = tt
+
+refresh_due : (db : List ℕ) (o : Option SlateDBError) → DueNext (refresh_next db o)
+refresh_due db None = refl
+refresh_due db (Some e) = tt
+
+record_once_due : (facts : Facts) (r : Record) (call : Call) → DueNext (record_done_once facts call r)
+record_once_due facts r Refresh = refresh_due facts.db (compactor_fence facts.epoch r.compactor_epoch)
+record_once_due facts r _ = tt
+
+record_done_due : (facts : Facts) (r : Record) (call : Call) (purpose : Purpose) → DueNext (record_done facts call purpose r)
+record_done_due facts r call Once = record_once_due facts r call
+record_done_due facts r call Reset = tt
+record_done_due facts r call First = tt
+record_done_due facts r call Merge = tt
 
 record_at : (facts : Facts) (call : Call) (purpose : Purpose) (db : List ℕ) (now : ℤ) (r : Record) (result : Result (Option (CommitPhase Record)) SlateDBError) → DueCommit result → DueNext (record_next facts call purpose db now r result)
 record_at facts call purpose db now r (Ok (Some commit)) h = h
-record_at facts call purpose db now r (Ok None) h = tt
+record_at facts call purpose db now r (Ok None) h = record_done_due facts r call purpose
 record_at facts call purpose db now r (Err e) h = tt
+
+record_then_due : (next : Option Purpose) (facts : Facts) (call : Call) (purpose : Purpose) (db : List ℕ) (now : ℤ) (n : ℕ) (r committed : Record) → DueNext (record_then next facts call purpose db now n r committed)
+record_then_due None facts call purpose db now n r committed = record_done_due facts r call purpose
+record_then_due (Some next) facts call purpose db now n r committed = record_at facts call next db now committed (record_commit_for facts call next now n committed) (record_made_due (record_change_of facts call next) now n committed)
+
+first_put_due : (db : List ℕ) (now : ℤ) (r : Record) (bytes : Result (List ℕ) SlateDBError) → DueNext (first_put db now (encoded_commit 1 r bytes))
+first_put_due db now r (Ok bytes) = refl
+first_put_due db now r (Err e) = tt
+
+no_record_due : (o : Option Record) (db : List ℕ) (now : ℤ) → DueNext (no_record o db now)
+no_record_due None db now = tt
+no_record_due (Some r) db now = first_put_due db now r (record_encoded r)
 
 after_due : (facts : Facts) (call : Call) (now : ℤ) (end : Ended) → DueNext (after facts call now end)
 after_due facts call now (NoManifest purpose) = tt
-after_due facts call now (ManifestRead purpose db n m) = commit_at facts call purpose db now m (commit_for facts call purpose now n m) (made_due (change_of facts call purpose) now n m)
-after_due facts call now (ManifestCommitted purpose db n m) = done_due facts m call purpose
-after_due facts call now (NoRecord purpose) = tt
+after_due facts call now (ManifestRead purpose db n m) = commit_at facts call purpose db now n m (commit_for facts call purpose now n m) (made_due (change_of facts call purpose) now n m)
+after_due facts call now (ManifestCommitted purpose db n m) = then_due (again call purpose) facts call purpose db now n m (normal_manifest m)
+after_due facts call now (NoRecord purpose) = no_record_due (first_of call First) facts.db now
 after_due facts call now (RecordRead purpose db n r) = record_at facts call purpose db now r (record_commit_for facts call purpose now n r) (record_made_due (record_change_of facts call purpose) now n r)
-after_due facts call now (RecordCommitted purpose db n r) = tt
+after_due facts call now (RecordCommitted purpose db n r) = record_then_due (record_again call purpose) facts call purpose db now n r (normal_record r)
 after_due facts call now (TablePut upload) = tt
 after_due facts call now (Passed counts) = tt
 
 follow_at : (facts : Facts) (call : Call) (now : ℤ) (g : WorkGoes) → WorkAt g → DueNext (follow facts call now g).next
 follow_at facts call now (Stay at) h = h
-follow_at facts call now (End at (Ok end)) h = after_due (facts_after facts call end) call now end
+follow_at facts call now (End at (Ok end)) h = after_due facts call now end
 follow_at facts call now (End at (Err e)) h = tt
 
 pub follow_due : (facts : Facts) (call : Call) (now : ℤ) (at : Work) (answer : StoreAnswer) → DueNext (follow facts call now (goes at now answer)).next
 follow_due facts call now at answer = follow_at facts call now (goes at now answer) (work_due at now answer)
 
-first_due : (facts : Facts) (call : Call) → is_due (first_work facts call) ≡ true
+first_due : (facts : Facts) (call : Call) → DueNext (first_next facts call)
 first_due facts (UploadCall table first last) = refl
 first_due facts (Pass pass min_age dry_run filter) = refl
+first_due facts (FinishCall id) = tt
+first_due facts (Fail id) = tt
 first_due facts _ = refl
 
 unless_due : (facts : Facts) (call : Call) (refusal : Option SlateDBError) → DueNext (begin_unless refusal facts call)

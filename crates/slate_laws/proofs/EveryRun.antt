@@ -1,5 +1,8 @@
 -- What holds of every run, at each moment of it.
-use Rattle.std.proofs.Common.{◌≡◌, ℕ, ◌≤◌, ◌<◌, zero, suc, List, ◌++◌, Some, refl, sym, ap, ◌∙◌, subst, arith}
+use Rattle.std.proofs.Common.{◌≡◌, ◌≢◌, ℕ, ◌≤◌, ◌<◌, zero, suc, List, [], ◌++◌, None, Some, refl, sym, ap, ◌∙◌, subst, arith}
+use Rattle.slate_records.specs.Records.{Record}
+use Rattle.slate_record_updates.specs.RecordRules.{KeepsLeast, record_refusal_of}
+use Rattle.slate_log.specs.declared.right.Right.{Right}
 use Rattle.slate_log.specs.declared.log_kind.LogKind.{LogKind}
 use Rattle.slate_log.specs.declared.log_kind.LogKind.TheVariants as logs
 use Rattle.slate_events.specs.declared.entry.Entry.{Entry}
@@ -16,9 +19,9 @@ use Rattle.slate_protocol.specs.Trails.{numbers_of, store_of, told}
 use Rattle.slate_protocol.specs.World.{World, HasDb}
 use Rattle.slate_laws.proofs.AfterEvents.{none_come, after_inv, course_inv, course_collected}
 use Rattle.slate_laws.proofs.GoingOn.{run_world, run_split}
-use Rattle.slate_laws.proofs.Epochs.{chain_fenced}
+use Rattle.slate_laws.proofs.Epochs.{chain_fenced, chain_record_fenced}
 use Rattle.slate_laws.proofs.Exact.{exact_passes}
-use Rattle.slate_laws.proofs.Rising.{never_falls, name_known}
+use Rattle.slate_laws.proofs.Rising.{never_falls, records_never_fall, name_known}
 use Rattle.slate_laws.proofs.Removals.{good_run, one_entry, removals_counted}
 use Rattle.slate_laws.proofs.Rows.{rows_run}
 use Rattle.slate_laws.proofs.Runs.{Inv}
@@ -43,7 +46,11 @@ log_lawful w chains i k db has =
       stands = log.above;
     }
 
-module _ (specs : List DbSpec) (accepted : IsAccepted specs) (events : List Event) (good : AreGood specs events) where
+-- what the rules keep of the compactions of a record
+abbrev pub Keep : Type 0
+Keep = (n : ℕ) (old new : Record) (right : Right) → record_refusal_of n old new right ≡ None → old.entries ≢ [] → KeepsLeast old.entries new.entries
+
+module _ (keep : Keep) (specs : List DbSpec) (accepted : IsAccepted specs) (events : List Event) (good : AreGood specs events) where
   -- what a run removed is not reachable at its end
   run_safe : IsSafe (course_after specs events).world (chains_at_end specs events) (gone_after specs events)
   run_safe = is_safe (course_after specs events).world (chains_at_end specs events) (course_inv specs events accepted good) (gone_after specs events) (course_collected specs events accepted good)
@@ -64,6 +71,8 @@ module _ (specs : List DbSpec) (accepted : IsAccepted specs) (events : List Even
         safe = run_safe;
         each_log = λ k db has. log_lawful v.world (chains_at_end specs events) (course_inv specs events accepted good) k db has;
         fenced = λ db has. chain_fenced (chains_at_end specs events logs.Manifest db) ((course_inv specs events accepted good).logs logs.Manifest db has).chain;
+        records_fenced = λ db has. chain_record_fenced (chains_at_end specs events logs.Compactions db) ((course_inv specs events accepted good).logs logs.Compactions db has).chain;
+        records_rising = λ db has. records_never_fall keep (chains_at_end specs events logs.Compactions db) ((course_inv specs events accepted good).logs logs.Compactions db has).chain;
         rising = λ db has. never_falls (chains_at_end specs events logs.Manifest db) ((course_inv specs events accepted good).logs logs.Manifest db has).chain;
         names = λ db has. name_known (chains_at_end specs events logs.Manifest db) ((course_inv specs events accepted good).logs logs.Manifest db has).chain;
       }
@@ -78,9 +87,9 @@ bounds_rise specs accepted front back good k db has before now was read =
     let i = subst (λ (w : World). Inv w (chains_at_end specs front)) (sym (run_world front 0 (opening specs) c split.first)) (after_inv specs front accepted) in
     run_rises k back 0 c v (chains_at_end specs front) db i has split.second before now was read
 
-pub lawful : (specs : List DbSpec) (events : List Event) → IsAccepted specs → Lawful specs events
-lawful specs events accepted = record {
-  always = λ front back is good. lawful_at specs accepted front good;
+pub lawful : Keep → (specs : List DbSpec) (events : List Event) → IsAccepted specs → Lawful specs events
+lawful keep specs events accepted = record {
+  always = λ front back is good. lawful_at keep specs accepted front good;
   rises = λ front middle back is good k db has before now was read. bounds_rise specs accepted front middle good k db has before now was read;
   alone = λ front middle back is good. passes_alone specs front middle accepted good;
 }

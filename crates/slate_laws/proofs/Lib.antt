@@ -15,6 +15,7 @@ mod Manifests
 mod Advances
 mod Passes
 mod Steps
+mod FactsKept
 mod Calls
 mod Tallies
 mod Epochs
@@ -49,3 +50,5 @@ mod Elsewhere
 mod Encodable
 mod Pools
 mod Sources
+mod GivenEpochs
+mod OpenedEpochs

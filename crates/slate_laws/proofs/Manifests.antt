@@ -84,7 +84,3 @@ module _ {V : Type 0} (refusal : ℕ → V → V → Right → Option SlateDBErr
 
   pub change_commits : unless fence (renewed making refusal encoded right n old) ≡ Ok (Some commit) → Changed
   change_commits h = by_fence fence refl h
-
--- the rules let no writer epoch fall
-pub epoch_rises : (old new : Manifest) (n : ℕ) (right : Right) → manifest_refusal n old new right ≡ None → old.writer_epoch ≤ new.writer_epoch
-epoch_rises old new n right h = (nothing_falls n old new right h).writer

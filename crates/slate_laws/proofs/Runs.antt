@@ -97,10 +97,10 @@ settle_knows Has s chains n call facts (Go work) h = h
 settle_knows Has s chains n call facts (Finish reply) h = tt
 
 -- the parties with one in the place of its number
-party_in_place : (n : ℕ) (p q : Party) (parties : List (ℕ × Party)) → party_of n parties ≡ Some p → party_of n (with_party n q parties) ≡ Some q
+pub party_in_place : (n : ℕ) (p q : Party) (parties : List (ℕ × Party)) → party_of n parties ≡ Some p → party_of n (with_party n q parties) ≡ Some q
 party_in_place n p q parties h = set_here nat_cmp number_order n q p parties h
 
-others_stay : (n k : ℕ) (q : Party) (parties : List (ℕ × Party)) → k ≢ n → party_of k (with_party n q parties) ≡ party_of k parties
+pub others_stay : (n k : ℕ) (q : Party) (parties : List (ℕ × Party)) → k ≢ n → party_of k (with_party n q parties) ≡ party_of k parties
 others_stay n k q parties ne = set_else nat_cmp number_order n k q parties ne
 
 -- what each party knows, where one number's party has changed
@@ -317,9 +317,10 @@ step_inv w chains n p moment mark i at (Busy task) k = test (is_due task.work) (
 start_inv : (w : World) (chains : Chains) (n : ℕ) (p : Party) (call : Call) → has_call p.facts.kind call ≡ true → Inv w chains → party_of n w.parties ≡ Some p → (state : State) → Inv (start_state w n p.facts state call).world chains
 start_inv w chains n p call may i at Resting =
     let standing = begin p.facts call in
+    let reached = begin_reaches (HasDb w) w.store chains n p.facts call may (i.parties n p at).has in
     moved_inv w chains n p (settled call standing) i at (record {
-      has = (i.parties n p at).has;
-      knows = settle_knows (HasDb w) w.store chains n call p.facts standing.next (begin_reaches (HasDb w) w.store chains n p.facts call may (i.parties n p at).has);
+      has = reached.0;
+      knows = settle_knows (HasDb w) w.store chains n call standing.facts standing.next reached.1;
     })
 start_inv w chains n p call may i at (Busy task) = i
 start_inv w chains n p call may i at Halted = i

@@ -9,10 +9,9 @@ use Rattle.slate_protocol.specs.Chains.{Link, Changed, IsChain, IsFirst, top}
 use Rattle.slate_protocol.specs.Chains.Changed.{Stays, Gets}
 use Rattle.slate_protocol.specs.Chains.IsFirst.{Opens, Begins}
 use Rattle.slate_protocol.specs.Lawful.{IsAccepted}
-use Rattle.slate_protocol.specs.Logs.{Author, Chain, change_by, manifests, opening_chains}
+use Rattle.slate_protocol.specs.Logs.{Author, Chain, manifests, opening_chains}
 use Rattle.slate_protocol.specs.Specs.{opening_world}
 use Rattle.slate_protocol.specs.World.{HasDb}
-use Rattle.slate_updates.specs.Changes.{right_of}
 use Rattle.slate_updates.specs.Prefixes.{prefix_refusal}
 use Rattle.slate_updates.proofs.Lawful.{keeps}
 use Rattle.slate_updates.proofs.PrefixesApart.{none_nested}
@@ -47,7 +46,7 @@ source_stays P c c' (Gets l author by p is) h k = subst TopHasSource (sym is) (b
   where
     by_old : (b : Chain logs.Manifest) → IsChain manifests (l ∷ b) → TopHasSource b → HasSource l
     by_old [] h k = absurd k
-    by_old (old ∷ b) h k = record { source = h.0.made; encodes = h.0.bytes; normal = h.0.value; apart = (keeps old.number old.value l.value (right_of (change_by h.0.author)) h.0.lawful).prefixes }
+    by_old (old ∷ b) h k = record { source = h.0.made; encodes = h.0.bytes; normal = h.0.value; apart = (keeps old.number old.value l.value (manifests.right h.0.author) h.0.lawful).prefixes }
 
 -- a database begins so
 pub source_begins : (specs : List DbSpec) (accepted : IsAccepted specs) (d : List ℕ) → HasDb (opening_world specs) d → TopHasSource (opening_chains specs logs.Manifest d)

@@ -51,6 +51,7 @@ use Rattle.slate_protocol.specs.declared.party.Party.{Party}
 use Rattle.slate_protocol.specs.declared.party.State.{State}
 use Rattle.slate_protocol.specs.declared.party.State.TheVariants.{Resting, Busy, Halted}
 use Rattle.slate_protocol.specs.declared.tally.Tally.{Tally}
+use Rattle.slate_laws.proofs.FactsKept.{starts_same}
 use Rattle.slate_laws.proofs.AfterEvents.{none_come, course_inv}
 use Rattle.slate_laws.proofs.Alone.{IsLatest, IsFine, Knows, EndsWith, RemovalEnds, standing, next_of, Ends, Brings, step_brings}
 use Rattle.slate_laws.proofs.Alone.RemovalEnds.{Lists, Lacks}
@@ -514,8 +515,8 @@ has_db w chains n facts call i m = by_party (party_of n w.parties) refl m
     by_state p at Resting match = absurd match
     by_state p at Halted match = absurd match
     by_state p at (Busy task) match =
-        let same : p.facts ≡ facts = sym (ap (λ (st : Standing). st.facts) match.1) in
-        subst (λ (f : Facts). HasDb w f.db) same (i.parties n p at).has
+        let same : p.facts.db ≡ facts.db = sym (ap (λ (st : Standing). st.facts.db) match.1) ∙ (starts_same facts task.call).db in
+        subst (HasDb w) same (i.parties n p at).has
 
     by_party : (o : Option Party) → party_of n w.parties ≡ o → Matches (Some (record { facts = facts; doing = Answers call [] })) o → HasDb w facts.db
     by_party None at match = absurd match

@@ -5,12 +5,16 @@ ghost use Rattle.slate_events.specs.declared.event.Event.{Event};
 ghost use Rattle.slate_protocol.specs.Lawful.{IsAccepted, IsRun, Lawful};
 ghost use Rattle.slate_protocol.specs.Runs.{Course, opening, run};
 
+use slate_record_updates::records_stand;
+
 /// Whatever happens in a run of accepted databases and events, at each moment of it: the commits of each log are one chain, each
-/// stands in the store above the boundary, no fenced writer committed, each step made the call that its row names, each reply is
-/// the row's, and nothing that was deleted is reachable. Between two moments no boundary falls.
+/// stands in the store above the boundary, no fenced writer or compactor committed, each step made the call that its row names, each
+/// reply is the row's, and nothing that was deleted is reachable. Between two moments no boundary falls.
 pub fn lawful()
     ensures { (specs : List DbSpec) (events : List Event) → IsAccepted specs → Lawful specs events }
-{}
+{
+    records_stand();
+}
 
 /// Accepted databases begin a run.
 pub fn begins()

@@ -14,7 +14,7 @@ ghost use Rattle.slate_log.specs.declared.log_kind.LogKind.{LogKind};
 ghost use Rattle.slate_log.specs.declared.log_kind.LogKind.TheVariants as logs;
 ghost use Rattle.slate_log.specs.declared.read_phase.ReadPhase.{ReadPhase};
 ghost use Rattle.slate_protocol.specs.Chains.{bound_in, AgreesAt};
-ghost use Rattle.slate_protocol.specs.Holding.{IsVersion, IsMadeOf, Each, IsManifestThat, IsRefused, picks_in, due_in};
+ghost use Rattle.slate_protocol.specs.Holding.{IsVersion, IsMadeOf, Each, EpochsStand, IsManifestThat, IsRefused, picks_in, due_in};
 ghost use Rattle.slate_protocol.specs.Lawful.{IsAccepted, AreGood, chains_at_end, gone_after, world_at_end};
 ghost use Rattle.slate_protocol.specs.Logs.{Held, log_of, manifests, phrase_of};
 ghost use Rattle.slate_protocol.specs.Logs.Phrase.{Reads, Commits, Collects};
@@ -89,4 +89,13 @@ pub fn late_put_is_refused()
         → gone_after specs events ≡ front ++ version_path k db number ∷ back
         → IsRefused (follow p.facts task.call moment
         (goes task.work moment (effect mark (asks task.work) moment (world_at_end specs events).store).answer)).next }
+{}
+
+/// The epochs that a party holds stand: what an open of a compactor has raised is at most the compactor epoch of the greatest manifest
+/// of its database, and where a compactor is open, its epoch is at most that one and the epoch of the greatest record; these versions
+/// are there.
+pub fn epochs_stand()
+    ensures { (specs : List DbSpec) (events : List Event) (n : ℕ) (p : Party)
+        → IsAccepted specs → party_of n (world_at_end specs events).parties ≡ Some p
+        → EpochsStand (chains_at_end specs events) p.facts }
 {}

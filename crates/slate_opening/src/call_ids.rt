@@ -28,6 +28,8 @@ pub(crate) fn fresh_checkpoints(
     ensures { IfOk result (λ all. all.items ≡ calls.fresh_checkpoints call.now) }
 {
     match call {
+        Call::WriteManifest { checkpoint } => listed(alloc, &[Some(*checkpoint)]),
+        Call::WriteState { checkpoint } => listed(alloc, &[Some(*checkpoint)]),
         Call::WriteCheckpoint { id, .. } => listed(alloc, &[Some(*id)]),
         Call::ReplaceCheckpoint { id, .. } => listed(alloc, &[Some(*id)]),
         _ => listed(alloc, &[]),
@@ -42,16 +44,11 @@ pub(crate) fn named_checkpoints(
     ensures { IfOk result (λ all. all.items ≡ calls.named_checkpoints call.now) }
 {
     match call {
-        Call::OpenWriter
-        | Call::Upload { .. }
-        | Call::Flush { .. }
-        | Call::Claim { .. }
-        | Call::Report { .. }
-        | Call::Pass { .. } => listed(alloc, &[]),
         Call::WriteCheckpoint { source, .. } => listed(alloc, &[*source]),
         Call::ReplaceCheckpoint { old, source, .. } => listed(alloc, &[Some(*old), *source]),
         Call::RefreshCheckpoint { id, .. } => listed(alloc, &[Some(*id)]),
         Call::DeleteCheckpoint { id } => listed(alloc, &[Some(*id)]),
+        _ => listed(alloc, &[]),
     }
 }
 
@@ -106,6 +103,9 @@ pub(crate) fn named_ulids(alloc: Global, call: &Call) -> Result<Vec<Ulid>, OutOf
 {
     match call {
         Call::Flush { tables, .. } => tables_of(alloc, tables.as_slice()),
+        Call::Schedule { id } => listed(alloc, &[Some(*id)]),
+        Call::Finish { id } => listed(alloc, &[Some(*id)]),
+        Call::Fail { id } => listed(alloc, &[Some(*id)]),
         Call::Claim { id } => listed(alloc, &[Some(*id)]),
         Call::Report { id, tables } => with_others(alloc, *id, tables.as_slice()),
         _ => listed(alloc, &[]),

@@ -25,8 +25,9 @@ by_state : (w : World) (n : ℕ) (call : Call) (facts : Facts) (state : State) (
     → start_state (carrying n call w) n facts state call ≡ at w n call (start_entry n begun) (with_party n (after_start (record { facts = facts; state = state }) begun) w.parties)
 by_state w n call facts Resting None here h = absurd h
 by_state w n call facts Resting (Some b) here h =
-    ap (λ (r : Option Reply). at w n call (Started n r) (with_party n (settled call (begin facts call)) w.parties)) (sym h.1)
-    ∙ ap (λ (s : State). at w n call (Started n b.reply) (with_party n (record { facts = facts; state = s }) w.parties)) (sym h.0)
+    ap (λ (r : Option Reply). at w n call (Started n r) (with_party n (settled call (begin facts call)) w.parties)) (sym h.0.1)
+    ∙ (ap (λ (s : State). at w n call (Started n b.reply) (with_party n (record { facts = (begin facts call).facts; state = s }) w.parties)) (sym h.0.0)
+    ∙ ap (λ (f : Facts). at w n call (Started n b.reply) (with_party n (record { facts = f; state = b.state }) w.parties)) h.1)
 by_state w n call facts (Busy task) None here h = ap (at w n call (Idle n)) (sym (same_party n w.parties _ here))
 by_state w n call facts (Busy task) (Some b) here h = absurd cc
 by_state w n call facts Halted None here h = ap (at w n call (Idle n)) (sym (same_party n w.parties _ here))

@@ -7,7 +7,7 @@ use Rattle.slate_events.specs.declared.call.Call.{Call}
 use Rattle.slate_events.specs.declared.entry.Entry.{Entry}
 use Rattle.slate_events.specs.declared.entry.Entry.TheVariants.{Started, Idle}
 use Rattle.slate_events.specs.declared.reply.Reply.{Reply}
-use Rattle.slate_protocol.specs.Calls.{Next}
+use Rattle.slate_protocol.specs.Calls.{Next, with_held}
 use Rattle.slate_protocol.specs.Rows.{Standing, begin}
 use Rattle.slate_protocol.specs.Works.{is_due}
 use Rattle.slate_protocol.specs.World.{settled, state_after, reply_of, halted}
@@ -28,7 +28,7 @@ Begins call next state reply = (state ≡ state_after call next) × (reply ≡ r
 
 -- a start of a party: none where it has a call, or was stopped
 abbrev pub begins_at : Facts → State → Call → Option Begun → Type 0
-begins_at facts Resting call (Some b) = Begins call (begin facts call).next b.state b.reply
+begins_at facts Resting call (Some b) = Begins call (begin facts call).next b.state b.reply × ((begin facts call).facts ≡ with_held b.held facts)
 begins_at facts Resting call None = ⊥
 begins_at facts (Busy task) call o = o ≡ None
 begins_at facts Halted call o = o ≡ None
@@ -41,7 +41,7 @@ start_entry n (Some b) = Started n b.reply
 -- the party after a start
 abbrev pub after_start : Party → Option Begun → Party
 after_start party None = party
-after_start party (Some b) = record { facts = party.facts; state = b.state }
+after_start party (Some b) = record { facts = with_held b.held party.facts; state = b.state }
 
 -- ---- a stop
 

@@ -26,6 +26,23 @@ fn writer_has(call: &Call) -> bool
     }
 }
 
+// Whether a call is a compactor's.
+fn compactor_has(call: &Call) -> bool
+    ensures { result ≡ has.compactor_has call.now }
+{
+    match call {
+        Call::OpenCompactor => true,
+        Call::Refresh => true,
+        Call::Schedule { .. } => true,
+        Call::Finish { .. } => true,
+        Call::Fail { .. } => true,
+        Call::WriteManifest { .. } => true,
+        Call::WriteRecord => true,
+        Call::WriteState { .. } => true,
+        _ => false,
+    }
+}
+
 // Whether a call is a worker's.
 fn worker_has(call: &Call) -> bool
     ensures { result ≡ has.worker_has call.now }
@@ -71,6 +88,7 @@ pub(crate) fn has_call(kind: PartyKind, call: &Call) -> bool
 {
     match kind {
         PartyKind::Writer => writer_has(call),
+        PartyKind::Compactor => compactor_has(call),
         PartyKind::Worker => worker_has(call),
         PartyKind::Holder => holder_has(call),
         PartyKind::Collector => collector_has(call),

@@ -5,10 +5,11 @@ ghost use Rattle.slate_steps.specs.Onward.{next_of};
 ghost use Rattle.slate_parties.specs.Moved.{Begins, begins_at, start_entry, after_start};
 ghost use Rattle.slate_parties.specs.Moved.{Stops, is_busy, after_reply, StateMoves, StateStepped};
 
+use slate_compactor::LocalState;
 use slate_events::{Call, Entry, PartyKind, Reply};
 use slate_ids::{DbPath, Millis, OutOfMemory};
-use slate_protocol::{Facts, Party, State, Task, Uploads};
-use slate_steps::{Onward, PartyStep, begin, is_due, step_party};
+use slate_protocol::{Facts, Kept, Party, State, Task, Uploads};
+use slate_steps::{Beginning, Onward, PartyStep, begin, is_due, step_party, take_held};
 use slate_store::{Mark, MemoryStore};
 use std::alloc::Global;
 
@@ -23,30 +24,38 @@ pub(crate) fn newcomer(alloc: Global, number: u32, kind: PartyKind, db: DbPath) 
             db,
             epoch: None,
             uploads: Uploads::new(alloc),
+            kept: Kept::Nothing,
+            local: None,
         },
         state: State::Resting,
     }
 }
 
-/// How a start leaves a party, and the reply of a call that has no store call to make.
+/// How a start leaves a party, the reply of a call that has no store call to make, and what the party holds then where the start changes
+/// that.
 #[derive(Drop)]
 pub(crate) struct Begun {
     pub state: State,
     pub reply: Option<Reply>,
+    pub held: Option<LocalState>,
 }
 
 // A call at its beginning.
-fn at_beginning(call: Call, next: Onward) -> Begun
-    ensures { Begins call (next_of next) result.state result.reply }
+fn at_beginning(call: Call, beginning: Beginning) -> Begun
+    ensures begins { Begins call (next_of beginning.next) result.state result.reply }
+    ensures held { result.held ≡ beginning.held }
 {
-    match next {
+    let held = beginning.held;
+    match beginning.next {
         Onward::Go(work) => Begun {
             state: State::Busy(Task { call, work }),
             reply: None,
+            held,
         },
         Onward::Finish(reply) => Begun {
             state: State::Resting,
             reply: Some(reply),
+            held,
         },
     }
 }
@@ -57,8 +66,15 @@ pub(crate) fn start(alloc: Global, party: &Party, call: &Call) -> Result<Option<
 {
     match &party.state {
         State::Resting => {
-            let next = begin(alloc, &party.facts, call)?;
-            Ok(Some(at_beginning(call.copy(alloc)?, next)))
+            let copied = call.copy(alloc)?;
+            match begin(alloc, &party.facts, call) {
+                Ok(beginning) => Ok(Some(at_beginning(copied, beginning))),
+                // One call drops the copy: dropped in place, each of its shapes would be a case of the proof.
+                Err(e) => {
+                    drop(copied);
+                    Err(e)
+                }
+            }
         }
         State::Busy(_) | State::Halted => Ok(None),
     }
@@ -79,6 +95,7 @@ pub(crate) fn take_start(number: u32, party: &mut Party, begun: Option<Begun>) -
     match begun {
         None => Entry::Idle { party: number },
         Some(begun) => {
+            take_held(&mut party.facts, begun.held);
             set_state(party, begun.state);
             Entry::Started {
                 party: number,

@@ -1,17 +1,57 @@
--- Fenced epochs: no writer commits below the writer epoch of an earlier version.
-use Rattle.std.specs.Prelude.{◌≡◌, ℕ, ◌≤◌, [], ◌∷◌, Option, Some, None}
+-- Fenced epochs: no writer and no compactor commits below the epoch of its kind in an earlier version.
+use Rattle.std.specs.Prelude.{◌≡◌, ℕ, ◌≤◌, List, [], ◌∷◌, Option, Some, None}
+use Rattle.slate_compactor_changes.specs.CompactorChanges.{compactor_epoch_in}
 use Rattle.slate_model.specs.declared.manifest.Manifest.{Manifest}
-use Rattle.slate_updates.specs.Changes.{writer_epoch_in}
+use Rattle.slate_protocol.specs.Chains.{Link, link_at}
+use Rattle.slate_protocol.specs.Logs.{Author, Chain, change_by, record_change_by}
+use Rattle.slate_protocol.specs.declared.party_change.PartyChange.{PartyChange}
+use Rattle.slate_protocol.specs.declared.party_change.PartyChange.TheVariants.{Shared, OfCompactor}
 use Rattle.slate_log.specs.declared.log_kind.LogKind.TheVariants as logs
-use Rattle.slate_protocol.specs.Chains.{link_at}
-use Rattle.slate_protocol.specs.Logs.{Author, Chain, change_by}
+use Rattle.slate_record_updates.specs.RecordEpochs.{record_epoch}
+use Rattle.slate_record_updates.specs.declared.record_change.RecordChange.{RecordChange}
+use Rattle.slate_record_updates.specs.declared.record_change.RecordChange.TheVariants.{GiveEpoch, Reset, Schedule, PutStatuses}
+use Rattle.slate_records.specs.Records.{Record}
+use Rattle.slate_updates.specs.Changes.{writer_epoch_in}
+use Rattle.slate_updates.specs.Writers.{epoch_of}
+use Rattle.slate_updates.specs.declared.epochs.ManifestEpochs.TheVariants.{Writer, Compactor}
 
--- not below the writer epoch of any of these versions
-abbrev pub NotBelow : Option Author → Manifest → Chain logs.Manifest → Type 0
-NotBelow None m c = Unit {0}
-NotBelow (Some author) m c = (epoch : ℕ) → writer_epoch_in (change_by author) m ≡ Some epoch → (n : ℕ) (u : _) → link_at n c ≡ Some u → u.value.writer_epoch ≤ epoch
+-- ---- with which epoch a change is put
 
--- each version's writer is not below those before it
-abbrev pub IsFenced : Chain logs.Manifest → Type 0
-IsFenced [] = Unit {0}
-IsFenced (l ∷ c) = NotBelow l.by l.value c × IsFenced c
+-- a writer's, where a writer puts it
+abbrev pub writer_in : Option PartyChange → Manifest → Option ℕ
+writer_in (Some (Shared change)) m = writer_epoch_in change m
+writer_in _ m = None
+
+-- a compactor's, where a compactor puts it
+abbrev pub compactor_in : Option PartyChange → Manifest → Option ℕ
+compactor_in (Some (OfCompactor change)) m = compactor_epoch_in change m
+compactor_in _ m = None
+
+-- a compactor's, of a record: that which its open raised, or that of its open
+abbrev pub record_epoch_in : Option RecordChange → Option ℕ
+record_epoch_in (Some (GiveEpoch epoch)) = Some epoch
+record_epoch_in (Some (Reset epoch)) = Some epoch
+record_epoch_in (Some (Schedule compactor id)) = compactor
+record_epoch_in (Some (PutStatuses compactor local pending)) = compactor
+record_epoch_in _ = None
+
+-- ---- along a chain
+
+-- an author's epoch is not below the epoch of any of these versions
+abbrev pub NotBelow : {V : Type 0} → (V → ℕ) → (Author → V → Option ℕ) → Option Author → V → List (Link V Author) → Type 0
+NotBelow epoch own None v c = Unit {0}
+NotBelow epoch own (Some author) v c = (e : ℕ) → own author v ≡ Some e → (n : ℕ) (u : _) → link_at n c ≡ Some u → epoch u.value ≤ e
+
+-- each version's author is not below those before it
+abbrev pub IsFencedBy : {V : Type 0} → (V → ℕ) → (Author → V → Option ℕ) → List (Link V Author) → Type 0
+IsFencedBy epoch own [] = Unit {0}
+IsFencedBy epoch own (l ∷ c) = NotBelow epoch own l.by l.value c × IsFencedBy epoch own c
+
+-- no writer and no compactor committed a manifest below its kind's epoch in an earlier one
+pub record IsFenced (c : Chain logs.Manifest) : Type 0 where
+  pub writers : IsFencedBy (epoch_of Writer) (λ author m. writer_in (change_by author) m) c
+  pub compactors : IsFencedBy (epoch_of Compactor) (λ author m. compactor_in (change_by author) m) c
+
+-- no compactor committed a record below the epoch of an earlier one
+abbrev pub IsRecordFenced : Chain logs.Compactions → Type 0
+IsRecordFenced c = IsFencedBy record_epoch (λ author r. record_epoch_in (record_change_by author)) c

@@ -1,6 +1,8 @@
 -- What a party holds while it is in a call.
-use Rattle.std.specs.Prelude.{◌≡◌, ℕ, ◌+◌, List, [], ◌∷◌, Some, Ok}
+use Rattle.std.specs.Prelude.{◌≡◌, ℕ, ◌+◌, ◌≤◌, List, [], ◌∷◌, Some, Ok}
 use Rattle.slate_ids.specs.declared.error.SlateDBError.{SlateDBError}
+use Rattle.slate_compactor.specs.Trees.{Trees}
+use Rattle.slate_events.specs.declared.party_kind.PartyKind.TheVariants.{Compactor}
 use Rattle.slate_events.specs.declared.reply.Reply.TheVariants.{Refused}
 use Rattle.slate_store.specs.declared.object.ObjectMetadata.{ObjectMetadata}
 use Rattle.slate_log.specs.LogPaths.{version_path}
@@ -10,7 +12,12 @@ use Rattle.slate_gc.specs.declared.pass_phase.PassPhase.{PassPhase}
 use Rattle.slate_gc.specs.declared.pass_phase.PassPhase.TheVariants as passing
 use Rattle.slate_protocol.specs.Calls.{Next, Finish}
 use Rattle.slate_protocol.specs.Chains.{Link, link_at}
-use Rattle.slate_protocol.specs.Logs.{Author, Held, Chain, log_of}
+use Rattle.slate_protocol.specs.Logs.{Author, Held, Chain, Chains, log_of}
+use Rattle.slate_protocol.specs.declared.party.Facts.{Facts}
+use Rattle.slate_protocol.specs.declared.party.Kept.TheVariants.{Raised}
+use Rattle.slate_record_updates.specs.RecordEpochs.{record_epoch}
+use Rattle.slate_updates.specs.Writers.{epoch_of}
+use Rattle.slate_updates.specs.declared.epochs.ManifestEpochs.TheVariants as epochs
 
 -- a value that is the committed one of its number
 pub record IsVersion {V A : Type 0} (c : List (Link V A)) (n : ℕ) (v : V) : Type 0 where
@@ -49,3 +56,15 @@ pub record IsManifestThat (db : List ℕ) (P : ℕ → Type 0) (m : ObjectMetada
 pub record IsRefused (next : Next) : Type 0 where
   pub error : SlateDBError
   pub is : next ≡ Finish (Refused error)
+
+-- a number is at most the epoch of the greatest version of a chain, which has one
+abbrev pub AtMostTop : {V A : Type 0} → (V → ℕ) → ℕ → List (Link V A) → Type 0
+AtMostTop epoch e [] = ⊥
+AtMostTop epoch e (l ∷ c) = e ≤ epoch l.value
+
+-- the epochs that a party holds are committed ones of its database
+pub record EpochsStand (chains : Chains) (facts : Facts) : Type 0 where
+  -- what an open of a compactor has raised is at most the epoch of the greatest manifest
+  pub raised : (e : ℕ) (trees : Trees) → facts.kept ≡ Raised e trees → AtMostTop (epoch_of epochs.Compactor) e (chains logs.Manifest facts.db)
+  -- the epoch of a compactor that is open is at most those of the greatest manifest and of the greatest record
+  pub opened : (e : ℕ) → facts.kind ≡ Compactor → facts.epoch ≡ Some e → AtMostTop (epoch_of epochs.Compactor) e (chains logs.Manifest facts.db) × AtMostTop record_epoch e (chains logs.Compactions facts.db)

@@ -5,15 +5,16 @@ use Rattle.slate_ids.specs.Limits.{last_number}
 use Rattle.slate_ids.specs.declared.object_path.ObjectPath.{ObjectPath}
 use Rattle.slate_log.specs.declared.log_kind.LogKind.{LogKind}
 use Rattle.slate_log.specs.declared.log_kind.LogKind.TheVariants as logs
+use Rattle.slate_updates.specs.RuleLaws.{NothingFalls}
 use Rattle.slate_events.specs.declared.db_spec.DbSpec.{DbSpec}
 use Rattle.slate_events.specs.declared.event.Event.{Event}
 use Rattle.slate_protocol.specs.Alone.{PassesAlone}
 use Rattle.slate_protocol.specs.ByRows.{nobody, trail_by}
 use Rattle.slate_protocol.specs.Chains.{top, IsChain, bound_in, AgreesAt}
-use Rattle.slate_protocol.specs.Fenced.{IsFenced}
+use Rattle.slate_protocol.specs.Fenced.{IsFenced, IsRecordFenced}
 use Rattle.slate_protocol.specs.Logs.{Chain, Chains, log_of, chains_of, opening_chains, world_after}
 use Rattle.slate_protocol.specs.Passes.{ExactPasses}
-use Rattle.slate_protocol.specs.Rising.{NeverFalls, NameKnown}
+use Rattle.slate_protocol.specs.Rising.{NeverFalls, RecordRises, NameKnown}
 use Rattle.slate_protocol.specs.Runs.{Course, opening, run}
 use Rattle.slate_protocol.specs.Safe.{gone, IsSafe}
 use Rattle.slate_protocol.specs.Specs.{is_named_spec, cause_of_specs, opening_world}
@@ -82,10 +83,13 @@ pub record LawfulAt (specs : List DbSpec) (events : List Event) : Type 0 where
   pub safe : IsSafe (course_after specs events).world (chains_at_end specs events) (gone_after specs events)
   -- each log is one chain, which the store bears out
   pub each_log : (k : LogKind) (db : List ℕ) → HasDb (course_after specs events).world db → IsLawfulLog (course_after specs events).world k db (chains_at_end specs events k db)
-  -- no writer committed below the writer epoch of an earlier version
+  -- no writer and no compactor committed below the epoch of its kind in an earlier version
   pub fenced : (db : List ℕ) → HasDb (course_after specs events).world db → IsFenced (chains_at_end specs events logs.Manifest db)
+  pub records_fenced : (db : List ℕ) → HasDb (course_after specs events).world db → IsRecordFenced (chains_at_end specs events logs.Compactions db)
   -- along each chain of manifests no epoch, no floor and no last file without replay falls
-  pub rising : (db : List ℕ) → HasDb (course_after specs events).world db → NeverFalls (chains_at_end specs events logs.Manifest db)
+  pub rising : (db : List ℕ) → HasDb (course_after specs events).world db → NeverFalls NothingFalls (chains_at_end specs events logs.Manifest db)
+  -- along each chain of records the epoch and the least id don't fall, and a record with compactions never becomes empty
+  pub records_rising : (db : List ℕ) → HasDb (course_after specs events).world db → NeverFalls RecordRises (chains_at_end specs events logs.Compactions db)
   -- and each number that a manifest names is its own, or is named by the one before, all the way down
   pub names : (db : List ℕ) → HasDb (course_after specs events).world db → NameKnown (chains_at_end specs events logs.Manifest db)
 

@@ -2,14 +2,11 @@
 use Rattle.std.specs.Prelude.{ℕ, Bool, true, false, List, [], ◌∷◌, Option, Some, None, Result, Ok, ℤ, bytes_eq, if◌then◌else◌}
 use Rattle.slate_model.specs.declared.manifest.Manifest.{Manifest}
 use Rattle.slate_records.specs.Records.{Record}
-use Rattle.slate_updates.specs.Changes.{made, right_of, fence_of}
 use Rattle.slate_updates.specs.Checkpoints.{is_named}
 use Rattle.slate_updates.specs.Rules.{manifest_refusal}
 use Rattle.slate_record_updates.specs.RecordChanges.{made as record_made, right_of as record_right_of, fence_of as record_fence_of}
 use Rattle.slate_record_updates.specs.RecordRules.{record_refusal_of}
 use Rattle.slate_record_updates.specs.declared.record_change.RecordChange.{RecordChange}
-use Rattle.slate_updates.specs.declared.manifest_change.ManifestChange.{ManifestChange}
-use Rattle.slate_ids.specs.declared.error.SlateDBError.{SlateDBError}
 use Rattle.slate_layout.specs.Codec.{encoded}
 use Rattle.slate_layout.specs.RecordCodec.{record_encoded}
 use Rattle.slate_manifest_parts.specs.Decoding.{decoded_manifest}
@@ -23,15 +20,15 @@ use Rattle.slate_log.specs.declared.commit_phase.CommitPhase.TheVariants.{Puttin
 use Rattle.slate_log.specs.declared.log_kind.LogKind.{LogKind}
 use Rattle.slate_log.specs.declared.log_kind.LogKind.TheVariants as logs
 use Rattle.slate_log.specs.declared.read_phase.ReadPhase.{ReadPhase}
-use Rattle.slate_log.specs.declared.right.Right.{Right}
-use Rattle.slate_log.specs.declared.right.Right.TheVariants.{Plain}
 use Rattle.slate_gc.specs.declared.gc_pass.GcPass.TheVariants as passing
 use Rattle.slate_gc.specs.declared.pass_phase.PassPhase.{PassPhase}
 use Rattle.slate_events.specs.declared.call.Call.{Call}
 use Rattle.slate_events.specs.declared.db_spec.DbSpec.{DbSpec}
 use Rattle.slate_events.specs.declared.event.Event.{Event}
 use Rattle.slate_events.specs.declared.event.Event.TheVariants.{Open, Start, Step, Stop}
-use Rattle.slate_protocol.specs.Calls.{change_of, record_change_of}
+use Rattle.slate_protocol.specs.Calls.{change_of, record_change_of, first_of}
+use Rattle.slate_protocol.specs.PartyChanges.{change_made, change_right, change_fence, made_by, right_by, fence_by}
+use Rattle.slate_protocol.specs.declared.party_change.PartyChange.{PartyChange}
 use Rattle.slate_protocol.specs.Chains.{Link, Log, with_link}
 use Rattle.slate_protocol.specs.Specs.{first_bytes, record_bytes, listed_or_none}
 use Rattle.slate_protocol.specs.Works.{asks, is_due}
@@ -56,26 +53,17 @@ pub record Author : Type 0 where
   pub purpose : Purpose
   pub now : ℤ
 
--- what an author puts
-abbrev pub change_by : Author → ManifestChange
+-- what an author puts to the log of manifests, where it puts a change there
+abbrev pub change_by : Author → Option PartyChange
 change_by a = change_of a.facts a.call a.purpose
 
--- what an author puts to the log of records, where it puts there
+-- what an author puts to the log of records
 abbrev pub record_change_by : Author → Option RecordChange
 record_change_by a = record_change_of a.facts a.call a.purpose
 
--- what a change, where there is one, makes of a record; under which right; and whether its fence refuses it
-abbrev pub made_by : Option RecordChange → ℤ → ℕ → Record → Result (Option Record) SlateDBError
-made_by None now n r = Ok None
-made_by (Some change) now n r = record_made change now n r
-
-abbrev pub right_by : Option RecordChange → Right
-right_by None = Plain
-right_by (Some change) = record_right_of change
-
-abbrev pub fence_by : Option RecordChange → Record → Option SlateDBError
-fence_by None r = None
-fence_by (Some change) r = record_fence_of change r
+-- the record that an author puts where there is none
+abbrev pub first_by : Author → Option Record
+first_by a = first_of a.call a.purpose
 
 -- ---- the logs
 
@@ -89,12 +77,12 @@ manifests = record {
   refusal = manifest_refusal;
   names = λ m n. is_named n m.core.checkpoints;
   first = λ a. Ok None;
-  makes = λ a n m. made (change_by a) a.now n m;
-  right = λ a. right_of (change_by a);
-  fence = λ a m. fence_of (change_by a) m;
+  makes = λ a n m. made_by change_made (change_by a) a.now n m;
+  right = λ a. right_by change_right (change_by a);
+  fence = λ a m. fence_by change_fence (change_by a) m;
 }
 
--- the log of records; no party makes the first one yet
+-- the log of records
 abbrev pub records : Log Record Author
 records = record {
   kind = logs.Compactions;
@@ -103,10 +91,10 @@ records = record {
   normal = normal_record;
   refusal = record_refusal_of;
   names = λ r n. false;
-  first = λ a. Ok None;
-  makes = λ a n r. made_by (record_change_by a) a.now n r;
-  right = λ a. right_by (record_change_by a);
-  fence = λ a r. fence_by (record_change_by a) r;
+  first = λ a. Ok (first_by a);
+  makes = λ a n r. made_by record_made (record_change_by a) a.now n r;
+  right = λ a. right_by record_right_of (record_change_by a);
+  fence = λ a r. fence_by record_fence_of (record_change_by a) r;
 }
 
 -- the values of a log

@@ -1,19 +1,26 @@
--- What never falls along a chain of manifests, and which numbers its manifests name.
-use Rattle.std.specs.Prelude.{List, [], ◌∷◌}
+-- What never falls along a chain, and which numbers its manifests name.
+use Rattle.std.specs.Prelude.{◌≡◌, ◌≢◌, ℕ, ◌≤◌, List, [], ◌∷◌}
 use Rattle.slate_model.specs.declared.manifest.Manifest.{Manifest}
+use Rattle.slate_records.specs.Records.{Record}
+use Rattle.slate_record_updates.specs.RecordRules.{KeepsLeast}
 use Rattle.slate_updates.specs.RuleLaws.{NothingFalls, NamesKnown}
 use Rattle.slate_protocol.specs.Chains.{Link}
 use Rattle.slate_protocol.specs.Logs.{Author}
 
--- in a manifest nothing has fallen since any of these older ones
-abbrev pub AboveAll : Manifest → List (Link Manifest Author) → Type 0
-AboveAll m [] = Unit {0}
-AboveAll m (old ∷ c) = NothingFalls old.value m × AboveAll m c
+-- in a version nothing has fallen since any of these older ones
+abbrev pub AboveAll : {V : Type 0} → (V → V → Type 0) → V → List (Link V Author) → Type 0
+AboveAll Rises v [] = Unit {0}
+AboveAll Rises v (old ∷ c) = Rises old.value v × AboveAll Rises v c
 
--- in none of the manifests of a chain an epoch, the floor, or the last file of the write-ahead log that needs no replay is below an older one's
-abbrev pub NeverFalls : List (Link Manifest Author) → Type 0
-NeverFalls [] = Unit {0}
-NeverFalls (new ∷ c) = AboveAll new.value c × NeverFalls c
+-- in none of the versions of a chain anything is below an older one's
+abbrev pub NeverFalls : {V : Type 0} → (V → V → Type 0) → List (Link V Author) → Type 0
+NeverFalls Rises [] = Unit {0}
+NeverFalls Rises (new ∷ c) = AboveAll Rises new.value c × NeverFalls Rises c
+
+-- of records: the epoch doesn't fall; and where there are compactions, some stay, and the least milliseconds of their ids don't fall
+pub record RecordRises (old new : Record) : Type 0 where
+  pub epoch : old.compactor_epoch ≤ new.compactor_epoch
+  pub least : old.entries ≢ [] → KeepsLeast old.entries new.entries
 
 -- each manifest of a chain names no version but its own and those that the one before names
 abbrev pub NameKnown : List (Link Manifest Author) → Type 0

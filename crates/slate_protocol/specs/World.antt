@@ -26,6 +26,7 @@ use Rattle.slate_protocol.specs.Ids.{Carried, is_stale, with_call}
 use Rattle.slate_protocol.specs.Rows.{Standing, begin, follow}
 use Rattle.slate_protocol.specs.Works.{asks, goes, is_due}
 use Rattle.slate_protocol.specs.declared.party.Facts.{Facts}
+use Rattle.slate_protocol.specs.declared.party.Kept.TheVariants.{Nothing}
 use Rattle.slate_protocol.specs.declared.party.Party.{Party}
 use Rattle.slate_protocol.specs.declared.party.State.{State}
 use Rattle.slate_protocol.specs.declared.party.State.TheVariants.{Resting, Busy, Halted}
@@ -132,7 +133,7 @@ reply_of (Finish reply) = Some reply
 
 -- what is known of a party that comes
 abbrev pub first_facts : ℕ → PartyKind → List ℕ → Facts
-first_facts n kind db = record { number = n; kind = kind; db = db; epoch = None; uploads = [] }
+first_facts n kind db = record { number = n; kind = kind; db = db; epoch = None; uploads = []; kept = Nothing; local = None }
 
 -- a party that comes
 abbrev pub newcomer : ℕ → PartyKind → List ℕ → Party

@@ -6,11 +6,17 @@ use slate_ids::{ByteList, DbPath, Millis};
 use slate_log::{CommitPhase, ReadPhase};
 use slate_model::{Compactions, Manifest};
 
-/// Which read or commit of its call this is.
+/// Which read or commit of its log, in its call, this is.
 #[derive(Clone, Copy, Debug)]
 pub enum Purpose {
-    /// The one read, or the one commit, of its call.
+    /// The one read, or the one commit, of its log in its call; where the call has more of them, the first of a version that was read.
     Once,
+    /// The commit of the first record, by an open of a compactor.
+    First,
+    /// The commit that resets the record, by an open of a compactor.
+    Reset,
+    /// The commit of a compactor's trees.
+    Merge,
 }
 
 /// The phrase under way at its phase, with the database whose objects it speaks of.

@@ -67,10 +67,12 @@ run_help_text =
     ++ line (codes "            and with \"mark\" \"fail\" or \"lost\" a call that faults")
     ++ line (codes "  stop      {\"stop\":1}")
     ++ line []
-    ++ line (codes "A writer has the calls open_writer, upload and flush; a worker has")
-    ++ line (codes "upload, claim and report; a holder has write_checkpoint,")
-    ++ line (codes "replace_checkpoint, refresh_checkpoint and delete_checkpoint; a")
-    ++ line (codes "collector has pass. A script has at most 1000000 events.")
+    ++ line (codes "A writer has the calls open_writer, upload and flush; a compactor has")
+    ++ line (codes "open_compactor, refresh, schedule, finish, fail, write_manifest,")
+    ++ line (codes "write_record and write_state; a worker has upload, claim and report;")
+    ++ line (codes "a holder has write_checkpoint, replace_checkpoint, refresh_checkpoint")
+    ++ line (codes "and delete_checkpoint; a collector has pass. A script has at most")
+    ++ line (codes "1000000 events.")
     ++ line (codes "docs/FORMAT.md has all fields and lines.")
 
 -- the name and the version of the program, and of the kit that it is proved with

@@ -6,51 +6,20 @@ use Rattle.slate_ids.specs.declared.out_of_memory.OutOfMemory.{OutOfMemory}
 use Rattle.slate_store.specs.Machines.{End}
 use Rattle.slate_store.specs.declared.step.Step.TheVariants.{Done}
 use Rattle.slate_store.specs.declared.store_answer.StoreAnswer.{StoreAnswer}
-use Rattle.slate_model.specs.declared.manifest.Manifest.{Manifest}
-use Rattle.slate_records.specs.Records.{Record}
-use Rattle.slate_events.specs.declared.call.Call.{Call}
-use Rattle.slate_events.specs.declared.call.Call.TheVariants.{OpenWriter}
 use Rattle.slate_events.specs.declared.reply.Reply.{Reply}
 use Rattle.slate_events.specs.declared.reply.Reply.TheVariants.{Refused}
-use Rattle.slate_protocol.specs.Calls.{Next, done, facts_after}
-use Rattle.slate_protocol.specs.Rows.{Standing, after, commit_next, commit_for, follow}
+use Rattle.slate_protocol.specs.Calls.{Next, facts_after}
+use Rattle.slate_protocol.specs.Rows.{Standing, after, follow}
 use Rattle.slate_protocol.specs.Works.{WorkGoes, goes}
 use Rattle.slate_protocol.specs.declared.party.Facts.{Facts}
 use Rattle.slate_protocol.specs.declared.party.Task.{Task}
 use Rattle.slate_protocol.specs.declared.work.Ended.{Ended}
-use Rattle.slate_protocol.specs.declared.work.Ended.TheVariants.{NoManifest, ManifestRead, ManifestCommitted, NoRecord, RecordRead, RecordCommitted, TablePut, Passed}
-use Rattle.slate_protocol.specs.declared.work.Purpose.{Purpose}
-use Rattle.slate_protocol.specs.declared.work.Purpose.TheVariants.{Once}
 use Rattle.slate_protocol.specs.declared.work.Work.{Work}
 use Rattle.slate_steps.proofs.NeverMemory.{never_memory}
 use Rattle.slate_steps.specs.Followed.{next_by, standing, Ends, Follows, Kept}
 use Rattle.slate_steps.specs.Onward.{next_of}
 use Rattle.slate_steps.specs.WorkSteps.{AtEnd, OutReading}
 use Rattle.slate_steps.specs.declared.calls.Onward.{Onward}
-
--- ---- what follows doesn't ask what the end of the phrase tells
-
-same_read : (facts : Facts) (call : Call) (purpose : Purpose) (db : List ℕ) (n : ℕ) (m : Manifest) → facts_after facts call (ManifestRead purpose db n m) ≡ facts
-same_read facts OpenWriter purpose db n m = refl
-same_read facts _ purpose db n m = refl
-
-same_record_read : (facts : Facts) (call : Call) (purpose : Purpose) (db : List ℕ) (n : ℕ) (r : Record) → facts_after facts call (RecordRead purpose db n r) ≡ facts
-same_record_read facts OpenWriter purpose db n r = refl
-same_record_read facts _ purpose db n r = refl
-
-same_done : (facts : Facts) (call : Call) (purpose : Purpose) (db : List ℕ) (n : ℕ) (m : Manifest) → done (facts_after facts call (ManifestCommitted purpose db n m)) call purpose m ≡ done facts call purpose m
-same_done facts OpenWriter Once db n m = refl
-same_done facts _ Once db n m = refl
-
-same_after : (facts : Facts) (call : Call) (now : ℤ) (end : Ended) → after (facts_after facts call end) call now end ≡ after facts call now end
-same_after facts call now (NoManifest purpose) = refl
-same_after facts call now (ManifestRead purpose db n m) = ap (λ (known : Facts). after known call now (ManifestRead purpose db n m)) (same_read facts call purpose db n m)
-same_after facts call now (ManifestCommitted purpose db n m) = same_done facts call purpose db n m
-same_after facts call now (NoRecord purpose) = refl
-same_after facts call now (RecordRead purpose db n r) = ap (λ (known : Facts). after known call now (RecordRead purpose db n r)) (same_record_read facts call purpose db n r)
-same_after facts call now (RecordCommitted purpose db n r) = refl
-same_after facts call now (TablePut upload) = refl
-same_after facts call now (Passed counts) = refl
 
 -- ---- the end of a phrase
 
@@ -62,7 +31,7 @@ pub ends_so : (facts : Facts) (task : Task) (now : ℤ) (end : Ended) (known : F
     → next_of next ≡ after facts task.call now end → known ≡ facts_after facts task.call end → next_of next ≡ next_by to.work reply → to.call ≡ task.call
     → Ends facts task now end known to (Ok reply)
 ends_so facts task now end known to next reply follows learnt goes_on call =
-    (ap (at (facts_after facts task.call end)) (same_after facts task.call now end ∙ (sym follows ∙ goes_on)) ∙ ap (λ (k : Facts). at k (next_by to.work reply)) (sym learnt), call)
+    (ap (at (facts_after facts task.call end)) (sym follows ∙ goes_on) ∙ ap (λ (k : Facts). at k (next_by to.work reply)) (sym learnt), call)
 
 -- running out of memory left the call as it was
 pub kept_by : (facts : Facts) (task : Task) (to : Work) (moment : ℤ) (answer : StoreAnswer) (e : SlateDBError) → is_memory e ≡ true

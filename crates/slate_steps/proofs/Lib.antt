@@ -4,5 +4,7 @@ mod Follows
 mod NeverMemory
 mod Ends
 mod NoUploads
+mod NoRecords
+mod Endings
 mod PutSteps
 mod ReadsKeep

@@ -16,7 +16,7 @@ use Rattle.slate_protocol.specs.declared.party.Facts.{Facts}
 use Rattle.slate_protocol.specs.declared.party.Task.{Task}
 use Rattle.slate_protocol.specs.declared.work.Work.{Work}
 use Rattle.slate_protocol.specs.declared.work.Ended.{Ended}
-use Rattle.slate_steps.specs.WorkSteps.{has_version, rewound}
+use Rattle.slate_steps.specs.WorkSteps.{can_rewind, rewound}
 
 -- how the call goes on: with its work, unless there is a reply
 abbrev pub next_by : Work → Option Reply → Next
@@ -35,7 +35,7 @@ Refuses e (Err o) = is_memory e ≡ true
 -- the phrase has ended, and the call stands as the table says; or memory ran out, and the phrase was put back
 abbrev pub Ends : Facts → Task → ℤ → Ended → Facts → Task → Result (Option Reply) OutOfMemory → Type 0
 Ends facts task now end facts' task' (Ok reply) = (ended facts task.call now end ≡ standing facts' task' reply) × (task'.call ≡ task.call)
-Ends facts task now end facts' task' (Err e) = (has_version end ≡ true) × (facts' ≡ facts) × (task' ≡ record task { work = rewound end task.work })
+Ends facts task now end facts' task' (Err e) = (can_rewind end ≡ true) × (facts' ≡ facts) × (task' ≡ record task { work = rewound end task.work })
 
 -- the call goes on from the answer, and stands there
 pub record Follows (facts : Facts) (task : Task) (moment : ℤ) (answer : StoreAnswer) (same : Call) (to : Standing) : Type 0 where

@@ -1,4 +1,5 @@
 pub mod Onward
+pub mod Learning
 pub mod WorkSteps
 pub mod Followed
 pub mod PartySteps

@@ -10,8 +10,6 @@ use Rattle.slate_store.specs.declared.step.Step.TheVariants.{Done}
 use Rattle.slate_log.specs.Due.{WhereOut}
 use Rattle.slate_log.specs.declared.read_phase.ReadPhase.TheVariants as reading
 use Rattle.slate_log.specs.declared.commit_phase.CommitPhase.TheVariants as committing
-use Rattle.slate_events.specs.declared.call.Call.{Call}
-use Rattle.slate_events.specs.declared.call.Call.TheVariants.{Upload}
 use Rattle.slate_protocol.specs.Works.{asks, goes}
 use Rattle.slate_protocol.specs.declared.work.Work.{Work}
 use Rattle.slate_protocol.specs.declared.work.Work.TheVariants.{ReadManifest, CommitManifest, ReadRecord, CommitRecord, PutTable, Pass}
@@ -32,11 +30,6 @@ OutReading from step = WhereOut step (is_reading (asks from) ≡ true)
 abbrev pub is_upload : Work → Bool
 is_upload (PutTable db upload bytes) = true
 is_upload _ = false
-
--- whether a call is an upload
-abbrev pub is_upload_call : Call → Bool
-is_upload_call (Upload table first last) = true
-is_upload_call _ = false
 
 -- whether a phrase ended with the put of a table
 abbrev pub is_table_put : Ended → Bool
@@ -79,6 +72,15 @@ record_read_again n r (CommitRecord purpose now db phase) = CommitRecord purpose
 record_read_again n r (PutTable db upload bytes) = PutTable db upload bytes
 record_read_again n r (Pass db options phase) = Pass db options phase
 
+-- a read that found no record, put back to its one phase; other work as it is
+abbrev pub record_list_again : Work → Work
+record_list_again (ReadManifest purpose db phase) = ReadManifest purpose db phase
+record_list_again (CommitManifest purpose now db phase) = CommitManifest purpose now db phase
+record_list_again (ReadRecord purpose db phase) = ReadRecord purpose db reading.Listing
+record_list_again (CommitRecord purpose now db phase) = CommitRecord purpose now db phase
+record_list_again (PutTable db upload bytes) = PutTable db upload bytes
+record_list_again (Pass db options phase) = Pass db options phase
+
 -- a commit that gave this record, put back to its last phase; other work as it is
 abbrev pub record_commit_again : ℕ → Record → Work → Work
 record_commit_again n r (ReadManifest purpose db phase) = ReadManifest purpose db phase
@@ -88,34 +90,34 @@ record_commit_again n r (CommitRecord purpose now db phase) = CommitRecord purpo
 record_commit_again n r (PutTable db upload bytes) = PutTable db upload bytes
 record_commit_again n r (Pass db options phase) = Pass db options phase
 
--- work that ended with a version, put back to its last phase
+-- work that ended with a version, or without a record, put back to its last phase
 abbrev pub rewound : Ended → Work → Work
 rewound (NoManifest purpose) work = work
 rewound (ManifestRead purpose db n m) work = read_again n m work
 rewound (ManifestCommitted purpose db n m) work = commit_again n m work
-rewound (NoRecord purpose) work = work
+rewound (NoRecord purpose) work = record_list_again work
 rewound (RecordRead purpose db n r) work = record_read_again n r work
 rewound (RecordCommitted purpose db n r) work = record_commit_again n r work
 rewound (TablePut upload) work = work
 rewound (Passed counts) work = work
 
--- whether a phrase ended with a version
-abbrev pub has_version : Ended → Bool
-has_version (NoManifest purpose) = false
-has_version (ManifestRead purpose db n m) = true
-has_version (ManifestCommitted purpose db n m) = true
-has_version (NoRecord purpose) = false
-has_version (RecordRead purpose db n r) = true
-has_version (RecordCommitted purpose db n r) = true
-has_version (TablePut upload) = false
-has_version (Passed counts) = false
+-- whether a phrase ended with a version, or found no record: then it can be put back
+abbrev pub can_rewind : Ended → Bool
+can_rewind (NoManifest purpose) = false
+can_rewind (ManifestRead purpose db n m) = true
+can_rewind (ManifestCommitted purpose db n m) = true
+can_rewind (NoRecord purpose) = true
+can_rewind (RecordRead purpose db n r) = true
+can_rewind (RecordCommitted purpose db n r) = true
+can_rewind (TablePut upload) = false
+can_rewind (Passed counts) = false
 
 -- the last call of the work only read, and the work can be put back
 pub record Rewinds (ended : Ended) (from to : Work) : Type 0 where
   pub work : rewound ended to ≡ from
   pub reads : is_reading (asks from) ≡ true
 
--- work that ended with a version can be put back
+-- work that ended so can be put back
 abbrev pub AtEnd : Work → Work → Step Ended → Type 0
-AtEnd from to (Done (Ok ended)) = has_version ended ≡ true → Rewinds ended from to
+AtEnd from to (Done (Ok ended)) = can_rewind ended ≡ true → Rewinds ended from to
 AtEnd from to _ = Unit {0}

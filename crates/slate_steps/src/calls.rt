@@ -1,29 +1,26 @@
-//! The table of calls: what a call does first, what it commits, what follows, and what it tells of its party.
-ghost use Rattle.std.specs.Prelude.{◌≡◌, false, IfOk, map};
+//! How calls begin.
+ghost use Rattle.std.specs.Prelude.{◌≡◌, None, true, IfOk};
 ghost use Rattle.std.specs.List.{find};
-ghost use Rattle.slate_parts.specs.InfoCodec.{encoded_info};
 ghost use Rattle.slate_events.specs.declared.call.Call.TheVariants.{Upload as UploadCall};
+ghost use Rattle.slate_events.specs.declared.call.Call.TheVariants as ends;
 ghost use Rattle.slate_events.specs.declared.reply.Reply.TheVariants as reply;
-ghost use Rattle.slate_updates.specs.Checkpoints.{checkpoint_at};
+ghost use Rattle.slate_ids.specs.declared.error.SlateDBError.TheVariants as errors;
+ghost use Rattle.slate_ids.specs.declared.error.StateCause.TheVariants as causes;
 ghost use Rattle.slate_protocol.specs.Calls as calls;
+ghost use Rattle.slate_protocol.specs.Calls.{with_held};
 ghost use Rattle.slate_protocol.specs.Rows as rows;
-ghost use Rattle.slate_protocol.specs.Uploaded.{info_of};
 ghost use Rattle.slate_steps.specs.Followed.{Refuses};
-ghost use Rattle.slate_steps.specs.Onward.{next_of};
-ghost use Rattle.slate_steps.specs.WorkSteps.{is_table_put, is_upload_call};
+ghost use Rattle.slate_steps.specs.Onward.{next_of, is_other_call, EndBegins};
 
 use bytes::Bytes;
+use slate_compactor::LocalState;
 use slate_events::{Call, FlushTable, Reply};
-use slate_gc::{FilterWord, GcPass, PassOptions, PassPhase};
-use slate_ids::{
-    ByteList, CheckpointId, Listed, OutOfMemory, SlateDBError, StateCause, Text, Ulid,
-};
+use slate_gc::{FilterWord, GcPass, PassOptions};
+use slate_ids::{ByteList, OutOfMemory, SlateDBError, StateCause, Ulid};
 use slate_layout::encode_info;
 use slate_log::ReadPhase;
-use slate_model::{CheckpointOptions, Manifest, Plain, SsTableHandle, SsTableId, SsTableInfo};
-use slate_protocol::{Ended, Facts, Purpose, Upload, Uploads, Work};
-use slate_record_updates::RecordChange;
-use slate_updates::{FlushBatch, FlushedTable, ManifestChange, find_checkpoint};
+use slate_model::{Plain, SsTableInfo};
+use slate_protocol::{Facts, Purpose, Upload, Uploads, Work};
 use std::alloc::Global;
 
 /// How a call goes on.
@@ -33,6 +30,14 @@ pub enum Onward {
     Go(Work),
     /// It ends with this reply.
     Finish(Reply),
+}
+
+/// How a call begins.
+#[derive(Drop)]
+pub struct Beginning {
+    pub next: Onward,
+    /// What the party holds then, where the start changes that.
+    pub held: Option<LocalState>,
 }
 
 /// A refusal is the reply, unless memory ran out.
@@ -84,26 +89,41 @@ fn refusal_of_missing(uploads: &Uploads, tables: &[FlushTable]) -> Option<SlateD
     None
 }
 
+// The refusal of a party whose open has not succeeded yet.
+fn unless_open(epoch: Option<u64>) -> Option<SlateDBError>
+    ensures { result ≡ calls.unless_open epoch }
+{
+    match epoch {
+        None => Some(SlateDBError::InvalidDBState(StateCause::NotOpen)),
+        Some(_) => None,
+    }
+}
+
 // Why a flush is refused at its start: it needs an open, and that its tables were uploaded.
 fn refusal_of_flush(facts: &Facts, tables: &[FlushTable]) -> Option<SlateDBError>
     ensures { result ≡ calls.or_missing (calls.unless_open facts.now.epoch)
         (calls.refusal_of_missing (find (calls.is_missing facts.now.uploads) tables.now)) }
 {
-    match facts.epoch {
-        None => Some(SlateDBError::InvalidDBState(StateCause::NotOpen)),
-        Some(_) => refusal_of_missing(&facts.uploads, tables),
+    match unless_open(facts.epoch) {
+        Some(refusal) => Some(refusal),
+        None => refusal_of_missing(&facts.uploads, tables),
     }
 }
 
-// Why a call other than an upload is refused at its start.
+// Why a call is refused at its start, other than an upload and the end of a compaction.
 fn refusal_at_start(facts: &Facts, call: &Call) -> Option<SlateDBError>
-    requires { is_upload_call call.now ≡ false }
+    requires { is_other_call call.now ≡ true }
     ensures { result ≡ calls.refusal_at_start facts.now call.now }
 {
     match call {
-        Call::Upload { .. } => unreachable!(),
+        Call::Upload { .. } | Call::Finish { .. } | Call::Fail { .. } => unreachable!(),
         Call::Flush { tables, .. } => refusal_of_flush(facts, tables.as_slice()),
         Call::Report { tables, .. } => refusal_of_unknown(&facts.uploads, tables.as_slice()),
+        Call::Refresh
+        | Call::Schedule { .. }
+        | Call::WriteManifest { .. }
+        | Call::WriteRecord
+        | Call::WriteState { .. } => unless_open(facts.epoch),
         _ => None,
     }
 }
@@ -141,8 +161,8 @@ fn begin_upload(
     }
 }
 
-// The options of a pass.
-fn pass_options(
+/// The options of a pass.
+pub(crate) fn pass_options(
     alloc: Global,
     min_age: u64,
     dry_run: bool,
@@ -157,14 +177,18 @@ fn pass_options(
     })
 }
 
-// The first work of a call other than an upload.
+// The first work of a call other than an upload and the end of a compaction.
 fn first_work(alloc: Global, facts: &Facts, call: &Call) -> Result<Work, OutOfMemory>
-    requires { is_upload_call call.now ≡ false }
+    requires { is_other_call call.now ≡ true }
     ensures { IfOk result (λ work. work ≡ calls.first_work facts.now call.now) }
 {
     match call {
-        Call::Upload { .. } => unreachable!(),
-        Call::Claim { .. } | Call::Report { .. } => {
+        Call::Upload { .. } | Call::Finish { .. } | Call::Fail { .. } => unreachable!(),
+        Call::Refresh
+        | Call::Schedule { .. }
+        | Call::WriteRecord
+        | Call::Claim { .. }
+        | Call::Report { .. } => {
             Ok(Work::ReadRecord(Purpose::Once, facts.db, ReadPhase::Listing))
         }
         Call::Pass {
@@ -180,9 +204,9 @@ fn first_work(alloc: Global, facts: &Facts, call: &Call) -> Result<Work, OutOfMe
     }
 }
 
-// How a call other than an upload begins.
+// How a call other than an upload and the end of a compaction begins.
 fn begin_other(alloc: Global, facts: &Facts, call: &Call) -> Result<Onward, OutOfMemory>
-    requires { is_upload_call call.now ≡ false }
+    requires { is_other_call call.now ≡ true }
     ensures { IfOk result (λ next. next_of next ≡ (rows.begin facts.now call.now).next) }
 {
     match refusal_at_start(facts, call) {
@@ -191,244 +215,83 @@ fn begin_other(alloc: Global, facts: &Facts, call: &Call) -> Result<Onward, OutO
     }
 }
 
+// How the end of a compaction begins, by what its party holds after it.
+fn ended(held: Result<LocalState, SlateDBError>) -> Result<Beginning, OutOfMemory>
+    ensures { IfOk result (λ b. EndBegins held (next_of b.next) b.held) }
+{
+    match held {
+        Ok(local) => Ok(Beginning {
+            next: Onward::Finish(Reply::Done),
+            held: Some(local),
+        }),
+        Err(e) => Ok(Beginning {
+            next: Onward::Finish(refuse(e)?),
+            held: None,
+        }),
+    }
+}
+
+// The end of a compaction by a party that isn't open.
+fn not_open() -> Beginning
+    ensures next { next_of result.next ≡ calls.Finish (reply.Refused (errors.InvalidDBState causes.NotOpen)) }
+    ensures held { result.held ≡ None }
+{
+    Beginning {
+        next: Onward::Finish(Reply::Refused(SlateDBError::InvalidDBState(StateCause::NotOpen))),
+        held: None,
+    }
+}
+
+// How a compaction is finished.
+fn begin_finish(alloc: Global, facts: &Facts, id: Ulid) -> Result<Beginning, OutOfMemory>
+    ensures { IfOk result (λ b. rows.begin facts.now (ends.Finish id)
+        ≡ record { facts = with_held b.held facts.now; next = next_of b.next }) }
+{
+    match &facts.local {
+        None => Ok(not_open()),
+        Some(local) => ended(local.finished(alloc, id)),
+    }
+}
+
+// How a compaction fails.
+fn begin_fail(alloc: Global, facts: &Facts, id: Ulid) -> Result<Beginning, OutOfMemory>
+    ensures { IfOk result (λ b. rows.begin facts.now (ends.Fail id)
+        ≡ record { facts = with_held b.held facts.now; next = next_of b.next }) }
+{
+    match &facts.local {
+        None => Ok(not_open()),
+        Some(local) => ended(local.failed(alloc, id)),
+    }
+}
+
+// A call whose start leaves what its party holds.
+fn leaving(next: Onward) -> Beginning
+    ensures next { next_of result.next ≡ next_of next }
+    ensures held { result.held ≡ None }
+{
+    Beginning { next, held: None }
+}
+
 /// How a call of a party begins.
-pub fn begin(alloc: Global, facts: &Facts, call: &Call) -> Result<Onward, OutOfMemory>
-    ensures { IfOk result (λ next. rows.begin facts.now call.now ≡ record { facts = facts.now; next = next_of next }) }
+pub fn begin(alloc: Global, facts: &Facts, call: &Call) -> Result<Beginning, OutOfMemory>
+    ensures { IfOk result (λ b. rows.begin facts.now call.now
+        ≡ record { facts = with_held b.held facts.now; next = next_of b.next }) }
 {
     match call {
-        Call::Upload { table, first, last } => begin_upload(alloc, facts, *table, first, last),
-        _ => begin_other(alloc, facts, call),
-    }
-}
-
-// What is known of an uploaded table.
-fn known_info(alloc: Global, uploads: &Uploads, table: &Ulid) -> Result<SsTableInfo, OutOfMemory>
-    ensures { IfOk result (λ known. known ≡ calls.known_info (info_of table.now uploads.now)) }
-{
-    match uploads.get(table) {
-        Some(info) => info.clone(alloc),
-        None => Ok(SsTableInfo::default()),
-    }
-}
-
-// A table in format version 1, with what is known of it.
-fn uploaded_table(
-    alloc: Global,
-    uploads: &Uploads,
-    table: &Ulid,
-) -> Result<SsTableHandle, OutOfMemory>
-    ensures { IfOk result (λ sst. sst ≡ calls.uploaded_table uploads.now table.now) }
-{
-    Ok(SsTableHandle {
-        id: SsTableId::Compacted(*table),
-        format_version: 1,
-        info: known_info(alloc, uploads, table)?,
-    })
-}
-
-// The outputs of a report, with what is known of them.
-fn uploaded_tables(
-    alloc: Global,
-    uploads: &Uploads,
-    tables: &[Ulid],
-) -> Result<Listed<SsTableHandle>, OutOfMemory>
-    ensures { IfOk result (λ outputs. outputs ≡ map (calls.uploaded_table uploads.now) tables.now) }
-{
-    let mut outputs = Listed::new(alloc);
-    for table in tables {
-        outputs.push(uploaded_table(alloc, uploads, table)?)?;
-    }
-    Ok(outputs)
-}
-
-// A table of a flush, with what is known of it.
-fn flushed_table(
-    alloc: Global,
-    uploads: &Uploads,
-    table: &FlushTable,
-) -> Result<FlushedTable, OutOfMemory>
-    ensures { IfOk result (λ flushed. flushed ≡ calls.flushed_table uploads.now table.now) }
-{
-    Ok(FlushedTable {
-        view: table.view,
-        prefix: Plain::clone(&table.prefix, alloc)?,
-        sst: uploaded_table(alloc, uploads, &table.table)?,
-    })
-}
-
-// The tables of a flush, with what is known of them.
-fn flushed_tables(
-    alloc: Global,
-    uploads: &Uploads,
-    tables: &[FlushTable],
-) -> Result<Listed<FlushedTable>, OutOfMemory>
-    ensures { IfOk result (λ flushed. flushed ≡ map (calls.flushed_table uploads.now) tables.now) }
-{
-    let mut flushed = Listed::new(alloc);
-    for table in tables {
-        flushed.push(flushed_table(alloc, uploads, table)?)?;
-    }
-    Ok(flushed)
-}
-
-// The options of a new checkpoint, as a call names them.
-fn checkpoint_options(
-    alloc: Global,
-    lifetime: Option<u64>,
-    source: Option<CheckpointId>,
-    name: &Option<Text>,
-) -> Result<CheckpointOptions, OutOfMemory>
-    ensures { IfOk result (λ o. o ≡ record { lifetime = lifetime; source = source; name = name.now }) }
-{
-    Ok(CheckpointOptions {
-        lifetime,
-        source,
-        name: Plain::clone(name, alloc)?,
-    })
-}
-
-/// What a call makes of the manifest that was read for a purpose.
-pub(crate) fn change_of(
-    alloc: Global,
-    facts: &Facts,
-    call: &Call,
-    purpose: Purpose,
-) -> Result<ManifestChange, OutOfMemory>
-    ensures { IfOk result (λ change. change ≡ calls.change_of facts.now call.now purpose) }
-{
-    Ok(match call {
-        Call::OpenWriter => ManifestChange::RaiseWriter,
-        Call::Flush {
-            tables,
-            replay_after,
-            next_wal,
-            seq,
-            tick,
-        } => ManifestChange::Flush {
-            writer: facts.epoch,
-            batch: FlushBatch {
-                tables: flushed_tables(alloc, &facts.uploads, tables.as_slice())?,
-                replay_after: *replay_after,
-                next_wal: *next_wal,
-                seq: *seq,
-                tick: *tick,
-            },
-        },
-        Call::WriteCheckpoint {
-            id,
-            lifetime,
-            source,
-            name,
-        } => ManifestChange::WriteCheckpoint {
-            id: *id,
-            options: checkpoint_options(alloc, *lifetime, *source, name)?,
-        },
-        Call::ReplaceCheckpoint {
-            old,
-            id,
-            lifetime,
-            source,
-            name,
-        } => ManifestChange::ReplaceCheckpoint {
-            old: *old,
-            id: *id,
-            options: checkpoint_options(alloc, *lifetime, *source, name)?,
-        },
-        Call::RefreshCheckpoint { id, lifetime } => ManifestChange::RefreshCheckpoint {
-            id: *id,
-            lifetime: *lifetime,
-        },
-        Call::DeleteCheckpoint { id } => ManifestChange::DeleteCheckpoint { id: *id },
-        Call::Upload { .. } | Call::Claim { .. } | Call::Report { .. } | Call::Pass { .. } => {
-            ManifestChange::DropExpired
+        Call::Upload { table, first, last } => {
+            Ok(leaving(begin_upload(alloc, facts, *table, first, last)?))
         }
-    })
-}
-
-/// What a call makes of the record that was read for a purpose, where it is one that reads a record.
-pub(crate) fn record_change_of(
-    alloc: Global,
-    facts: &Facts,
-    call: &Call,
-    _purpose: Purpose,
-) -> Result<Option<RecordChange>, OutOfMemory>
-    ensures { IfOk result (λ change. change ≡ calls.record_change_of facts.now call.now _purpose) }
-{
-    match call {
-        Call::Claim { id } => Ok(Some(RecordChange::Claim {
-            id: *id,
-            worker: facts.number,
-        })),
-        Call::Report { id, tables } => Ok(Some(RecordChange::Report {
-            id: *id,
-            worker: facts.number,
-            outputs: uploaded_tables(alloc, &facts.uploads, tables.as_slice())?,
-        })),
-        _ => Ok(None),
+        Call::Finish { id } => begin_finish(alloc, facts, *id),
+        Call::Fail { id } => begin_fail(alloc, facts, *id),
+        _ => Ok(leaving(begin_other(alloc, facts, call)?)),
     }
 }
 
-/// What follows where a record was committed, or needed no commit.
-pub(crate) fn record_done() -> Onward
-    ensures { next_of result ≡ calls.Finish reply.Done }
+/// Takes what the start of a call changed of what its party holds.
+pub fn take_held(facts: &mut Facts, held: Option<LocalState>)
+    ensures { facts.new ≡ with_held held facts.old }
 {
-    Onward::Finish(Reply::Done)
-}
-
-// The checkpoint of an id, as a reply.
-fn checkpoint_reply(id: CheckpointId, manifest: &Manifest) -> Onward
-    ensures { next_of result ≡ calls.Finish (calls.checkpoint_reply id (checkpoint_at id manifest.now.core.checkpoints)) }
-{
-    match find_checkpoint(manifest.core.checkpoints.as_slice(), &id) {
-        Some(checkpoint) => Onward::Finish(Reply::Checkpoint(
-            checkpoint.id,
-            checkpoint.manifest_id,
-        )),
-        None => Onward::Finish(Reply::Refused(SlateDBError::CheckpointMissing(id))),
-    }
-}
-
-/// What follows where a manifest was committed for a purpose, or needed no commit.
-pub(crate) fn done(
-    alloc: Global,
-    facts: &Facts,
-    call: &Call,
-    purpose: Purpose,
-    manifest: &Manifest,
-) -> Result<Onward, OutOfMemory>
-    ensures { IfOk result (λ next. next_of next ≡ calls.done facts.now call.now purpose manifest.now) }
-{
-    Ok(match call {
-        Call::OpenWriter => Onward::Finish(Reply::Epoch(manifest.writer_epoch)),
-        Call::Upload { .. }
-        | Call::Flush { .. }
-        | Call::Claim { .. }
-        | Call::Report { .. }
-        | Call::DeleteCheckpoint { .. } => Onward::Finish(Reply::Done),
-        Call::WriteCheckpoint { id, .. } => checkpoint_reply(*id, manifest),
-        Call::ReplaceCheckpoint { id, .. } => checkpoint_reply(*id, manifest),
-        Call::RefreshCheckpoint { id, .. } => checkpoint_reply(*id, manifest),
-        Call::Pass {
-            min_age,
-            dry_run,
-            filter,
-            ..
-        } => {
-            let options = pass_options(alloc, *min_age, *dry_run, filter)?;
-            Onward::Go(Work::Pass(facts.db, options, GcPass::Collecting(PassPhase::Listing)))
-        }
-    })
-}
-
-/// Takes what the end of a phrase tells of the party, other than the put of a table: an open that was committed gives its epoch.
-pub(crate) fn learn(facts: &mut Facts, call: &Call, ended: &Ended)
-    requires { is_table_put ended.now ≡ false }
-    ensures { facts.new ≡ calls.facts_after facts.old call.now ended.now }
-{
-    match (call, ended) {
-        (Call::OpenWriter, Ended::ManifestCommitted(Purpose::Once, _, _, manifest)) => {
-            facts.epoch = Some(manifest.writer_epoch);
-        }
-        _ => {}
+    if let Some(local) = held {
+        facts.local = Some(local);
     }
 }

@@ -2,11 +2,15 @@
 #![tactic(auto)]
 
 mod calls;
+mod changes;
+mod followings;
+mod learning;
 mod party_steps;
 mod steps;
 mod uploading;
 mod works;
 
-pub use calls::{Onward, begin};
+pub use calls::{Beginning, Onward, begin, take_held};
+pub use learning::Lesson;
 pub use party_steps::{PartyStep, step_party};
 pub use works::is_due;

@@ -260,6 +260,15 @@ fn record_read_again(work: &mut Work, n: u64, value: Compactions)
     }
 }
 
+// Puts a read that found no record back to its one phase.
+fn record_list_again(work: &mut Work)
+    ensures { work.new ≡ rewinding.record_list_again work.old }
+{
+    if let Work::ReadRecord(_, _, phase) = work {
+        *phase = ReadPhase::Listing;
+    }
+}
+
 // Puts a commit that gave a record back to its last phase.
 fn record_commit_again(work: &mut Work, n: u64, value: Compactions)
     ensures { work.new ≡ rewinding.record_commit_again n value work.old }
@@ -269,7 +278,7 @@ fn record_commit_again(work: &mut Work, n: u64, value: Compactions)
     }
 }
 
-/// Puts a phrase that has just ended with a version back to its last phase.
+/// Puts a phrase that has just ended with a version, or that found no record, back to its last phase.
 pub(crate) fn rewind(work: &mut Work, ended: Ended)
     ensures { work.new ≡ rewinding.rewound ended work.old }
 {
@@ -278,6 +287,7 @@ pub(crate) fn rewind(work: &mut Work, ended: Ended)
         Ended::ManifestCommitted(_, _, n, value) => commit_again(work, n, value),
         Ended::RecordRead(_, _, n, value) => record_read_again(work, n, value),
         Ended::RecordCommitted(_, _, n, value) => record_commit_again(work, n, value),
-        Ended::NoManifest(_) | Ended::NoRecord(_) | Ended::TablePut(_) | Ended::Passed(_) => {}
+        Ended::NoRecord(_) => record_list_again(work),
+        Ended::NoManifest(_) | Ended::TablePut(_) | Ended::Passed(_) => {}
     }
 }

@@ -1,6 +1,6 @@
 use Rattle.std.proofs.Common.{◌≡◌, ◌++◌, drop, map}
 use Rattle.slate_protocol.specs.Calls.{uploaded_table}
-use Rattle.slate_steps.proofs.calls.uploaded_tables.Given as goal
+use Rattle.slate_steps.proofs.changes.uploaded_tables.Given as goal
 
 -- the outputs so far and the tables that are left
 abbrev pub invariant-loop-table : goal.invariant-loop-table

@@ -1,6 +1,6 @@
 use Rattle.std.proofs.Common.{◌≡◌, ◌++◌, drop, map}
 use Rattle.slate_protocol.specs.Calls.{flushed_table}
-use Rattle.slate_steps.proofs.calls.flushed_tables.Given as goal
+use Rattle.slate_steps.proofs.changes.flushed_tables.Given as goal
 
 -- the tables so far and those that are left
 abbrev pub invariant-loop-table : goal.invariant-loop-table
