@@ -244,7 +244,7 @@ const NO_SCRIPT: [(&str, Status, &str); 4] = [
         "bad script database 1\n",
     ),
     (
-        r#"{"databases":[],"events":[{"step":1,"at":1,"times":7},{"open":1,"kind":"compactor","db":"db"}]}"#,
+        r#"{"databases":[],"events":[{"step":1,"at":1,"times":7},{"open":1,"kind":"boss","db":"db"}]}"#,
         Status::BadScript(ScriptPlace::Event(7)),
         "bad script event 7\n",
     ),

@@ -104,10 +104,12 @@ the paths of the objects left, and then ok or the first bad event.
             and with \"mark\" \"fail\" or \"lost\" a call that faults
   stop      {\"stop\":1}
 
-A writer has the calls open_writer, upload and flush; a worker has
-upload, claim and report; a holder has write_checkpoint,
-replace_checkpoint, refresh_checkpoint and delete_checkpoint; a
-collector has pass. A script has at most 1000000 events.
+A writer has the calls open_writer, upload and flush; a compactor has
+open_compactor, refresh, schedule, finish, fail, write_manifest,
+write_record and write_state; a worker has upload, claim and report;
+a holder has write_checkpoint, replace_checkpoint, refresh_checkpoint
+and delete_checkpoint; a collector has pass. A script has at most
+1000000 events.
 docs/FORMAT.md has all fields and lines.
 ",
     ),

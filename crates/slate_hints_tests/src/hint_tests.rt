@@ -202,7 +202,7 @@ const DATABASES: [(&str, &str); 42] = [
 ];
 
 /// The last of three events, after one and 1000 of them, and what is wrong with it.
-const EVENTS: [(&str, &str); 37] = [
+const EVENTS: [(&str, &str); 46] = [
     (r#"[]"#, r#"events[2] has to be an object"#),
     (
         r#"{"go":1}"#,
@@ -214,7 +214,7 @@ const EVENTS: [(&str, &str); 37] = [
     ),
     (
         r#"{"open":1,"kind":"boss","db":"a"}"#,
-        r#"events[2].kind has to be "writer", "worker", "holder" or "collector""#,
+        r#"events[2].kind has to be "writer", "compactor", "worker", "holder" or "collector""#,
     ),
     (
         r#"{"open":1,"kind":"writer","db":""}"#,
@@ -325,6 +325,42 @@ const EVENTS: [(&str, &str); 37] = [
     (
         r#"{"step":1,"at":1,"times":1001}"#,
         r#"events[2].times has to be a whole number from 1 to 1000"#,
+    ),
+    (
+        r#"{"start":1,"call":"open_compactor","id":"1:1"}"#,
+        r#"events[2] has a field "id", which isn't known"#,
+    ),
+    (
+        r#"{"start":1,"call":"refresh","checkpoint":1}"#,
+        r#"events[2] has a field "checkpoint", which isn't known"#,
+    ),
+    (
+        r#"{"start":1,"call":"write_record","checkpoint":1}"#,
+        r#"events[2] has a field "checkpoint", which isn't known"#,
+    ),
+    (
+        r#"{"start":1,"call":"schedule"}"#,
+        r#"events[2] lacks the field "id""#,
+    ),
+    (
+        r#"{"start":1,"call":"finish","id":1}"#,
+        r#"events[2].id has to be a text "ms:tail" of two whole numbers, the first below 2^48, the second below 2^80"#,
+    ),
+    (
+        r#"{"start":1,"call":"fail","id":"1:1","tables":[]}"#,
+        r#"events[2] has a field "tables", which isn't known"#,
+    ),
+    (
+        r#"{"start":1,"call":"write_manifest","id":1}"#,
+        r#"events[2] has a field "id", which isn't known"#,
+    ),
+    (
+        r#"{"start":1,"call":"write_state"}"#,
+        r#"events[2] lacks the field "checkpoint""#,
+    ),
+    (
+        r#"{"start":1,"call":"write_state","checkpoint":"1:1"}"#,
+        r#"events[2].checkpoint has to be a whole number from 0 to 2^64 - 1"#,
     ),
     (
         r#"{"start":1,"call":"claim","id":1}"#,

@@ -6,6 +6,7 @@ use bytes::Bytes;
 use slate_ids::{BytesRange, FieldName, Listed, SlateDBError, Ulid};
 use slate_layout::{encode_compactions, normal_form_compactions};
 use slate_model::{Plain, SsTableHandle, SsTableId, SsTableInfo};
+use slate_record_normality::is_normal_record;
 use slate_records::{
     Compaction, CompactionContext, CompactionSpec, CompactionStatus, Compactions, SourceId,
     Subcompaction,
@@ -168,4 +169,66 @@ fn outputs_of_the_log_and_ranges_without_keys_have_no_bytes(rt: HostRuntime) {
             "at {field:?}"
         );
     }
+}
+
+/// A merge of view 5 and run 7, in this order or the other one.
+fn ordered(rt: &impl Abort, alloc: Global, views_first: bool) -> CompactionSpec {
+    if !views_first {
+        return merge(rt, alloc);
+    }
+    let mut sources = one(rt, alloc, SourceId::SstView(id(5)));
+    sources.push(SourceId::SortedRun(7)).expect(rt, "memory");
+    CompactionSpec::Tiered {
+        segment: Bytes::from("seg"),
+        sources,
+        destination: 3,
+    }
+}
+
+/// Whether a record of one compaction is told as normal: by the order of its sources, whether it is over, and what it goes on with.
+fn told_normal(
+    rt: &impl Abort,
+    alloc: Global,
+    views_first: bool,
+    is_over: bool,
+    retention_min_seq: Option<u64>,
+) -> bool {
+    let compaction = Compaction {
+        id: id(9),
+        spec: ordered(rt, alloc, views_first),
+        status: if is_over {
+            CompactionStatus::Failed
+        } else {
+            CompactionStatus::Running
+        },
+        worker: None,
+        output_ssts: outputs(rt, alloc, true),
+        ctx: Some(CompactionContext {
+            subcompactions: Listed::new(alloc),
+            retention_min_seq,
+        }),
+    };
+    let mut record = Compactions::new(alloc, 4);
+    record.insert(compaction).expect(rt, "memory");
+    is_normal_record(&record)
+}
+
+/// Whether views come first, the compaction is over, its retention is known; and whether the record is normal: outputs stay where it is over.
+const TOLD: [(bool, bool, Option<u64>, bool); 4] = [
+    (true, true, Some(0), true),
+    (false, true, Some(0), false),
+    (true, false, Some(0), false),
+    (true, true, None, false),
+];
+
+#[test]
+fn a_record_that_would_be_read_back_otherwise_is_told(rt: HostRuntime) {
+    for (views_first, is_over, retention, normal) in &TOLD {
+        assert!(rt;
+            told_normal(&rt, rt.alloc(), *views_first, *is_over, *retention) == *normal,
+            "at {views_first:?} {is_over:?} {retention:?}"
+        );
+    }
+    let empty = Compactions::new(rt.alloc(), 7);
+    assert!(rt; is_normal_record(&empty));
 }

@@ -18,6 +18,15 @@ const WHOLE: &str = r#"{"databases":[],
 {"start":1,"call":"flush","tables":[]},
 {"start":1,"call":"flush","tables":[{"table":"5:1","view":"6:2"},{"table":"05:1","view":"7:0","prefix":"p"}],
 "replay_after":18446744073709551615,"next_wal":0,"seq":3,"tick":-9223372036854775808},
+{"open":6,"kind":"compactor","db":"a"},
+{"start":6,"call":"open_compactor"},
+{"start":6,"call":"refresh"},
+{"start":6,"call":"schedule","id":"08:2"},
+{"id":"8:03","start":6,"call":"finish"},
+{"start":6,"call":"fail","id":"281474976710655:1208925819614629174706175"},
+{"start":6,"call":"write_manifest","checkpoint":18446744073709551615},
+{"start":6,"call":"write_record"},
+{"start":6,"checkpoint":0,"call":"write_state"},
 {"open":3,"kind":"worker","db":"a"},
 {"start":3,"call":"claim","id":"08:1"},
 {"start":3,"call":"report","id":"8:1","tables":[]},
@@ -39,7 +48,7 @@ const WHOLE: &str = r#"{"databases":[],
 {"stop":2}]}"#;
 
 /// What its events are.
-const EVENTS: [&str; 27] = [
+const EVENTS: [&str; 36] = [
     "open 1 Writer a",
     "open 4294967295 Holder none",
     "start 1 open writer",
@@ -47,6 +56,15 @@ const EVENTS: [&str; 27] = [
     "start 1 upload 281474976710655:1208925819614629174706175 b\"\\xc3\\xa9\" b\"\"",
     "start 1 flush 0 1 0 0",
     "start 1 flush 6:2>5:1 b\"\" 7:0>5:1 b\"p\" 18446744073709551615 0 3 -9223372036854775808",
+    "open 6 Compactor a",
+    "start 6 open compactor",
+    "start 6 refresh trees",
+    "start 6 schedule 8:2",
+    "start 6 finish 8:3",
+    "start 6 fail 281474976710655:1208925819614629174706175",
+    "start 6 write manifest 18446744073709551615",
+    "start 6 write record",
+    "start 6 write state 0",
     "open 3 Worker a",
     "start 3 claim 8:1",
     "start 3 report 8:1",
@@ -135,6 +153,20 @@ fn push_worker_call(out: &mut String, call: &Call) -> Result<(), AllocError> {
             }
             Ok(())
         }
+        _ => push_compactor_call(out, call),
+    }
+}
+
+fn push_compactor_call(out: &mut String, call: &Call) -> Result<(), AllocError> {
+    match call {
+        Call::OpenCompactor => out.push_str("open compactor"),
+        Call::Refresh => out.push_str("refresh trees"),
+        Call::Schedule { id } => push_ulid(out, "schedule ", *id),
+        Call::Finish { id } => push_ulid(out, "finish ", *id),
+        Call::Fail { id } => push_ulid(out, "fail ", *id),
+        Call::WriteManifest { checkpoint } => push_id(out, "write manifest", checkpoint),
+        Call::WriteRecord => out.push_str("write record"),
+        Call::WriteState { checkpoint } => push_id(out, "write state", checkpoint),
         _ => Ok(()),
     }
 }
@@ -242,11 +274,12 @@ fn texts_that_are_no_script(rt: HostRuntime) {
 }
 
 /// Events of which one is none, with its place.
-const BAD_EVENTS: [(&str, u64); 22] = [
+const BAD_EVENTS: [(&str, u64); 23] = [
     ("1", 0),
     (r#"{"stop":1},{"stop":1,"at":0}"#, 1),
     (r#"{"step":1,"at":0,"times":1000},{}"#, 1000),
-    (r#"{"open":1,"kind":"compactor","db":"a"}"#, 0),
+    (r#"{"open":1,"kind":"boss","db":"a"}"#, 0),
+    (r#"{"open":1,"kind":"Compactor","db":"a"}"#, 0),
     (r#"{"open":1,"kind":"holder","db":"a","stop":1}"#, 0),
     (r#"{"step":1,"at":0,"times":0}"#, 0),
     (r#"{"step":1,"at":0,"times":1001}"#, 0),
@@ -255,7 +288,7 @@ const BAD_EVENTS: [(&str, u64); 22] = [
     (r#"{"step":1,"at":9223372036854775808}"#, 0),
     (r#"{"step":1,"stop":1}"#, 0),
     (r#"{"stop":4294967296}"#, 0),
-    (r#"{"start":1,"call":"refresh"}"#, 0),
+    (r#"{"start":1,"call":"replace"}"#, 0),
     (r#"{"start":1,"call":"write_checkpoint"}"#, 0),
     (
         r#"{"start":1,"call":"write_checkpoint","id":1,"lifetime":-1}"#,
@@ -297,11 +330,11 @@ fn events_that_are_none(rt: HostRuntime) {
     }
 }
 
-/// What stands before the name of a writer's call.
+/// What stands before the name of a call.
 const BEFORE_CALL: &str = r#"{"databases":[],"events":[{"stop":1},{"start":1,"call":"#;
 
-/// Names and fields of uploads, flushes, claims and reports that are none.
-const BAD_CALLS: [&str; 29] = [
+/// Names and fields of calls of writers, compactors and workers that are none.
+const BAD_CALLS: [&str; 52] = [
     r#""upload""#,
     r#""upload","table":"1""#,
     r#""upload","table":1"#,
@@ -322,6 +355,29 @@ const BAD_CALLS: [&str; 29] = [
     r#""flush","tables":[],"tick":9223372036854775808"#,
     r#""flush","tables":[],"tick":null"#,
     r#""flush","tables":[],"id":1"#,
+    r#""open_writer","id":"1:1""#,
+    r#""open_compactor","id":"1:1""#,
+    r#""open_compactor","checkpoint":1"#,
+    r#""refresh","id":"1:1""#,
+    r#""refresh","checkpoint":1"#,
+    r#""schedule""#,
+    r#""schedule","id":1"#,
+    r#""schedule","id":"1:1","checkpoint":1"#,
+    r#""finish""#,
+    r#""finish","id":"1""#,
+    r#""finish","id":"1:1","tables":[]"#,
+    r#""fail""#,
+    r#""fail","id":null"#,
+    r#""fail","id":"1:1","checkpoint":1"#,
+    r#""write_manifest""#,
+    r#""write_manifest","checkpoint":"1""#,
+    r#""write_manifest","id":1"#,
+    r#""write_manifest","checkpoint":1,"lifetime":1"#,
+    r#""write_record","checkpoint":1"#,
+    r#""write_state""#,
+    r#""write_state","checkpoint":"1:1""#,
+    r#""write_state","checkpoint":18446744073709551616"#,
+    r#""write_state","checkpoint":1,"id":1"#,
     r#""claim""#,
     r#""claim","id":1"#,
     r#""claim","id":"1""#,

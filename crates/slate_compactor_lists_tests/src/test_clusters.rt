@@ -1,0 +1,26 @@
+//! Clusters of scripts.
+
+use slate_cluster::Cluster;
+use slate_ids::DbPath;
+use slate_script::{Event, read_script};
+use std::alloc::Global;
+use std::process::Abort;
+
+/// The path `db`.
+pub(crate) fn db(rt: &impl Abort) -> DbPath {
+    DbPath::from_text("db")
+        .expect(rt, "memory")
+        .expect(rt, "a path")
+}
+
+/// The cluster of a script's databases, before any event.
+pub(crate) fn cluster(rt: &impl Abort, alloc: Global, text: &str) -> Cluster {
+    let script = read_script(alloc, text.as_bytes()).expect(rt, "a script");
+    Cluster::new(alloc, script.databases.into_vec()).expect(rt, "a cluster")
+}
+
+/// Does events of which none is bad, with an entry for each.
+pub(crate) fn does(rt: &impl Abort, alloc: Global, cluster: &mut Cluster, events: &[Event]) {
+    let report = cluster.run(alloc, events).expect(rt, "good events");
+    assert!(rt; report.entries.len() == events.len());
+}

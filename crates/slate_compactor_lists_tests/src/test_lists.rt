@@ -1,0 +1,402 @@
+//! Lists of events that are drawn from a seed: compactors, workers, a writer and a holder of one database.
+ghost use Rattle.std.specs.Prelude.{◌<◌};
+
+use crate::test_clusters::db;
+use bytes::Bytes;
+use slate_ids::{CheckpointId, DbPath, Listed, Ulid};
+use slate_script::{Call, Event, FlushTable, PartyKind};
+use slate_store::Mark;
+use std::alloc::Global;
+use std::process::Abort;
+
+// How many bursts of steps a list has after its parties came.
+const DRAWS: u32 = 120;
+
+// How many compactions the opening record has.
+const COMPACTIONS: u64 = 6;
+
+// What is drawn from, and what was drawn so far.
+#[derive(Clone, Copy)]
+struct Draws {
+    // A linear congruence modulo 2^64, of which the upper 31 bits are given.
+    state: u64,
+    moment: i64,
+    // The number of the next party, and that of the next checkpoint.
+    next_party: u32,
+    next_id: u64,
+    // The tail of the next table or view.
+    next_tail: u128,
+    // The table that the worker or writer of each place uploaded last, and the compaction that it claimed last.
+    uploaded: [Option<Ulid>; 6],
+    claimed: [Option<Ulid>; 6],
+    // The compaction that a compactor was to schedule last.
+    scheduled: Ulid,
+    // The place of the compactor that was to open last, which is fenced the least.
+    leading: usize,
+    // The parties of the moment: two compactors, two workers, a writer, a holder.
+    parties: [u32; 6],
+}
+
+impl Draws {
+    // A number below the bound.
+    fn below(&mut self, bound: u64) -> u64
+        requires { 0 < bound }
+        ensures { result < bound }
+    {
+        self.state = self
+            .state
+            .wrapping_mul(6364136223846793005)
+            .wrapping_add(1442695040888963407);
+        (self.state >> 33) % bound
+    }
+
+    // One time in so many.
+    fn once_in(&mut self, times: u64) -> bool
+        requires { 0 < times }
+    {
+        self.below(times) == 0
+    }
+
+    // One of the six places; the leading compactor and the workers have the most.
+    fn place(&mut self) -> usize {
+        match self.below(14) {
+            0 => 0,
+            1 => 1,
+            2 | 3 | 4 | 5 => self.leading,
+            6 | 7 | 8 => 2,
+            9 | 10 | 11 => 3,
+            12 => 4,
+            _ => 5,
+        }
+    }
+
+    fn party_at(&self, place: usize) -> u32 {
+        match self.parties.as_slice().get(place) {
+            Some(party) => *party,
+            None => 0,
+        }
+    }
+
+    // A new party comes at a place.
+    fn comes(&mut self, place: usize) -> u32 {
+        let party = self.next_party;
+        self.next_party = party.saturating_add(1);
+        if let Some(at) = self.parties.as_mut_slice().get_mut(place) {
+            *at = party;
+        }
+        party
+    }
+
+    fn mark(&mut self) -> Mark {
+        match self.below(40) {
+            0 => Mark::Fail,
+            1 => Mark::Lost,
+            _ => Mark::Good,
+        }
+    }
+
+    // Moments rise by up to a tenth of a second.
+    fn moment(&mut self) -> i64 {
+        let span = self.below(100) as i64;
+        self.moment = self.moment.saturating_add(span);
+        self.moment
+    }
+
+    // An id that a start has brought, where there is one.
+    fn known_id(&mut self) -> CheckpointId {
+        let next = self.next_id;
+        CheckpointId::from_u64(if next == 0 { 0 } else { self.below(next) })
+    }
+
+    fn new_id(&mut self) -> CheckpointId {
+        let id = self.next_id;
+        self.next_id = id.saturating_add(1);
+        CheckpointId::from_u64(id)
+    }
+
+    // An id of this many milliseconds that none was before.
+    fn new_ulid(&mut self, ms: u64) -> Ulid {
+        let tail = self.next_tail % (1 << 80);
+        self.next_tail = tail.saturating_add(1);
+        Ulid::from_parts(ms % (1 << 48), tail)
+    }
+
+    // One of the compactions of the opening record.
+    fn compaction(&mut self) -> Ulid {
+        let tail = self.below(COMPACTIONS).saturating_add(1);
+        Ulid::from_parts(10, tail as u128)
+    }
+
+    // A new table of this moment.
+    fn upload(&mut self, place: usize) -> Call {
+        let table = self.new_ulid(self.moment.max(0) as u64);
+        if let Some(uploaded) = self.uploaded.as_mut_slice().get_mut(place) {
+            *uploaded = Some(table);
+        }
+        Call::Upload {
+            table,
+            first: Bytes::from_static(b"a"),
+            last: Bytes::from_static(b"z"),
+        }
+    }
+
+    fn uploaded_at(&self, place: usize) -> Option<Ulid> {
+        match self.uploaded.as_slice().get(place) {
+            Some(table) => *table,
+            None => None,
+        }
+    }
+
+    // A schedule of any compaction.
+    fn schedule(&mut self) -> Call {
+        let id = self.compaction();
+        self.scheduled = id;
+        Call::Schedule { id }
+    }
+
+    // A claim, three times in four of the compaction that was to be scheduled last.
+    fn claim(&mut self, place: usize) -> Call {
+        let id = if self.once_in(4) {
+            self.compaction()
+        } else {
+            self.scheduled
+        };
+        if let Some(claimed) = self.claimed.as_mut_slice().get_mut(place) {
+            *claimed = Some(id);
+        }
+        Call::Claim { id }
+    }
+
+    // The compaction that a worker claimed last; any one before its first claim.
+    fn claimed_at(&mut self, place: usize) -> Ulid {
+        match self.claimed.as_slice().get(place) {
+            Some(Some(id)) => *id,
+            _ => self.compaction(),
+        }
+    }
+
+    // A report of what a worker claimed last, with the table that it uploaded last.
+    fn report(&mut self, rt: &impl Abort, alloc: Global, place: usize) -> Call {
+        let id = self.claimed_at(place);
+        let mut tables = Listed::new(alloc);
+        if let Some(table) = self.uploaded_at(place) {
+            tables.push(table).expect(rt, "memory");
+        }
+        Call::Report { id, tables }
+    }
+
+    // A view of this table, in the tree of the root or of a segment.
+    fn flushed(&mut self, table: Ulid) -> FlushTable {
+        let view = self.new_ulid(0);
+        let prefix = match self.below(3) {
+            0 => Bytes::from_static(b"p"),
+            1 => Bytes::from_static(b"q"),
+            _ => Bytes::new(),
+        };
+        FlushTable {
+            table,
+            view,
+            prefix,
+        }
+    }
+
+    // A flush of the table that the writer uploaded last.
+    fn flush(&mut self, rt: &impl Abort, alloc: Global, place: usize) -> Call {
+        let mut tables = Listed::new(alloc);
+        if let Some(table) = self.uploaded_at(place) {
+            let flushed = self.flushed(table);
+            tables.push(flushed).expect(rt, "memory");
+        }
+        Call::Flush {
+            tables,
+            replay_after: 0,
+            next_wal: 1,
+            seq: 0,
+            tick: 0,
+        }
+    }
+
+    // An open of the compactor of a place.
+    fn open_compactor(&mut self, place: usize) -> Call {
+        self.leading = place;
+        Call::OpenCompactor
+    }
+
+    fn compactor_call(&mut self, place: usize) -> Call {
+        match self.below(24) {
+            0 | 1 | 2 => self.open_compactor(place),
+            3 | 4 => Call::Refresh,
+            5 | 6 | 7 | 8 | 9 | 10 => self.schedule(),
+            11 | 12 | 13 | 14 | 15 => Call::Finish {
+                id: self.compaction(),
+            },
+            16 => Call::Fail {
+                id: self.compaction(),
+            },
+            17 | 18 => Call::WriteManifest {
+                checkpoint: self.new_id(),
+            },
+            19 | 20 => Call::WriteRecord,
+            _ => Call::WriteState {
+                checkpoint: self.new_id(),
+            },
+        }
+    }
+
+    fn worker_call(&mut self, rt: &impl Abort, alloc: Global, place: usize) -> Call {
+        match self.below(6) {
+            0 | 1 => self.claim(place),
+            2 => self.upload(place),
+            _ => self.report(rt, alloc, place),
+        }
+    }
+
+    fn writer_call(&mut self, rt: &impl Abort, alloc: Global, place: usize) -> Call {
+        match self.below(8) {
+            0 => Call::OpenWriter,
+            1 | 2 | 3 => self.upload(place),
+            _ => self.flush(rt, alloc, place),
+        }
+    }
+
+    fn holder_call(&mut self) -> Call {
+        match self.below(3) {
+            0 => Call::DeleteCheckpoint {
+                id: self.known_id(),
+            },
+            _ => Call::WriteCheckpoint {
+                id: self.new_id(),
+                lifetime: None,
+                source: None,
+                name: None,
+            },
+        }
+    }
+
+    // The first call of a place: compactors and the writer open.
+    fn first_call(&mut self, rt: &impl Abort, alloc: Global, place: usize) -> Call {
+        match place {
+            0 | 1 => self.open_compactor(place),
+            4 => Call::OpenWriter,
+            _ => self.call(rt, alloc, place),
+        }
+    }
+
+    // A call that the kind of a place has.
+    fn call(&mut self, rt: &impl Abort, alloc: Global, place: usize) -> Call {
+        match place {
+            0 | 1 => self.compactor_call(place),
+            2 | 3 => self.worker_call(rt, alloc, place),
+            4 => self.writer_call(rt, alloc, place),
+            _ => self.holder_call(),
+        }
+    }
+}
+
+// The kind of the parties at a place.
+fn kind_at(place: usize) -> PartyKind {
+    match place {
+        0 | 1 => PartyKind::Compactor,
+        2 | 3 => PartyKind::Worker,
+        4 => PartyKind::Writer,
+        _ => PartyKind::Holder,
+    }
+}
+
+fn push(rt: &impl Abort, events: &mut Vec<Event>, event: Event) {
+    events.push(event).expect(rt, "memory");
+}
+
+// A new party comes at a place.
+fn open(rt: &impl Abort, events: &mut Vec<Event>, draws: &mut Draws, db: DbPath, place: usize) {
+    let party = draws.comes(place);
+    let kind = kind_at(place);
+    let open = Event::open(*events.allocator(), party, kind, db).expect(rt, "memory");
+    push(rt, events, open);
+}
+
+// The party at a place starts this call.
+fn start_call(rt: &impl Abort, events: &mut Vec<Event>, draws: &Draws, place: usize, call: Call) {
+    let party = draws.party_at(place);
+    let start = Event::start(*events.allocator(), party, call).expect(rt, "memory");
+    push(rt, events, start);
+}
+
+// The party at a place starts its first call.
+fn start_first(rt: &impl Abort, events: &mut Vec<Event>, draws: &mut Draws, place: usize) {
+    let call = draws.first_call(rt, *events.allocator(), place);
+    start_call(rt, events, draws, place, call);
+}
+
+// The party at a place starts a call.
+fn start(rt: &impl Abort, events: &mut Vec<Event>, draws: &mut Draws, place: usize) {
+    let call = draws.call(rt, *events.allocator(), place);
+    start_call(rt, events, draws, place, call);
+}
+
+// So many steps of the party at a place.
+fn steps(rt: &impl Abort, events: &mut Vec<Event>, draws: &mut Draws, place: usize, times: u64) {
+    let party = draws.party_at(place);
+    for _ in 0..times {
+        let moment = draws.moment();
+        let mark = draws.mark();
+        push(
+            rt,
+            events,
+            Event::Step {
+                party,
+                moment,
+                mark,
+            },
+        );
+    }
+}
+
+// A party stops, and a new one of its kind comes in its place and starts its first call.
+fn replace(rt: &impl Abort, events: &mut Vec<Event>, draws: &mut Draws, db: DbPath, place: usize) {
+    let party = draws.party_at(place);
+    push(rt, events, Event::Stop { party });
+    open(rt, events, draws, db, place);
+    start_first(rt, events, draws, place);
+}
+
+// What comes next: now and then a party that is replaced, else half the time a start, and always some steps.
+fn draw(rt: &impl Abort, events: &mut Vec<Event>, draws: &mut Draws, db: DbPath) {
+    let place = draws.place();
+    if draws.once_in(60) {
+        replace(rt, events, draws, db, place);
+    } else if draws.once_in(2) {
+        start(rt, events, draws, place);
+    }
+    let times = draws.below(12).saturating_add(1);
+    steps(rt, events, draws, place, times);
+}
+
+/// The list of a seed. Two compactors, two workers, a writer and a holder come, each starts a call, the compactors and the writer to
+/// open, and then it goes on as it is drawn.
+pub(crate) fn generated(rt: &impl Abort, alloc: Global, seed: u64) -> Vec<Event> {
+    let db = db(rt);
+    let mut events = Vec::new(alloc);
+    let mut draws = Draws {
+        state: seed,
+        moment: 1000,
+        next_party: 0,
+        next_id: 1,
+        next_tail: 1,
+        uploaded: [None; 6],
+        claimed: [None; 6],
+        scheduled: Ulid::from_parts(10, 2),
+        leading: 0,
+        parties: [0; 6],
+    };
+    for place in 0..6 {
+        open(rt, &mut events, &mut draws, db, place);
+    }
+    for place in 0..6 {
+        start_first(rt, &mut events, &mut draws, place);
+    }
+    for _ in 0..DRAWS {
+        draw(rt, &mut events, &mut draws, db);
+    }
+    events
+}
