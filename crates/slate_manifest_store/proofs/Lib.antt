@@ -1,4 +1,2 @@
 pub mod NoFaults
-mod ReferencedFaults
 mod Missing
-mod NamedOnce

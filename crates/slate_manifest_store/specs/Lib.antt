@@ -1,3 +1,1 @@
 pub mod Manifests
-pub mod Named
-pub mod Referenced

@@ -13,19 +13,18 @@ ghost use Rattle.slate_log.specs.declared.read_phase.ReadPhase.TheVariants as re
 ghost use Rattle.slate_log.specs.declared.try_read_phase.TryReadPhase.TheVariants as tries;
 ghost use Rattle.slate_checked_delete.specs.CheckedDelete.{checked_asks, checked_due, checked_goes};
 ghost use Rattle.slate_manifest_store.specs.Manifests.{latest, latest_or_none, manifest_decoded, manifest_names, needed_goes, present_at, read_goes_as};
-ghost use Rattle.slate_manifest_store.specs.Referenced.{referenced_due, referenced_open, referenced_start, ReferencedSteps};
+ghost use Rattle.slate_referenced.specs.Referenced.{referenced_due, referenced_open, referenced_start, ReferencedSteps};
 ghost use Rattle.slate_replies.specs.Replies.{step_as};
 ghost use Rattle.slate_checked_delete.specs.declared.checked_delete_phase.CheckedDeletePhase.TheVariants as checks;
 ghost use Rattle.slate_store.specs.Machines.{Steps};
 
-use crate::manifest_map::ManifestMap;
 use crate::manifest_names::ManifestNames;
 use crate::manifest_store::{ManifestStore, latest, latest_or_none, present};
-use crate::referenced_phase::ReferencedPhase;
 use slate_checked_delete::CheckedDeletePhase;
 use slate_ids::{Listed, Millis, NumberRange, OutOfMemory};
 use slate_log::{AdvancePhase, DeletePhase, ListPhase, ReadPhase, TryReadPhase};
 use slate_model::{Manifest, VersionedManifest};
+use slate_referenced::{ManifestMap, ReferencedPhase};
 use slate_store::{ObjectMetadata, ObjectStore, Step};
 use std::alloc::Global;
 

@@ -10,17 +10,16 @@ ghost use Rattle.slate_log.specs.Versions.{list_asks, list_reply, versions_of, A
 ghost use Rattle.slate_log.specs.declared.log_kind.LogKind.TheVariants as logs;
 ghost use Rattle.slate_checked_delete.specs.CheckedDelete.{CheckedBegan, CheckedRan};
 ghost use Rattle.slate_manifest_store.specs.Manifests.{latest, latest_or_none, manifest_decoded, manifest_got, manifest_names, manifest_needed, present, ReadAs};
-ghost use Rattle.slate_manifest_store.specs.Referenced.{entries_of, Referenced};
+ghost use Rattle.slate_referenced.specs.Referenced.{entries_of, Referenced};
 ghost use Rattle.slate_store.specs.declared.store_call.StoreCall.TheVariants as calls;
 
-use crate::manifest_map::into_map;
 use crate::manifest_names::ManifestNames;
-use crate::referenced_phase::read_named;
 use slate_checked_delete::delete_checked;
 use slate_ids::{DbPath, Millis, NumberRange, SlateDBError};
 use slate_layout::ManifestCodec;
 use slate_log::{LogKind, Sequenced};
 use slate_model::{Manifest, VersionedManifest};
+use slate_referenced::{into_map, read_named};
 use slate_store::{ObjectMetadata, ObjectStore};
 use std::alloc::Global;
 use std::collections::BTreeMap;

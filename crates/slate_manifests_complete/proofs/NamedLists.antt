@@ -11,8 +11,8 @@ use Rattle.std.proofs.lemmas.List.Folds.{list_any-append}
 use Rattle.slate_model.specs.declared.checkpoint.Checkpoint.{Checkpoint}
 use Rattle.slate_model.specs.declared.manifest.Manifest.{Manifest}
 use Rattle.slate_updates.specs.Checkpoints.{is_named}
-use Rattle.slate_manifest_store.specs.Named.{with_name, named_from}
-use Rattle.slate_manifest_store.specs.Referenced.{Versions}
+use Rattle.slate_referenced.specs.Named.{with_name, named_from}
+use Rattle.slate_referenced.specs.Referenced.{Versions}
 use Rattle.slate_manifests_complete.specs.ReadingNamed.{at_number}
 
 pub same_told : (a b : ℕ) → (a == b) ≡ true → a ≡ b

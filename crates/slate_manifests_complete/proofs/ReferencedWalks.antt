@@ -23,10 +23,10 @@ use Rattle.slate_complete.specs.Ready.{bytes_of}
 use Rattle.slate_complete.specs.Serving.{Serves}
 use Rattle.slate_complete.proofs.Inside.{out_inside, same_error}
 use Rattle.slate_complete.proofs.Turns.{Rest, step, ended, before}
-use Rattle.slate_manifest_store.specs.Named.{named_numbers}
-use Rattle.slate_manifest_store.specs.Referenced.{Versions, ReferencedGoes, Referenced, ReadsAll, number_goes, rest_goes, referenced_asks, referenced_goes}
-use Rattle.slate_manifest_store.specs.declared.referenced_phase.ReferencedPhase.{ReferencedPhase}
-use Rattle.slate_manifest_store.specs.declared.referenced_phase.ReferencedPhase.TheVariants.{Getting, Over}
+use Rattle.slate_referenced.specs.Named.{named_numbers}
+use Rattle.slate_referenced.specs.Referenced.{Versions, ReferencedGoes, Referenced, ReadsAll, number_goes, rest_goes, referenced_asks, referenced_goes}
+use Rattle.slate_referenced.specs.declared.referenced_phase.ReferencedPhase.{ReferencedPhase}
+use Rattle.slate_referenced.specs.declared.referenced_phase.ReferencedPhase.TheVariants.{Getting, Over}
 use Rattle.slate_manifests_complete.specs.ReadingNamed.{at_number, IsNamedBy, IsStored, ReferencedAnswers}
 use Rattle.slate_manifests_complete.specs.ReadingNamed.ReferencedAnswers.{AreRead, IsMissing, Undecoded}
 use Rattle.slate_manifests_complete.proofs.NamedLists.{same_told, other_told, same_number, not_same, has_number, named_tell, found_put, found_else}

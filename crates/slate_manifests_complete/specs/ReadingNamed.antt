@@ -10,7 +10,7 @@ use Rattle.slate_log.specs.declared.log_kind.LogKind.TheVariants as logs
 use Rattle.slate_model.specs.declared.manifest.Manifest.{Manifest}
 use Rattle.slate_updates.specs.Checkpoints.{is_named}
 use Rattle.slate_complete.specs.Ready.{version_at}
-use Rattle.slate_manifest_store.specs.Referenced.{Versions}
+use Rattle.slate_referenced.specs.Referenced.{Versions}
 
 -- the manifest of a number
 abbrev pub at_number : ℕ → Versions → Option Manifest

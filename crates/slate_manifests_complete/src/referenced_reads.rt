@@ -7,7 +7,7 @@ ghost use Rattle.slate_store.specs.Store.{Store};
 ghost use Rattle.slate_model.specs.declared.manifest.Manifest.{Manifest};
 ghost use Rattle.slate_complete.specs.Outside.{NeverOutside, NotOutside};
 ghost use Rattle.slate_complete.specs.Serving.{Serves};
-ghost use Rattle.slate_manifest_store.specs.Referenced.{Referenced, Versions};
+ghost use Rattle.slate_referenced.specs.Referenced.{Referenced, Versions};
 ghost use Rattle.slate_manifests_complete.specs.ReadingNamed.{ReferencedAnswers};
 
 /// Over a store that serves it, a read of the versions that a manifest's checkpoints name gives the manifest handed in, and each other

@@ -1,5 +1,5 @@
 use Rattle.std.proofs.Common.{ap, sym, ◌∙◌}
-use Rattle.slate_manifest_store.specs.Referenced.{entries_of}
+use Rattle.slate_referenced.specs.Referenced.{entries_of}
 use Rattle.slate_manifest_store.proofs.NoFaults.{decoding_fine}
 use Rattle.slate_manifest_store.proofs.manifest_store.ManifestStore.read_referenced_manifests.Goals as goal
 

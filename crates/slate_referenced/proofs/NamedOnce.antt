@@ -5,7 +5,7 @@ use Rattle.std.proofs.lemmas.Bool.Decides.{Decides-eqb}
 use Rattle.std.proofs.lemmas.List.Folds.{list_any-append}
 use Rattle.slate_model.specs.declared.checkpoint.Checkpoint.{Checkpoint}
 use Rattle.slate_updates.specs.Checkpoints.{is_named}
-use Rattle.slate_manifest_store.specs.Named.{each_once, has_number, named_from, named_numbers, with_name}
+use Rattle.slate_referenced.specs.Named.{each_once, has_number, named_from, named_numbers, with_name}
 
 -- ---- tests
 

@@ -1,11 +1,12 @@
 //! Reading the versions that a manifest's checkpoints name.
-ghost use Rattle.std.specs.Prelude.{◌≡◌, ◌<◌, true, false, drop, length, IfOk};
+ghost use Rattle.std.specs.Prelude.{◌≡◌, ◌<◌, ◌∷◌, [], true, false, drop, length, IfOk};
+ghost use Rattle.slate_referenced.specs.Named.{named_numbers};
 ghost use Rattle.slate_ids.specs.Answers.{Gives, OrMemory};
 ghost use Rattle.slate_log.specs.Due.{StillDue, FaultOf, FaultRose, NoFault, WhereOut, NeverOut};
 ghost use Rattle.slate_log.specs.TryRead.{try_reply};
-ghost use Rattle.slate_manifest_store.specs.Referenced.{number_asks, number_goes, referenced_asks, referenced_due, referenced_goes};
-ghost use Rattle.slate_manifest_store.specs.Referenced.{referenced_open, referenced_rank, referenced_start, rest_goes, found_goes, ReadsAll, Referenced, ReferencedBegan, ReferencedRan, ReferencedSteps};
-ghost use Rattle.slate_manifest_store.specs.declared.referenced_phase.ReferencedPhase.TheVariants.{Getting};
+ghost use Rattle.slate_referenced.specs.Referenced.{number_asks, number_goes, referenced_asks, referenced_due, referenced_goes};
+ghost use Rattle.slate_referenced.specs.Referenced.{referenced_open, referenced_rank, referenced_start, rest_goes, found_goes, ReadsAll, Referenced, ReferencedBegan, ReferencedRan, ReferencedSteps};
+ghost use Rattle.slate_referenced.specs.declared.referenced_phase.ReferencedPhase.TheVariants.{Getting};
 ghost use Rattle.slate_store.specs.Machines.{GoesOn, GoesOnAlways, IsAgain, Steps};
 
 use crate::manifest_map::ManifestMap;
@@ -18,7 +19,7 @@ use std::alloc::Global;
 use std::mem;
 
 /// Where the reading stands.
-#[derive(Drop)]
+#[derive(Debug, Drop)]
 pub enum ReferencedPhase {
     /// The numbers that are left to get, and the manifests so far.
     Getting(NumberQueue, ManifestMap),
@@ -44,17 +45,31 @@ fn manifest_got<C: ObjectCodec<Manifest>>(
 }
 
 impl ReferencedPhase {
-    // The reading of the versions that a manifest's checkpoints name.
-    pub(crate) fn start(
-        alloc: Global,
-        n: u64,
-        manifest: &Manifest,
-    ) -> Result<ReferencedPhase, OutOfMemory>
+    /// The reading of the versions that a manifest's checkpoints name.
+    pub fn start(alloc: Global, n: u64, manifest: &Manifest) -> Result<ReferencedPhase, OutOfMemory>
         ensures { IfOk result (λ phase. phase ≡ referenced_start n manifest.now) }
     {
         let left = NumberQueue::named(alloc, n, manifest.core.checkpoints.as_slice())?;
         let found = ManifestMap::of(alloc, n, Plain::clone(manifest, alloc)?)?;
         Ok(ReferencedPhase::Getting(left, found))
+    }
+
+    /// The same, and its first step: it ends at once where no other version is named.
+    pub fn begin(
+        alloc: Global,
+        n: u64,
+        manifest: &Manifest,
+    ) -> Result<(ReferencedPhase, Step<ManifestMap>), OutOfMemory>
+        ensures goes { IfOk result (λ begun. GoesOnAlways
+            (rest_goes (named_numbers n manifest.now.core.checkpoints) ((n, manifest.now) ∷ [])) begun.0 begun.1) }
+        ensures more { IfOk result (λ begun. IsAgain begun.1 → referenced_due begun.0 ≡ true) }
+        ensures memory { IfOk result (λ begun. NeverOut begun.1) }
+    {
+        let left = NumberQueue::named(alloc, n, manifest.core.checkpoints.as_slice())?;
+        let found = ManifestMap::of(alloc, n, Plain::clone(manifest, alloc)?)?;
+        let mut phase = ReferencedPhase::Over;
+        let step = phase.rest(left, found);
+        Ok((phase, step))
     }
 
     /// The call that is due. Takes no memory.
@@ -144,8 +159,9 @@ impl ReferencedPhase {
         }
     }
 
-    // Goes on from the answer to the get of the first number.
-    fn goes_on<C: ObjectCodec<Manifest>>(
+    /// Goes on from the answer to the get of the first number. Running out of memory leaves the phase as it was, and any other end
+    /// leaves no call due.
+    pub fn goes_on<C: ObjectCodec<Manifest>>(
         &mut self,
         alloc: Global,
         sequenced: &Sequenced<Manifest, C>,
@@ -254,7 +270,7 @@ impl ReferencedPhase {
     }
 
     // Reads all that is left: no call is made where nothing is.
-    pub(crate) fn run<C: ObjectCodec<Manifest>, S: ObjectStore>(
+    fn run<C: ObjectCodec<Manifest>, S: ObjectStore>(
         &mut self,
         alloc: Global,
         sequenced: &Sequenced<Manifest, C>,
@@ -276,8 +292,8 @@ impl ReferencedPhase {
     }
 }
 
-// Reads the versions that a manifest's checkpoints name.
-pub(crate) fn read_named<C: ObjectCodec<Manifest>, S: ObjectStore>(
+/// Reads the versions that a manifest's checkpoints name.
+pub fn read_named<C: ObjectCodec<Manifest>, S: ObjectStore>(
     alloc: Global,
     sequenced: &Sequenced<Manifest, C>,
     store: &mut S,

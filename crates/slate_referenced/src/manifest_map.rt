@@ -2,7 +2,7 @@
 ghost use Rattle.std.specs.Prelude.{◌≡◌, ◌∷◌, [], IfOk, OnOk, OnErr};
 ghost use Rattle.std.specs.BTreeMap.{insert_entry};
 ghost use Rattle.std.specs.Ordering.{nat_cmp};
-ghost use Rattle.slate_manifest_store.specs.Referenced.{entries_of};
+ghost use Rattle.slate_referenced.specs.Referenced.{entries_of};
 
 use slate_ids::{OutOfMemory, SlateDBError};
 use slate_model::Manifest;
@@ -11,7 +11,7 @@ use std::collections::BTreeMap;
 use std::marker::Model;
 
 /// Manifests by their numbers, which contracts see as the list of them, ascending.
-#[derive(Drop)]
+#[derive(Debug, Drop)]
 pub struct ManifestMap {
     manifests: BTreeMap<u64, Manifest>,
 }
@@ -26,6 +26,22 @@ impl Model for ManifestMap {
 }
 
 impl ManifestMap {
+    /// No manifests. Takes no memory.
+    pub fn new(alloc: Global) -> ManifestMap
+        ensures { result ≡ [] }
+    {
+        ManifestMap {
+            manifests: BTreeMap::new(alloc),
+        }
+    }
+
+    /// The ordered map of them.
+    pub fn as_map(&self) -> &BTreeMap<u64, Manifest>
+        ensures { result.now.entries ≡ self.now }
+    {
+        &self.manifests
+    }
+
     // The map of this one manifest.
     pub(crate) fn of(
         alloc: Global,
@@ -56,8 +72,8 @@ impl ManifestMap {
     }
 }
 
-// The ordered map of those that were read.
-pub(crate) fn into_map(
+/// The ordered map of those that were read.
+pub fn into_map(
     reply: Result<ManifestMap, SlateDBError>,
 ) -> Result<BTreeMap<u64, Manifest>, SlateDBError>
     ensures { entries_of result ≡ reply }

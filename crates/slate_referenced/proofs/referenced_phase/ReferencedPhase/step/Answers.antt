@@ -2,9 +2,9 @@ use Rattle.std.proofs.Common.{w64}
 use Rattle.std.proofs.lemmas.Int.{to_z-of_z}
 use Rattle.slate_log.proofs.Faults.{step_rose}
 use Rattle.slate_log.proofs.Steps.{goes_steps}
-use Rattle.slate_manifest_store.specs.Referenced.{referenced_asks, referenced_goes}
-use Rattle.slate_manifest_store.proofs.ReferencedFaults.{referenced_faults, referenced_reads}
-use Rattle.slate_manifest_store.proofs.referenced_phase.ReferencedPhase.step.Goals as goal
+use Rattle.slate_referenced.specs.Referenced.{referenced_asks, referenced_goes}
+use Rattle.slate_referenced.proofs.ReferencedFaults.{referenced_faults, referenced_reads}
+use Rattle.slate_referenced.proofs.referenced_phase.ReferencedPhase.step.Goals as goal
 
 pub returns-in-Ok : goal.returns-in-Ok
 returns-in-Ok g c =

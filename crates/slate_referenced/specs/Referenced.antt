@@ -20,9 +20,9 @@ use Rattle.slate_store.specs.declared.step.Step.TheVariants.{Done}
 use Rattle.slate_store.specs.declared.store_answer.StoreAnswer.{StoreAnswer}
 use Rattle.slate_store.specs.declared.store_call.StoreCall.{StoreCall}
 use Rattle.slate_store.specs.declared.store_call.StoreCall.TheVariants.{Get}
-use Rattle.slate_manifest_store.specs.Named.{named_numbers}
-use Rattle.slate_manifest_store.specs.declared.referenced_phase.ReferencedPhase.{ReferencedPhase}
-use Rattle.slate_manifest_store.specs.declared.referenced_phase.ReferencedPhase.TheVariants.{Getting, Over}
+use Rattle.slate_referenced.specs.Named.{named_numbers}
+use Rattle.slate_referenced.specs.declared.referenced_phase.ReferencedPhase.{ReferencedPhase}
+use Rattle.slate_referenced.specs.declared.referenced_phase.ReferencedPhase.TheVariants.{Getting, Over}
 
 -- versions by their numbers, ascending
 abbrev pub Versions : Type 0

@@ -16,14 +16,15 @@ use Rattle.slate_log.specs.TryRead.{some_value, value_got}
 use Rattle.slate_log.specs.declared.log_kind.LogKind.TheVariants as logs
 use Rattle.slate_log.proofs.Faults.{OnlyFaults, Fine, fine_stay, fine_ok, fine_err, sound_at, get_answers}
 use Rattle.slate_model.specs.declared.manifest.Manifest.{Manifest}
-use Rattle.slate_manifest_store.specs.Referenced.{Versions, ReferencedGoes, IfNone, first_number, number_asks, number_goes, rest_goes, referenced_asks, referenced_due, referenced_goes, ReferencedSteps, ReadsAll, ReferencedBegan, ReferencedRan}
-use Rattle.slate_manifest_store.specs.declared.referenced_phase.ReferencedPhase.{ReferencedPhase}
-use Rattle.slate_manifest_store.specs.declared.referenced_phase.ReferencedPhase.TheVariants.{Getting, Over}
+use Rattle.slate_referenced.specs.Referenced.{Versions, ReferencedGoes, IfNone, first_number, number_asks, number_goes, rest_goes, referenced_asks, referenced_due, referenced_goes, ReferencedSteps, ReadsAll, ReferencedBegan, ReferencedRan}
+use Rattle.slate_referenced.specs.declared.referenced_phase.ReferencedPhase.{ReferencedPhase}
+use Rattle.slate_referenced.specs.declared.referenced_phase.ReferencedPhase.TheVariants.{Getting, Over}
 
-abbrev FineRead : ReferencedGoes → Type 0
+abbrev pub FineRead : ReferencedGoes → Type 0
 FineRead out = Fine referenced_due out
 
-fine_rest : (left : List ℕ) (found : Versions) → FineRead (rest_goes left found)
+-- the rest of the reading ends in no fault
+pub fine_rest : (left : List ℕ) (found : Versions) → FineRead (rest_goes left found)
 fine_rest [] found = fine_ok referenced_due Over found
 fine_rest (n ∷ left) found = fine_stay referenced_due (Getting (n ∷ left) found) refl
 

@@ -1,8 +1,8 @@
 use Rattle.std.proofs.Common.{◌≡◌, pos, true}
 use Rattle.slate_store.specs.Runs.{Running}
 use Rattle.slate_log.specs.Commit.{never}
-use Rattle.slate_manifest_store.specs.Referenced.{referenced_asks, referenced_goes, referenced_due, referenced_rank}
-use Rattle.slate_manifest_store.proofs.referenced_phase.ReferencedPhase.drive.Given as goal
+use Rattle.slate_referenced.specs.Referenced.{referenced_asks, referenced_goes, referenced_due, referenced_rank}
+use Rattle.slate_referenced.proofs.referenced_phase.ReferencedPhase.drive.Given as goal
 
 -- the run so far, which stands at this phase
 abbrev pub invariant-loop-result : goal.invariant-loop-result

@@ -1,8 +1,8 @@
 //! A queue of numbers.
 ghost use Rattle.std.specs.Prelude.{◌≡◌, ◌==◌, ◌++◌, ◌∷◌, [], drop, IfOk, OnOk, OnErr, length};
 ghost use Rattle.std.specs.List.{list_any};
-ghost use Rattle.slate_manifest_store.specs.Named.{named_numbers, with_name};
-ghost use Rattle.slate_manifest_store.specs.Referenced.{first_number};
+ghost use Rattle.slate_referenced.specs.Named.{named_numbers, with_name};
+ghost use Rattle.slate_referenced.specs.Referenced.{first_number};
 
 use slate_ids::OutOfMemory;
 use slate_model::Checkpoint;

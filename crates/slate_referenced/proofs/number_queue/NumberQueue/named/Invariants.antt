@@ -1,6 +1,6 @@
 use Rattle.std.proofs.Common.{◌≡◌, drop}
-use Rattle.slate_manifest_store.specs.Named as spec
-use Rattle.slate_manifest_store.proofs.number_queue.NumberQueue.named.Given as goal
+use Rattle.slate_referenced.specs.Named as spec
+use Rattle.slate_referenced.proofs.number_queue.NumberQueue.named.Given as goal
 
 -- the numbers so far, with those that the checkpoints left name
 abbrev pub invariant-loop-checkpoint : goal.invariant-loop-checkpoint

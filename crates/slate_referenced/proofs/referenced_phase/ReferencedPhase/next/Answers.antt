@@ -1,7 +1,7 @@
 use Rattle.std.proofs.Common.{w64, sym, ◌∙◌}
 use Rattle.std.proofs.lemmas.Int.{to_z-of_z}
-use Rattle.slate_manifest_store.proofs.ReferencedFaults.{steps_at}
-use Rattle.slate_manifest_store.proofs.referenced_phase.ReferencedPhase.next.Goals as goal
+use Rattle.slate_referenced.proofs.ReferencedFaults.{steps_at}
+use Rattle.slate_referenced.proofs.referenced_phase.ReferencedPhase.next.Goals as goal
 
 pub returns-then-due-clause-steps : goal.returns-then-due-clause-steps
 returns-then-due-clause-steps g c =

@@ -1,9 +1,9 @@
 use Rattle.slate_ids.specs.Answers.{OrMemory-map}
 use Rattle.slate_store.specs.Runs.{goes_further, done_with}
 use Rattle.slate_log.proofs.Faults.{call_rose}
-use Rattle.slate_manifest_store.proofs.ReferencedFaults.{referenced_faults}
+use Rattle.slate_referenced.proofs.ReferencedFaults.{referenced_faults}
 use Rattle.std.proofs.Common.{refl}
-use Rattle.slate_manifest_store.proofs.referenced_phase.ReferencedPhase.drive.Goals as goal
+use Rattle.slate_referenced.proofs.referenced_phase.ReferencedPhase.drive.Goals as goal
 
 pub returns-in-Done : goal.returns-in-Done
 returns-in-Done g c =

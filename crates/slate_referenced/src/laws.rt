@@ -1,6 +1,6 @@
 //! Which versions a manifest's checkpoints name.
 ghost use Rattle.std.specs.Prelude.{◌≡◌, ◌==◌, ℕ, List, true, false};
-ghost use Rattle.slate_manifest_store.specs.Named.{each_once, has_number, named_numbers};
+ghost use Rattle.slate_referenced.specs.Named.{each_once, has_number, named_numbers};
 ghost use Rattle.slate_model.specs.declared.checkpoint.Checkpoint.{Checkpoint as AnyCheckpoint};
 ghost use Rattle.slate_updates.specs.Checkpoints.{is_named};
 

@@ -1,0 +1,2 @@
+pub mod ReferencedFaults
+mod NamedOnce
