@@ -1,0 +1,17 @@
+-- A step of what follows the removal, as a step of the whole pass.
+use Rattle.std.specs.Prelude.{◌≡◌, ℤ, Option}
+use Rattle.std.proofs.Common.{inl, inr, ap, sym, ◌∙◌}
+use Rattle.slate_passes.specs.GcPhase.{collect_on, moment_after}
+use Rattle.slate_passes.specs.Pass.{PassGoes}
+use Rattle.slate_passes.specs.declared.gc_phase.GcPhase.TheVariants.{Collecting}
+use Rattle.slate_passes.specs.declared.pass_counts.PassCounts.{PassCounts}
+use Rattle.slate_passes.specs.declared.pass_phase.PassPhase.{PassPhase}
+use Rattle.slate_store.specs.Machines.{GoesOn, Stay, End}
+use Rattle.slate_store.specs.declared.step.Step.{Step}
+use Rattle.slate_store.specs.declared.step.Step.TheVariants.{Again, Done}
+
+pub collected : (at new : Option ℤ) (now : ℤ) (out : PassGoes) (from to : PassPhase) (step : Step PassCounts) → new ≡ moment_after at now step → GoesOn out from to step
+    → GoesOn (collect_on at now out) (Collecting at from) (Collecting new to) step
+collected at new now out from to Again e h = ap (collect_on at now) h ∙ ap (λ (o : Option ℤ). Stay (Collecting o to)) (sym e)
+collected at new now out from to (Done r) e (inl h) = inl (ap (collect_on at now) h ∙ ap (λ (o : Option ℤ). End (Collecting o to) r) (sym e))
+collected at new now out from to (Done r) e (inr ran) = inr (ran.0, ap (λ (o : Option ℤ). Collecting o to) e ∙ ap (Collecting at) ran.1)

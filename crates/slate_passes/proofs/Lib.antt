@@ -1,0 +1,6 @@
+mod Always
+mod Starts
+mod PassFaults
+mod Collected
+mod GcFaults
+mod Exactly

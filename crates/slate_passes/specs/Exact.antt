@@ -1,0 +1,117 @@
+-- What a pass deletes along its answers, and what it picked of what it read.
+use Rattle.std.specs.Prelude.{◌≡◌, ℕ, ℤ, nat_le, List, [], ◌∷◌, ◌++◌, Option, Some, None, option_to_list, Ok, if◌then◌else◌}
+use Rattle.std.specs.Option.{option_or}
+use Rattle.slate_log.specs.Boundary.{boundary_got}
+use Rattle.slate_model.specs.declared.manifest.Manifest.{Manifest}
+use Rattle.slate_passes.specs.Candidates.{candidates}
+use Rattle.slate_passes.specs.GcPhase.{GcGoes, gc_goes, gc_start, moment_of_pass}
+use Rattle.slate_passes.specs.Rows.{reads_greatest}
+use Rattle.slate_passes.specs.Ways.{Ways}
+use Rattle.slate_passes.specs.declared.gc_phase.GcPhase.{GcPhase}
+use Rattle.slate_passes.specs.declared.gc_phase.GcPhase.TheVariants.{Reading, Committing, Collecting}
+use Rattle.slate_passes.specs.declared.heads.Heads.{Heads}
+use Rattle.slate_passes.specs.declared.pass_counts.PassCounts.{PassCounts}
+use Rattle.slate_passes.specs.declared.pass_phase.PassPhase.{PassPhase}
+use Rattle.slate_passes.specs.declared.pass_phase.PassPhase.TheVariants.{ReadingRecord, ReadingManifest, Fetching, Listing, Getting, Bounding, Advancing, Deleting, Over}
+use Rattle.slate_passes.specs.declared.pass_settings.PassSettings.{PassSettings}
+use Rattle.slate_picks.specs.Filter.{picks}
+use Rattle.slate_picks.specs.Queue.{first_object}
+use Rattle.slate_store.specs.Machines.{Stay, End}
+use Rattle.slate_store.specs.declared.object.ObjectMetadata.{ObjectMetadata}
+use Rattle.slate_store.specs.declared.store_answer.StoreAnswer.{StoreAnswer}
+use Rattle.slate_store.specs.declared.store_answer.StoreAnswer.TheVariants.{Found, Got, Created, Replaced, Written, Deleted, Fault}
+
+-- an answer, with the moment of its call
+abbrev pub Answered : Type 0
+Answered = StoreAnswer × ℤ
+
+-- where a pass stands after answers
+abbrev pub stands_after : Ways → PassSettings → GcGoes → List Answered → GcGoes
+stands_after ways settings goes [] = goes
+stands_after ways settings (Stay p) (a ∷ answers) = stands_after ways settings (gc_goes ways settings a.1 p a.0) answers
+stands_after ways settings (End p r) (a ∷ answers) = End p r
+
+-- ---- what is deleted
+
+-- the object that is to be deleted, while a pass deletes
+abbrev pub object_in : PassPhase → Option ObjectMetadata
+object_in (ReadingRecord phase) = None
+object_in (ReadingManifest least phase) = None
+object_in (Fetching heads phase) = None
+object_in (Listing heads versions) = None
+object_in (Getting n listed found) = None
+object_in (Bounding n listed found) = None
+object_in (Advancing phase left counts) = None
+object_in (Deleting left counts) = first_object left
+object_in Over = None
+
+abbrev pub to_delete : GcPhase → Option ObjectMetadata
+to_delete (Reading phase) = None
+to_delete (Committing now phase) = None
+to_delete (Collecting at phase) = object_in phase
+
+-- the objects whose deletes were answered, in order; a delete that faulted is one of them
+abbrev pub deleted_along : Ways → PassSettings → GcGoes → List Answered → List ObjectMetadata
+deleted_along ways settings goes [] = []
+deleted_along ways settings (Stay p) (a ∷ answers) = option_to_list (to_delete p) ++ deleted_along ways settings (gc_goes ways settings a.1 p a.0) answers
+deleted_along ways settings (End p r) (a ∷ answers) = []
+
+-- ---- what is picked
+
+-- of what was listed, where the pass reads nothing after its list
+abbrev pub picked_of_list : Ways → PassSettings → ℤ → Heads → List (ℕ × Manifest) → StoreAnswer → Option (List ObjectMetadata)
+picked_of_list ways settings now heads versions (Found found) =
+    if reads_greatest settings.pass then None else Some (picks ways.allows settings.options.dry_run (candidates ways.files settings.options.min_age now heads versions found settings.pass))
+picked_of_list ways settings now heads versions (Got object) = None
+picked_of_list ways settings now heads versions (Created tag) = None
+picked_of_list ways settings now heads versions (Replaced tag) = None
+picked_of_list ways settings now heads versions (Written tag) = None
+picked_of_list ways settings now heads versions Deleted = None
+picked_of_list ways settings now heads versions Fault = None
+
+-- of the candidates, where the boundary is below the greatest manifest
+abbrev pub picked_above : Ways → PassSettings → ℕ → List ObjectMetadata → Option ℕ → Option (List ObjectMetadata)
+picked_above ways settings n found None = None
+picked_above ways settings n found (Some boundary) = if nat_le n boundary then None else Some (picks ways.allows settings.options.dry_run found)
+
+abbrev pub picked_of_boundary : Ways → PassSettings → ℕ → List ObjectMetadata → StoreAnswer → Option (List ObjectMetadata)
+picked_of_boundary ways settings n found (Got object) = picked_above ways settings n found (boundary_got object)
+picked_of_boundary ways settings n found (Found listed) = None
+picked_of_boundary ways settings n found (Created tag) = None
+picked_of_boundary ways settings n found (Replaced tag) = None
+picked_of_boundary ways settings n found (Written tag) = None
+picked_of_boundary ways settings n found Deleted = None
+picked_of_boundary ways settings n found Fault = None
+
+-- what a pass picks of the answer that ends its reads
+abbrev pub picked_in : Ways → PassSettings → ℤ → PassPhase → StoreAnswer → Option (List ObjectMetadata)
+picked_in ways settings now (ReadingRecord phase) answer = None
+picked_in ways settings now (ReadingManifest least phase) answer = None
+picked_in ways settings now (Fetching heads phase) answer = None
+picked_in ways settings now (Listing heads versions) answer = picked_of_list ways settings now heads versions answer
+picked_in ways settings now (Getting n listed found) answer = None
+picked_in ways settings now (Bounding n listed found) answer = picked_of_boundary ways settings n found answer
+picked_in ways settings now (Advancing phase left counts) answer = None
+picked_in ways settings now (Deleting left counts) answer = None
+picked_in ways settings now Over answer = None
+
+abbrev pub picked_at : Ways → PassSettings → ℤ → GcPhase → StoreAnswer → Option (List ObjectMetadata)
+picked_at ways settings moment (Reading phase) answer = None
+picked_at ways settings moment (Committing now phase) answer = None
+picked_at ways settings moment (Collecting at phase) answer = picked_in ways settings (moment_of_pass at moment) phase answer
+
+-- what a pass picked of what it read, along its answers; none before it has read all
+abbrev pub picked_along : Ways → PassSettings → GcGoes → List Answered → Option (List ObjectMetadata)
+picked_along ways settings goes [] = None
+picked_along ways settings (Stay p) (a ∷ answers) = option_or (picked_at ways settings a.1 p a.0) (picked_along ways settings (gc_goes ways settings a.1 p a.0) answers)
+picked_along ways settings (End p r) (a ∷ answers) = None
+
+abbrev pub or_nothing : Option (List ObjectMetadata) → List ObjectMetadata
+or_nothing None = []
+or_nothing (Some objects) = objects
+
+-- a pass has deleted a front of what it picked, in order; where it ended without a refusal, all of it
+pub record IsExact (ways : Ways) (settings : PassSettings) (answers : List Answered) : Type 0 where
+  pub left : List ObjectMetadata
+  pub front : deleted_along ways settings (Stay gc_start) answers ++ left ≡ or_nothing (picked_along ways settings (Stay gc_start) answers)
+  pub whole : (p : GcPhase) (counts : PassCounts) → stands_after ways settings (Stay gc_start) answers ≡ End p (Ok counts) → left ≡ []

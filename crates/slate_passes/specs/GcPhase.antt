@@ -1,0 +1,99 @@
+-- A whole pass: the expired checkpoints are removed, by a read and a commit where there are any; then it collects.
+use Rattle.std.specs.Prelude.{◌≡◌, ◌⊎◌, ℕ, ℤ, Bool, true, false, List, Option, Some, None, Result, Ok, Err}
+use Rattle.slate_ids.specs.declared.error.SlateDBError.{SlateDBError}
+use Rattle.slate_ids.specs.declared.error.SlateDBError.TheVariants.{LatestTransactionalObjectVersionMissing}
+use Rattle.slate_ids.specs.declared.gc_message.GcMessage.{GcMessage}
+use Rattle.slate_log.specs.CommitPhase.{CommitGoes, commit_asks, commit_goes, commit_due}
+use Rattle.slate_log.specs.ReadPhase.{Reply, read_asks, read_goes, read_due}
+use Rattle.slate_log.specs.declared.commit_phase.CommitPhase.{CommitPhase}
+use Rattle.slate_log.specs.declared.log_kind.LogKind.TheVariants as logs
+use Rattle.slate_log.specs.declared.read_phase.ReadPhase.TheVariants as reading
+use Rattle.slate_model.specs.declared.manifest.Manifest.{Manifest}
+use Rattle.slate_passes.specs.Pass.{PassGoes, first_phase, is_reading_phase, pass_asks, pass_due, pass_goes}
+use Rattle.slate_passes.specs.Ways.{Ways}
+use Rattle.slate_passes.specs.declared.gc_phase.GcPhase.{GcPhase}
+use Rattle.slate_passes.specs.declared.gc_phase.GcPhase.TheVariants.{Reading, Committing, Collecting}
+use Rattle.slate_passes.specs.declared.pass_counts.PassCounts.{PassCounts}
+use Rattle.slate_passes.specs.declared.pass_settings.PassSettings.{PassSettings}
+use Rattle.slate_store.specs.Calls.{Told, is_reading}
+use Rattle.slate_store.specs.Machines.{Goes, Stay, End}
+use Rattle.slate_store.specs.declared.step.Step.{Step}
+use Rattle.slate_store.specs.declared.step.Step.TheVariants.{Again, Done}
+use Rattle.slate_store.specs.declared.store_answer.StoreAnswer.{StoreAnswer}
+use Rattle.slate_store.specs.declared.store_call.StoreCall.{StoreCall}
+use Rattle.slate_updates.specs.Changes.{commit_of}
+use Rattle.slate_updates.specs.declared.manifest_change.ManifestChange.TheVariants.{DropExpired}
+
+-- a pass at its start
+abbrev pub gc_start : GcPhase
+gc_start = Reading reading.Listing
+
+-- the one call of each phase
+abbrev pub gc_asks : List ℕ → GcMessage → GcPhase → StoreCall
+gc_asks db pass (Reading phase) = read_asks db logs.Manifest phase
+gc_asks db pass (Committing now phase) = commit_asks db logs.Manifest phase
+gc_asks db pass (Collecting at phase) = pass_asks db pass phase
+
+-- whether a call is due
+abbrev pub gc_due : GcPhase → Bool
+gc_due (Reading phase) = read_due phase
+gc_due (Committing now phase) = commit_due phase
+gc_due (Collecting at phase) = pass_due phase
+
+-- where memory may run out after the call: while the pass reads
+abbrev pub may_run_out : GcPhase → Bool
+may_run_out (Reading phase) = true
+may_run_out (Committing now phase) = false
+may_run_out (Collecting at phase) = is_reading_phase phase
+
+-- no call was made, or one that only reads
+abbrev pub WroteNothing : Told → Told → StoreCall → Type 0
+WroteNothing old new call = (new ≡ old) ⊎ (is_reading call ≡ true)
+
+-- how a whole pass goes on
+abbrev pub GcGoes : Type 0
+GcGoes = Goes GcPhase PassCounts
+
+-- the pass is to collect, and has made no call for it
+abbrev pub collects : GcMessage → GcGoes
+collects pass = Stay (Collecting None (first_phase pass))
+
+-- the expired checkpoints are removed where there are any; then the pass collects
+abbrev pub removal_goes : GcMessage → ℤ → Result (Option (CommitPhase Manifest)) SlateDBError → GcGoes
+removal_goes pass now (Ok (Some commit)) = Stay (Committing now commit)
+removal_goes pass now (Ok None) = collects pass
+removal_goes pass now (Err e) = End (Reading reading.Over) (Err e)
+
+-- after a step of the read: the removal is made of the latest manifest, at the moment of the step
+abbrev pub read_on : (Manifest → Result (List ℕ) SlateDBError) → GcMessage → ℤ → Reply Manifest → GcGoes
+read_on bytes_of pass now (Stay phase) = Stay (Reading phase)
+read_on bytes_of pass now (End phase (Ok None)) = End (Reading phase) (Err LatestTransactionalObjectVersionMissing)
+read_on bytes_of pass now (End phase (Ok (Some version))) = removal_goes pass now (commit_of bytes_of DropExpired now version.0 version.1)
+read_on bytes_of pass now (End phase (Err e)) = End (Reading phase) (Err e)
+
+-- after a step of the commit: once it stands the pass collects
+abbrev pub commit_on : GcMessage → ℤ → CommitGoes Manifest → GcGoes
+commit_on pass now (Stay phase) = Stay (Committing now phase)
+commit_on pass now (End phase (Ok version)) = collects pass
+commit_on pass now (End phase (Err e)) = End (Committing now phase) (Err e)
+
+-- after a step of what follows: once it made a call the pass has its moment
+abbrev pub collect_on : Option ℤ → ℤ → PassGoes → GcGoes
+collect_on at now (Stay phase) = Stay (Collecting (Some now) phase)
+collect_on at now (End phase r) = End (Collecting at phase) r
+
+-- the moment of a pass: that of its first call after the removal
+abbrev pub moment_of_pass : Option ℤ → ℤ → ℤ
+moment_of_pass None moment = moment
+moment_of_pass (Some now) moment = now
+
+-- the moment that a pass has after a step
+abbrev pub moment_after : {R : Type 0} → Option ℤ → ℤ → Step R → Option ℤ
+moment_after at now Again = Some now
+moment_after at now (Done r) = at
+
+-- how the whole pass goes on from the answer at this moment
+abbrev pub gc_goes : Ways → PassSettings → ℤ → GcPhase → StoreAnswer → GcGoes
+gc_goes ways settings moment (Reading phase) answer = read_on ways.bytes_of settings.pass moment (read_goes logs.Manifest ways.manifest_of phase answer)
+gc_goes ways settings moment (Committing made phase) answer = commit_on settings.pass made (commit_goes phase answer)
+gc_goes ways settings moment (Collecting at phase) answer = collect_on at (moment_of_pass at moment) (pass_goes ways settings (moment_of_pass at moment) phase answer)

@@ -1,0 +1,59 @@
+//! The candidates that a filter allows.
+ghost use Rattle.std.specs.Prelude.{◌≡◌, IfOk, option_copied};
+ghost use Rattle.slate_picks.specs.Filter as filters;
+ghost use Rattle.slate_picks.specs.Keys.{IsObjectSet};
+
+use crate::gc_filter::GcFilter;
+use crate::keeping::push_if;
+use crate::object_key::ObjectKey;
+use slate_ids::{Listed, OutOfMemory};
+use slate_store::ObjectMetadata;
+use std::alloc::Global;
+use std::collections::BTreeSet;
+
+// These objects as a set.
+fn set_of(alloc: Global, objects: &[ObjectMetadata]) -> Result<BTreeSet<ObjectKey>, OutOfMemory>
+    ensures { IfOk result (λ set. IsObjectSet set objects.now) }
+{
+    let mut set = BTreeSet::new(alloc);
+    for object in objects {
+        set.insert(ObjectKey::of(alloc, object)?)?;
+    }
+    Ok(set)
+}
+
+// The candidates that were returned, in their order.
+fn retained(
+    alloc: Global,
+    returned: &[ObjectMetadata],
+    candidates: &[ObjectMetadata],
+) -> Result<Listed<ObjectMetadata>, OutOfMemory>
+    ensures { IfOk result (λ objects. objects ≡ filters.retained returned.now candidates.now) }
+{
+    let set = set_of(alloc, returned)?;
+    let mut objects = Listed::new(alloc);
+    for object in candidates {
+        let keeps = set.contains(&ObjectKey::of(alloc, object)?);
+        push_if(alloc, keeps, &mut objects, object)?;
+    }
+    Ok(objects)
+}
+
+/// The candidates that the filter returned, in their order; all of them without a filter. What the filter returned that is no candidate
+/// counts for nothing, and an object is a candidate only where all that a list tells of it is the same. Takes `n log n` steps.
+pub fn retain_allowed_by_gc_filter<F: GcFilter>(
+    alloc: Global,
+    filter: Option<&F>,
+    candidates: Vec<ObjectMetadata>,
+) -> Result<Vec<ObjectMetadata>, OutOfMemory>
+    ensures { IfOk result (λ objects. objects.items
+        ≡ filters.allowed F.returns (option_copied filter.entry) candidates.items) }
+{
+    match filter {
+        None => Ok(candidates),
+        Some(filter) => {
+            let returned = filter.filter(alloc, candidates.as_slice())?;
+            Ok(retained(alloc, returned.as_slice(), candidates.as_slice())?.into_vec())
+        }
+    }
+}
