@@ -1,17 +1,7 @@
 -- What is said of some objects, of one more.
-use Rattle.std.specs.Prelude.{ℕ, ◌+◌, ◌<◌, Bool, true, false, List, [], ◌∷◌, ◌++◌, length, map, filter, Option, if◌then◌else◌}
-use Rattle.std.proofs.Common.{◌≡◌, refl, sym, ◌∙◌, ap, drop, get_or, append_assoc}
+use Rattle.std.specs.Prelude.{ℕ, ◌+◌, ◌<◌, Bool, true, false, List, [], ◌∷◌, ◌++◌, length, filter, if◌then◌else◌}
+use Rattle.std.proofs.Common.{◌≡◌, sym, ◌∙◌, ap, drop, get_or, append_assoc}
 use Rattle.std.proofs.lemmas.List.{drop_more}
-use Rattle.slate_log.specs.Boundary.{greater, greatest_from}
-use Rattle.slate_log.specs.LogPaths.{number_of}
-use Rattle.slate_log.specs.declared.log_kind.LogKind.{LogKind}
-use Rattle.slate_store.specs.declared.object.ObjectMetadata.{ObjectMetadata}
-
--- the greatest number of one more
-pub greatest-push : {X : Type 0} (log : LogKind) (f : X → ObjectMetadata) (best : Option ℕ) (xs : List X) (x : X)
-    → greatest_from log best (map f (xs ++ x ∷ [])) ≡ greater (greatest_from log best (map f xs)) (number_of log (f x).location)
-greatest-push log f best [] x = refl
-greatest-push log f best (y ∷ xs) x = greatest-push log f (greater best (number_of log (f y).location)) xs x
 
 by_test : {X : Type 0} (test : X → Bool) (b : Bool) (kept : List X) (x : X) (rest : List X) → b ≡ test x → (if b then kept ++ x ∷ [] else kept) ++ filter test rest ≡ kept ++ filter test (x ∷ rest)
 by_test test true kept x rest e = append_assoc kept (x ∷ []) (filter test rest) ∙ ap (λ (t : Bool). kept ++ (if t then x ∷ filter test rest else filter test rest)) e

@@ -1,17 +1,14 @@
 //! A queue of listed objects.
 ghost use Rattle.std.specs.Prelude.{◌≡◌, ◌++◌, ◌∷◌, [], drop, length, not, option_copied, OnOk, OnErr};
-ghost use Rattle.slate_log.specs.Boundary as boundaries;
 ghost use Rattle.slate_picks.specs.Queue.{first_object, has_object};
 
 use slate_ids::OutOfMemory;
-use slate_log::{LogKind, greater};
 use slate_store::ObjectMetadata;
 use std::alloc::Global;
 use std::collections::VecDeque;
 use std::marker::Model;
 
-/// Listed objects in order, which contracts see as the list of them. No call takes longer the more objects there are, but `greatest`,
-/// which looks at each once.
+/// Listed objects in order, which contracts see as the list of them. No call takes longer the more objects there are.
 #[derive(Debug, Drop)]
 pub struct Objects {
     objects: VecDeque<ObjectMetadata>,
@@ -71,16 +68,5 @@ impl Objects {
         ensures { result ≡ not (has_object self.now) }
     {
         self.objects.is_empty()
-    }
-
-    /// The greatest number of a version of this log among them, where there is one. Takes no memory.
-    pub fn greatest(&self, log: LogKind) -> Option<u64>
-        ensures { result ≡ boundaries.greatest log self.now }
-    {
-        let mut best = None;
-        for object in &self.objects {
-            best = greater(best, log.number_of(&object.location));
-        }
-        best
     }
 }

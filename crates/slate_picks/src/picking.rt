@@ -4,10 +4,25 @@ ghost use Rattle.slate_picks.specs.Filter as filters;
 
 use crate::gc_filter::GcFilter;
 use crate::objects::Objects;
-use crate::retaining::retain_allowed_by_gc_filter;
+use crate::retaining::asked;
 use slate_ids::{Listed, OutOfMemory};
 use slate_store::{ObjectMetadata, copy_listing};
 use std::alloc::Global;
+
+// The candidates that the filter allows.
+fn allowed<F: GcFilter>(
+    alloc: Global,
+    filter: Option<&F>,
+    candidates: &[ObjectMetadata],
+) -> Result<Listed<ObjectMetadata>, OutOfMemory>
+    ensures { IfOk result (λ objects. objects
+        ≡ filters.allowed F.returns (option_copied filter.entry) candidates.now) }
+{
+    match filter {
+        None => copy_listing(alloc, candidates),
+        Some(filter) => asked(alloc, filter, candidates),
+    }
+}
 
 // The objects in a queue.
 fn queued(alloc: Global, objects: Vec<ObjectMetadata>) -> Result<Objects, OutOfMemory>
@@ -33,9 +48,5 @@ pub fn picks<F: GcFilter>(
     if dry_run {
         return Ok(Objects::new(alloc));
     }
-    let copied: Listed<ObjectMetadata> = copy_listing(alloc, candidates)?;
-    queued(
-        alloc,
-        retain_allowed_by_gc_filter(alloc, filter, copied.into_vec())?,
-    )
+    queued(alloc, allowed(alloc, filter, candidates)?.into_vec())
 }

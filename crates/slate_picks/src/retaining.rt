@@ -39,6 +39,19 @@ fn retained(
     Ok(objects)
 }
 
+/// The candidates that a filter returns, in their order.
+pub(crate) fn asked<F: GcFilter>(
+    alloc: Global,
+    filter: &F,
+    candidates: &[ObjectMetadata],
+) -> Result<Listed<ObjectMetadata>, OutOfMemory>
+    ensures { IfOk result (λ objects. objects
+        ≡ filters.retained (F.returns filter.now candidates.now) candidates.now) }
+{
+    let returned = filter.filter(alloc, candidates)?;
+    retained(alloc, returned.as_slice(), candidates)
+}
+
 /// The candidates that the filter returned, in their order; all of them without a filter. What the filter returned that is no candidate
 /// counts for nothing, and an object is a candidate only where all that a list tells of it is the same. Takes `n log n` steps.
 pub fn retain_allowed_by_gc_filter<F: GcFilter>(
@@ -51,9 +64,6 @@ pub fn retain_allowed_by_gc_filter<F: GcFilter>(
 {
     match filter {
         None => Ok(candidates),
-        Some(filter) => {
-            let returned = filter.filter(alloc, candidates.as_slice())?;
-            Ok(retained(alloc, returned.as_slice(), candidates.as_slice())?.into_vec())
-        }
+        Some(filter) => Ok(asked(alloc, filter, candidates.as_slice())?.into_vec()),
     }
 }
