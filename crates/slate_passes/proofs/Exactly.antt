@@ -1,4 +1,4 @@
--- A pass deletes exactly what it picked of what it read.
+-- A pass deletes exactly what it picked of what it read, and counts it.
 use Rattle.std.specs.Prelude.{◌≡◌, ℕ, ℤ, nat_le, Bool, true, false, List, [], ◌∷◌, ◌++◌, length, Option, Some, None, Result, Ok, Err, if◌then◌else◌, refl}
 use Rattle.std.specs.Option.{option_or}
 use Rattle.std.proofs.Common.{ap, ◌∙◌}
@@ -19,7 +19,7 @@ use Rattle.slate_log.specs.declared.read_phase.ReadPhase.TheVariants as reading
 use Rattle.slate_model.specs.declared.manifest.Manifest.{Manifest}
 use Rattle.slate_passes.specs.Candidates.{heads_at}
 use Rattle.slate_passes.specs.Counts.{one_deleted, one_failed}
-use Rattle.slate_passes.specs.Exact.{Answered, IsExact, deleted_along, or_nothing, picked_above, picked_along, picked_at, picked_of_boundary, picked_of_list, stands_after}
+use Rattle.slate_passes.specs.Exact.{Answered, Chosen, IsExact, chosen, counted_along, counts_before, deleted_along, or_nothing, picked_above, picked_along, picked_at, picked_of_boundary, picked_of_list, stands_after, with_delete}
 use Rattle.slate_passes.specs.GcPhase.{GcGoes, collect_on, collects, commit_on, gc_goes, moment_of_pass, read_on, removal_goes}
 use Rattle.slate_passes.specs.Pass.{advance_to, advanced_goes, bound_goes, bounded_goes, chosen_goes, decoded_goes, deletes_next, fetched_goes, first_phase, get_goes, got_goes, is_reading_phase, list_goes, manifest_goes, manifests_goes, record_goes}
 use Rattle.slate_passes.specs.Rows.{reads_greatest, target}
@@ -34,7 +34,7 @@ use Rattle.slate_passes.specs.declared.pass_settings.PassSettings.{PassSettings}
 use Rattle.slate_picks.specs.Filter.{picks}
 use Rattle.slate_records.specs.Records.{Record}
 use Rattle.slate_referenced.specs.Referenced.{ReferencedGoes, referenced_goes}
-use Rattle.slate_store.specs.Machines.{Goes, Stay, End}
+use Rattle.slate_store.specs.Machines.{Stay, End}
 use Rattle.slate_store.specs.declared.object.ObjectMetadata.{ObjectMetadata}
 use Rattle.slate_store.specs.declared.object.StoredObject.{StoredObject}
 use Rattle.slate_store.specs.declared.store_answer.StoreAnswer.{StoreAnswer}
@@ -45,72 +45,81 @@ use Rattle.slate_updates.specs.declared.manifest_change.ManifestChange.TheVarian
 at_end : (p q : GcPhase) (r : Result PassCounts SlateDBError) (counts : PassCounts) → End p r ≡ End q (Ok counts) → r ≡ Ok counts
 at_end p q r counts e = cc
 
+same_counts : (r : Result PassCounts SlateDBError) (a b : PassCounts) → r ≡ Ok a → r ≡ Ok b → b ≡ a
+same_counts r a b e f = cc
+
 module _ (ways : Ways) (settings : PassSettings) where
-  -- along answers from here, a front of these objects is deleted, and all of them at an end without a refusal
-  record Deletes (goes : GcGoes) (answers : List Answered) (objects : List ObjectMetadata) : Type 0 where
+  -- along answers from here, a front of these objects is deleted; at an end without a refusal all of them, and these counts are moved by
+  -- the answers
+  record Deletes (goes : GcGoes) (answers : List Answered) (objects : List ObjectMetadata) (before : PassCounts) : Type 0 where
     pub left : List ObjectMetadata
     pub front : deleted_along ways settings goes answers ++ left ≡ objects
-    pub whole : (p : GcPhase) (counts : PassCounts) → stands_after ways settings goes answers ≡ End p (Ok counts) → left ≡ []
+    pub whole : (p : GcPhase) (counts : PassCounts) → stands_after ways settings goes answers ≡ End p (Ok counts) → (left ≡ []) × (counts ≡ counted_along ways settings goes answers before)
 
   -- nothing is deleted after an end
-  ended : (p : GcPhase) (r : Result PassCounts SlateDBError) (answers : List Answered) (objects : List ObjectMetadata) → ((counts : PassCounts) → r ≡ Ok counts → objects ≡ []) → Deletes (End p r) answers objects
-  ended p r [] objects h = record { left = objects; front = refl; whole = λ q counts e. h counts (at_end p q r counts e) }
-  ended p r (a ∷ answers) objects h = record { left = objects; front = refl; whole = λ q counts e. h counts (at_end p q r counts e) }
+  ended : (p : GcPhase) (r : Result PassCounts SlateDBError) (answers : List Answered) (objects : List ObjectMetadata) (before : PassCounts) → ((counts : PassCounts) → r ≡ Ok counts → (objects ≡ []) × (counts ≡ before)) → Deletes (End p r) answers objects before
+  ended p r [] objects before h = record { left = objects; front = refl; whole = λ q counts e. h counts (at_end p q r counts e) }
+  ended p r (a ∷ answers) objects before h = record { left = objects; front = refl; whole = λ q counts e. h counts (at_end p q r counts e) }
 
-  refused : (p : GcPhase) (e : SlateDBError) (answers : List Answered) (objects : List ObjectMetadata) → Deletes (End p (Err e)) answers objects
-  refused p e answers objects = ended p (Err e) answers objects (λ counts same. absurd cc)
+  refused : (p : GcPhase) (e : SlateDBError) (answers : List Answered) (objects : List ObjectMetadata) (before : PassCounts) → Deletes (End p (Err e)) answers objects before
+  refused p e answers objects before = ended p (Err e) answers objects before (λ counts same. absurd cc)
 
   -- before the first answer
-  still : (p : GcPhase) (objects : List ObjectMetadata) → Deletes (Stay p) [] objects
-  still p objects = record { left = objects; front = refl; whole = λ q counts e. absurd cc }
+  still : (p : GcPhase) (objects : List ObjectMetadata) (before : PassCounts) → Deletes (Stay p) [] objects before
+  still p objects before = record { left = objects; front = refl; whole = λ q counts e. absurd cc }
 
   -- ---- the deletes, and the advance before them
 
   one_deletes : (now moment : ℤ) (m : ObjectMetadata) (left : List ObjectMetadata) (counts : PassCounts) (answers : List Answered)
-      → ((c : PassCounts) → Deletes (collect_on (Some now) now (deletes_next left c)) answers left) → (answer : StoreAnswer) → Deletes (gc_goes ways settings moment (Collecting (Some now) (Deleting (m ∷ left) counts)) answer) answers left
-  one_deletes now moment m left counts answers again (Found found) = refused _ StoreFault answers left
-  one_deletes now moment m left counts answers again (Got object) = refused _ StoreFault answers left
-  one_deletes now moment m left counts answers again (Created tag) = refused _ StoreFault answers left
-  one_deletes now moment m left counts answers again (Replaced tag) = refused _ StoreFault answers left
-  one_deletes now moment m left counts answers again (Written tag) = refused _ StoreFault answers left
+      → ((c : PassCounts) → Deletes (collect_on (Some now) now (deletes_next left c)) answers left c) → (answer : StoreAnswer)
+      → Deletes (gc_goes ways settings moment (Collecting (Some now) (Deleting (m ∷ left) counts)) answer) answers left (with_delete answer counts)
+  one_deletes now moment m left counts answers again (Found found) = refused _ StoreFault answers left _
+  one_deletes now moment m left counts answers again (Got object) = refused _ StoreFault answers left _
+  one_deletes now moment m left counts answers again (Created tag) = refused _ StoreFault answers left _
+  one_deletes now moment m left counts answers again (Replaced tag) = refused _ StoreFault answers left _
+  one_deletes now moment m left counts answers again (Written tag) = refused _ StoreFault answers left _
   one_deletes now moment m left counts answers again Deleted = again (one_deleted counts)
   one_deletes now moment m left counts answers again Fault = again (one_failed counts)
 
-  from_deletes : (answers : List Answered) (at : Option ℤ) (now : ℤ) (left : List ObjectMetadata) (counts : PassCounts) → Deletes (collect_on at now (deletes_next left counts)) answers left
-  from_deletes answers at now [] counts = ended (Collecting at Over) (Ok counts) answers [] (λ c e. refl)
-  from_deletes [] at now (m ∷ left) counts = still _ (m ∷ left)
+  from_deletes : (answers : List Answered) (at : Option ℤ) (now : ℤ) (left : List ObjectMetadata) (counts : PassCounts) → Deletes (collect_on at now (deletes_next left counts)) answers left counts
+  from_deletes answers at now [] counts = ended (Collecting at Over) (Ok counts) answers [] counts (λ c e. (refl, same_counts (Ok counts) counts c refl e))
+  from_deletes [] at now (m ∷ left) counts = still _ (m ∷ left) counts
   from_deletes (a ∷ answers) at now (m ∷ left) counts =
       let d = one_deletes now a.1 m left counts answers (λ c. from_deletes answers (Some now) now left c) a.0 in
       record { left = d.left; front = ap (λ (ms : List ObjectMetadata). m ∷ ms) d.front; whole = d.whole }
 
   one_advance : (now : ℤ) (left : List ObjectMetadata) (counts : PassCounts) (answers : List Answered)
-      → ((next : AdvancePhase) → Deletes (Stay (Collecting (Some now) (Advancing next left counts))) answers left) → (out : AdvanceGoes) → Deletes (collect_on (Some now) now (advanced_goes left counts out)) answers left
+      → ((next : AdvancePhase) → Deletes (Stay (Collecting (Some now) (Advancing next left counts))) answers left counts) → (out : AdvanceGoes) → Deletes (collect_on (Some now) now (advanced_goes left counts out)) answers left counts
   one_advance now left counts answers again (Stay next) = again next
   one_advance now left counts answers again (End next (Ok done)) = from_deletes answers (Some now) now left counts
-  one_advance now left counts answers again (End next (Err e)) = refused _ e answers left
+  one_advance now left counts answers again (End next (Err e)) = refused _ e answers left counts
 
-  from_advance : (answers : List Answered) (now : ℤ) (phase : AdvancePhase) (left : List ObjectMetadata) (counts : PassCounts) → Deletes (Stay (Collecting (Some now) (Advancing phase left counts))) answers left
-  from_advance [] now phase left counts = still _ left
+  from_advance : (answers : List Answered) (now : ℤ) (phase : AdvancePhase) (left : List ObjectMetadata) (counts : PassCounts) → Deletes (Stay (Collecting (Some now) (Advancing phase left counts))) answers left counts
+  from_advance [] now phase left counts = still _ left counts
   from_advance (a ∷ answers) now phase left counts =
       let d = one_advance now left counts answers (λ next. from_advance answers now next left counts) (advance_goes phase a.0) in
       record { left = d.left; front = d.front; whole = d.whole }
 
-  from_to : (answers : List Answered) (at : Option ℤ) (now : ℤ) (to : Option ℕ) (left : List ObjectMetadata) (counts : PassCounts) → Deletes (collect_on at now (advance_to to left counts)) answers left
+  from_to : (answers : List Answered) (at : Option ℤ) (now : ℤ) (to : Option ℕ) (left : List ObjectMetadata) (counts : PassCounts) → Deletes (collect_on at now (advance_to to left counts)) answers left counts
   from_to answers at now None left counts = from_deletes answers at now left counts
   from_to answers at now (Some k) left counts = from_advance answers now (advancing.Bounding k) left counts
 
+  -- a front of what was chosen
+  abbrev Made : GcGoes → List Answered → Chosen → Type 0
+  Made goes answers made = Deletes goes answers made.objects (counts_before settings made)
+
   from_chosen : (answers : List Answered) (at : Option ℤ) (now : ℤ) (listed : ℕ) (found : List ObjectMetadata)
-      → Deletes (collect_on at now (chosen_goes ways.allows settings listed found)) answers (picks ways.allows settings.options.dry_run found)
+      → Made (collect_on at now (chosen_goes ways.allows settings listed found)) answers (chosen ways settings listed found)
   from_chosen answers at now listed found = from_to answers at now (target settings found) (picks ways.allows settings.options.dry_run found) _
 
   -- ---- what is read before
 
   -- a front of what is picked along the answers
   abbrev Picks : GcGoes → List Answered → Type 0
-  Picks goes answers = Deletes goes answers (or_nothing (picked_along ways settings goes answers))
+  Picks goes answers = Made goes answers (or_nothing (picked_along ways settings goes answers))
 
   none : (p : GcPhase) (e : SlateDBError) (answers : List Answered) → Picks (End p (Err e)) answers
-  none p e answers = refused p e answers _
+  none p e answers = refused p e answers _ _
 
   -- so it is from each phase that reads
   abbrev Again : List Answered → Type 0
@@ -155,14 +164,14 @@ module _ (ways : Ways) (settings : PassSettings) where
   of_manifests answers again at now found (Some n) = again (Some now) (Getting n _ _) refl
 
   -- what a step picks, or else what is picked later
-  abbrev Step : Option (List ObjectMetadata) → GcGoes → List Answered → Type 0
-  Step picked goes answers = Deletes goes answers (or_nothing (option_or picked (picked_along ways settings goes answers)))
+  abbrev Step : Option Chosen → GcGoes → List Answered → Type 0
+  Step picked goes answers = Made goes answers (or_nothing (option_or picked (picked_along ways settings goes answers)))
 
-  of_kind : (answers : List Answered) → Again answers → (at : Option ℤ) (now : ℤ) (listed : ℕ) (found chosen : List ObjectMetadata) (n : Option ℕ) (b : Bool)
-      → Step (if b then None else Some (picks ways.allows settings.options.dry_run chosen))
-      (collect_on at now (if b then manifests_goes settings.options.min_age now found n else chosen_goes ways.allows settings listed chosen)) answers
-  of_kind answers again at now listed found chosen n true = of_manifests answers again at now found n
-  of_kind answers again at now listed found chosen n false = from_chosen answers at now listed chosen
+  of_kind : (answers : List Answered) → Again answers → (at : Option ℤ) (now : ℤ) (listed : ℕ) (found may_go : List ObjectMetadata) (n : Option ℕ) (b : Bool)
+      → Step (if b then None else Some (chosen ways settings listed may_go))
+      (collect_on at now (if b then manifests_goes settings.options.min_age now found n else chosen_goes ways.allows settings listed may_go)) answers
+  of_kind answers again at now listed found may_go n true = of_manifests answers again at now found n
+  of_kind answers again at now listed found may_go n false = from_chosen answers at now listed may_go
 
   of_list : (answers : List Answered) → Again answers → (at : Option ℤ) (now : ℤ) (heads : Heads) (versions : List (ℕ × Manifest)) (answer : StoreAnswer)
       → Step (picked_of_list ways settings now heads versions answer) (collect_on at now (list_goes ways.allows ways.files settings now heads versions answer)) answers
@@ -175,18 +184,18 @@ module _ (ways : Ways) (settings : PassSettings) where
   of_list answers again at now heads versions Fault = none _ _ answers
 
   of_above : (answers : List Answered) (at : Option ℤ) (now : ℤ) (n listed : ℕ) (found : List ObjectMetadata) (b : Bool)
-      → Step (if b then None else Some (picks ways.allows settings.options.dry_run found))
+      → Step (if b then None else Some (chosen ways settings listed found))
       (collect_on at now (if b then End Over (Err (ManifestMissing n)) else chosen_goes ways.allows settings listed found)) answers
   of_above answers at now n listed found true = none _ _ answers
   of_above answers at now n listed found false = from_chosen answers at now listed found
 
   of_bounded : (answers : List Answered) (at : Option ℤ) (now : ℤ) (n listed : ℕ) (found : List ObjectMetadata) (boundary : Option ℕ)
-      → Step (picked_above ways settings n found boundary) (collect_on at now (bounded_goes ways.allows settings n listed found boundary)) answers
+      → Step (picked_above ways settings n listed found boundary) (collect_on at now (bounded_goes ways.allows settings n listed found boundary)) answers
   of_bounded answers at now n listed found None = none _ _ answers
   of_bounded answers at now n listed found (Some boundary) = of_above answers at now n listed found (nat_le n boundary)
 
   of_boundary : (answers : List Answered) (at : Option ℤ) (now : ℤ) (n listed : ℕ) (found : List ObjectMetadata) (answer : StoreAnswer)
-      → Step (picked_of_boundary ways settings n found answer) (collect_on at now (bound_goes ways.allows settings n listed found answer)) answers
+      → Step (picked_of_boundary ways settings n listed found answer) (collect_on at now (bound_goes ways.allows settings n listed found answer)) answers
   of_boundary answers at now n listed found (Got object) = of_bounded answers at now n listed found (boundary_got object)
   of_boundary answers at now n listed found (Found listing) = none _ _ answers
   of_boundary answers at now n listed found (Created tag) = none _ _ answers
@@ -220,11 +229,28 @@ module _ (ways : Ways) (settings : PassSettings) where
   deletes_none at (Deleting left counts) a answers h = absurd cc
   deletes_none at Over a answers h = absurd cc
 
+  -- and counts nothing
+  counts_none : (at : Option ℤ) (p : PassPhase) (a : Answered) (answers : List Answered) (counts : PassCounts) → is_reading_phase p ≡ true
+      → counted_along ways settings (gc_goes ways settings a.1 (Collecting at p) a.0) answers counts ≡ counted_along ways settings (Stay (Collecting at p)) (a ∷ answers) counts
+  counts_none at (ReadingRecord phase) a answers counts h = refl
+  counts_none at (ReadingManifest least phase) a answers counts h = refl
+  counts_none at (Fetching heads phase) a answers counts h = refl
+  counts_none at (Listing heads versions) a answers counts h = refl
+  counts_none at (Getting n listed found) a answers counts h = refl
+  counts_none at (Bounding n listed found) a answers counts h = refl
+  counts_none at (Advancing phase left counts) a answers before h = absurd cc
+  counts_none at (Deleting left counts) a answers before h = absurd cc
+  counts_none at Over a answers counts h = absurd cc
+
   reads : (answers : List Answered) → Again answers
-  reads [] at p h = still (Collecting at p) []
+  reads [] at p h = still (Collecting at p) [] _
   reads (a ∷ answers) at p h =
       let d = of_phase answers (reads answers) at p h a in
-      record { left = d.left; front = ap (λ (ms : List ObjectMetadata). ms ++ d.left) (deletes_none at p a answers h) ∙ d.front; whole = d.whole }
+      record {
+        left = d.left;
+        front = ap (λ (ms : List ObjectMetadata). ms ++ d.left) (deletes_none at p a answers h) ∙ d.front;
+        whole = λ q counts e. let w = d.whole q counts e in (w.0, w.1 ∙ counts_none at p a answers _ h);
+      }
 
   -- ---- the removal before
 
@@ -245,7 +271,7 @@ module _ (ways : Ways) (settings : PassSettings) where
   of_commit answers again now (End phase (Err e)) = none _ e answers
 
   commits : (answers : List Answered) (now : ℤ) (phase : CommitPhase Manifest) → Picks (Stay (Committing now phase)) answers
-  commits [] now phase = still (Committing now phase) []
+  commits [] now phase = still (Committing now phase) [] _
   commits (a ∷ answers) now phase =
       let d = of_commit answers (λ made next. commits answers made next) now (commit_goes phase a.0) in
       record { left = d.left; front = d.front; whole = d.whole }
@@ -262,12 +288,12 @@ module _ (ways : Ways) (settings : PassSettings) where
   of_read answers again now (End phase (Err e)) = none _ e answers
 
   begins : (answers : List Answered) (phase : ReadPhase Manifest) → Picks (Stay (Reading phase)) answers
-  begins [] phase = still (Reading phase) []
+  begins [] phase = still (Reading phase) [] _
   begins (a ∷ answers) phase =
       let d = of_read answers (λ next. begins answers next) a.1 (read_goes logs.Manifest ways.manifest_of phase a.0) in
       record { left = d.left; front = d.front; whole = d.whole }
 
-  -- a pass deletes exactly what it picked
+  -- a pass deletes exactly what it picked, and counts it
   pub exactly : (answers : List Answered) → IsExact ways settings answers
   exactly answers =
       let d = begins answers reading.Listing in

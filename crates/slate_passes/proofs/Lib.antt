@@ -2,5 +2,5 @@ mod Always
 mod Starts
 mod PassFaults
 mod Collected
-mod GcFaults
-mod Exactly
+pub mod GcFaults
+pub mod Exactly

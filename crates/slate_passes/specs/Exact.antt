@@ -1,11 +1,12 @@
--- What a pass deletes along its answers, and what it picked of what it read.
-use Rattle.std.specs.Prelude.{◌≡◌, ℕ, ℤ, nat_le, List, [], ◌∷◌, ◌++◌, Option, Some, None, option_to_list, Ok, if◌then◌else◌}
+-- What a pass deletes and counts along its answers, and what it picked of what it read.
+use Rattle.std.specs.Prelude.{◌≡◌, ℕ, ℤ, nat_le, List, [], ◌∷◌, ◌++◌, length, Option, Some, None, option_to_list, Ok, if◌then◌else◌}
 use Rattle.std.specs.Option.{option_or}
 use Rattle.slate_log.specs.Boundary.{boundary_got}
 use Rattle.slate_model.specs.declared.manifest.Manifest.{Manifest}
 use Rattle.slate_passes.specs.Candidates.{candidates}
+use Rattle.slate_passes.specs.Counts.{counts_of, one_deleted, one_failed}
 use Rattle.slate_passes.specs.GcPhase.{GcGoes, gc_goes, gc_start, moment_of_pass}
-use Rattle.slate_passes.specs.Rows.{reads_greatest}
+use Rattle.slate_passes.specs.Rows.{log_of_pass, reads_greatest, versions_in}
 use Rattle.slate_passes.specs.Ways.{Ways}
 use Rattle.slate_passes.specs.declared.gc_phase.GcPhase.{GcPhase}
 use Rattle.slate_passes.specs.declared.gc_phase.GcPhase.TheVariants.{Reading, Committing, Collecting}
@@ -56,12 +57,39 @@ deleted_along ways settings goes [] = []
 deleted_along ways settings (Stay p) (a ∷ answers) = option_to_list (to_delete p) ++ deleted_along ways settings (gc_goes ways settings a.1 p a.0) answers
 deleted_along ways settings (End p r) (a ∷ answers) = []
 
+-- ---- what is counted
+
+-- the counts after the answer to one delete
+abbrev pub with_delete : StoreAnswer → PassCounts → PassCounts
+with_delete Fault counts = one_failed counts
+with_delete answer counts = one_deleted counts
+
+-- the counts after an answer: they move where a delete was due
+abbrev pub counted : Option ObjectMetadata → StoreAnswer → PassCounts → PassCounts
+counted None answer counts = counts
+counted (Some m) answer counts = with_delete answer counts
+
+-- the counts, moved by each answer to a delete that was due
+abbrev pub counted_along : Ways → PassSettings → GcGoes → List Answered → PassCounts → PassCounts
+counted_along ways settings goes [] counts = counts
+counted_along ways settings (Stay p) (a ∷ answers) counts = counted_along ways settings (gc_goes ways settings a.1 p a.0) answers (counted (to_delete p) a.0 counts)
+counted_along ways settings (End p r) (a ∷ answers) counts = counts
+
 -- ---- what is picked
 
+-- the objects that a pass picked, and how many objects its list found
+pub record Chosen : Type 0 where
+  pub objects : List ObjectMetadata
+  pub listed : ℕ
+
+-- the candidates that the filter allows, none in a dry run, of so many listed objects
+abbrev pub chosen : Ways → PassSettings → ℕ → List ObjectMetadata → Chosen
+chosen ways settings listed found = record { objects = picks ways.allows settings.options.dry_run found; listed = listed }
+
 -- of what was listed, where the pass reads nothing after its list
-abbrev pub picked_of_list : Ways → PassSettings → ℤ → Heads → List (ℕ × Manifest) → StoreAnswer → Option (List ObjectMetadata)
+abbrev pub picked_of_list : Ways → PassSettings → ℤ → Heads → List (ℕ × Manifest) → StoreAnswer → Option Chosen
 picked_of_list ways settings now heads versions (Found found) =
-    if reads_greatest settings.pass then None else Some (picks ways.allows settings.options.dry_run (candidates ways.files settings.options.min_age now heads versions found settings.pass))
+    if reads_greatest settings.pass then None else Some (chosen ways settings (length found) (candidates ways.files settings.options.min_age now heads versions found settings.pass))
 picked_of_list ways settings now heads versions (Got object) = None
 picked_of_list ways settings now heads versions (Created tag) = None
 picked_of_list ways settings now heads versions (Replaced tag) = None
@@ -70,48 +98,55 @@ picked_of_list ways settings now heads versions Deleted = None
 picked_of_list ways settings now heads versions Fault = None
 
 -- of the candidates, where the boundary is below the greatest manifest
-abbrev pub picked_above : Ways → PassSettings → ℕ → List ObjectMetadata → Option ℕ → Option (List ObjectMetadata)
-picked_above ways settings n found None = None
-picked_above ways settings n found (Some boundary) = if nat_le n boundary then None else Some (picks ways.allows settings.options.dry_run found)
+abbrev pub picked_above : Ways → PassSettings → ℕ → ℕ → List ObjectMetadata → Option ℕ → Option Chosen
+picked_above ways settings n listed found None = None
+picked_above ways settings n listed found (Some boundary) = if nat_le n boundary then None else Some (chosen ways settings listed found)
 
-abbrev pub picked_of_boundary : Ways → PassSettings → ℕ → List ObjectMetadata → StoreAnswer → Option (List ObjectMetadata)
-picked_of_boundary ways settings n found (Got object) = picked_above ways settings n found (boundary_got object)
-picked_of_boundary ways settings n found (Found listed) = None
-picked_of_boundary ways settings n found (Created tag) = None
-picked_of_boundary ways settings n found (Replaced tag) = None
-picked_of_boundary ways settings n found (Written tag) = None
-picked_of_boundary ways settings n found Deleted = None
-picked_of_boundary ways settings n found Fault = None
+abbrev pub picked_of_boundary : Ways → PassSettings → ℕ → ℕ → List ObjectMetadata → StoreAnswer → Option Chosen
+picked_of_boundary ways settings n listed found (Got object) = picked_above ways settings n listed found (boundary_got object)
+picked_of_boundary ways settings n listed found (Found listing) = None
+picked_of_boundary ways settings n listed found (Created tag) = None
+picked_of_boundary ways settings n listed found (Replaced tag) = None
+picked_of_boundary ways settings n listed found (Written tag) = None
+picked_of_boundary ways settings n listed found Deleted = None
+picked_of_boundary ways settings n listed found Fault = None
 
 -- what a pass picks of the answer that ends its reads
-abbrev pub picked_in : Ways → PassSettings → ℤ → PassPhase → StoreAnswer → Option (List ObjectMetadata)
+abbrev pub picked_in : Ways → PassSettings → ℤ → PassPhase → StoreAnswer → Option Chosen
 picked_in ways settings now (ReadingRecord phase) answer = None
 picked_in ways settings now (ReadingManifest least phase) answer = None
 picked_in ways settings now (Fetching heads phase) answer = None
 picked_in ways settings now (Listing heads versions) answer = picked_of_list ways settings now heads versions answer
 picked_in ways settings now (Getting n listed found) answer = None
-picked_in ways settings now (Bounding n listed found) answer = picked_of_boundary ways settings n found answer
+picked_in ways settings now (Bounding n listed found) answer = picked_of_boundary ways settings n listed found answer
 picked_in ways settings now (Advancing phase left counts) answer = None
 picked_in ways settings now (Deleting left counts) answer = None
 picked_in ways settings now Over answer = None
 
-abbrev pub picked_at : Ways → PassSettings → ℤ → GcPhase → StoreAnswer → Option (List ObjectMetadata)
+abbrev pub picked_at : Ways → PassSettings → ℤ → GcPhase → StoreAnswer → Option Chosen
 picked_at ways settings moment (Reading phase) answer = None
 picked_at ways settings moment (Committing now phase) answer = None
 picked_at ways settings moment (Collecting at phase) answer = picked_in ways settings (moment_of_pass at moment) phase answer
 
 -- what a pass picked of what it read, along its answers; none before it has read all
-abbrev pub picked_along : Ways → PassSettings → GcGoes → List Answered → Option (List ObjectMetadata)
+abbrev pub picked_along : Ways → PassSettings → GcGoes → List Answered → Option Chosen
 picked_along ways settings goes [] = None
 picked_along ways settings (Stay p) (a ∷ answers) = option_or (picked_at ways settings a.1 p a.0) (picked_along ways settings (gc_goes ways settings a.1 p a.0) answers)
 picked_along ways settings (End p r) (a ∷ answers) = None
 
-abbrev pub or_nothing : Option (List ObjectMetadata) → List ObjectMetadata
-or_nothing None = []
-or_nothing (Some objects) = objects
+-- nothing, of no listed objects, where none were picked
+abbrev pub or_nothing : Option Chosen → Chosen
+or_nothing None = record { objects = []; listed = 0 }
+or_nothing (Some made) = made
 
--- a pass has deleted a front of what it picked, in order; where it ended without a refusal, all of it
+-- the counts of a pass before its first delete
+abbrev pub counts_before : PassSettings → Chosen → PassCounts
+counts_before settings made = counts_of (length made.objects) (versions_in (log_of_pass settings.pass) made.listed)
+
+-- a pass has deleted a front of what it picked, in order; where it ended without a refusal, all of it, and its counts are those of its
+-- picks and of the versions that its list found, moved by the answers to its deletes
 pub record IsExact (ways : Ways) (settings : PassSettings) (answers : List Answered) : Type 0 where
   pub left : List ObjectMetadata
-  pub front : deleted_along ways settings (Stay gc_start) answers ++ left ≡ or_nothing (picked_along ways settings (Stay gc_start) answers)
-  pub whole : (p : GcPhase) (counts : PassCounts) → stands_after ways settings (Stay gc_start) answers ≡ End p (Ok counts) → left ≡ []
+  pub front : deleted_along ways settings (Stay gc_start) answers ++ left ≡ (or_nothing (picked_along ways settings (Stay gc_start) answers)).objects
+  pub whole : (p : GcPhase) (counts : PassCounts) → stands_after ways settings (Stay gc_start) answers ≡ End p (Ok counts)
+      → (left ≡ []) × (counts ≡ counted_along ways settings (Stay gc_start) answers (counts_before settings (or_nothing (picked_along ways settings (Stay gc_start) answers))))
