@@ -2,8 +2,9 @@
 
 use crate::test_filters::{Fixed, database};
 use crate::test_stores::{End, Put, are_left, end_of, store_of};
-use slate_ids::GcMessage;
-use slate_passes::{GarbageCollectorDirectoryOptions, PassSettings};
+use slate_ids::{DbPath, GcMessage};
+use slate_passes::{GarbageCollectorDirectoryOptions, GcPhase, PassSettings};
+use slate_store::MemoryStore;
 use std::alloc::Global;
 use std::process::Abort;
 
@@ -168,6 +169,29 @@ fn settings(given: &Given) -> PassSettings {
     }
 }
 
+fn ends_over(
+    rt: &impl Abort,
+    alloc: Global,
+    db: DbPath,
+    store: &mut MemoryStore,
+    given: &Given,
+) -> End {
+    let none: Option<&Fixed> = None;
+    let mut pass = GcPhase::start();
+    let end = end_of(
+        rt,
+        alloc,
+        db,
+        &mut pass,
+        store,
+        &settings(given),
+        none,
+        given.3,
+    );
+    drop(pass);
+    end
+}
+
 fn ends_so(
     rt: &impl Abort,
     alloc: Global,
@@ -178,9 +202,10 @@ fn ends_so(
 ) -> bool {
     let db = database(rt);
     let mut store = store_of(rt, alloc, db, puts);
-    let none: Option<&Fixed> = None;
-    let end = end_of(rt, alloc, db, &mut store, &settings(given), none, given.3);
-    end == *wanted && are_left(db, &store, puts, left)
+    let end = ends_over(rt, alloc, db, &mut store, given);
+    let are_so = are_left(db, &store, puts, left);
+    drop(store);
+    are_so && end == *wanted
 }
 
 #[test]

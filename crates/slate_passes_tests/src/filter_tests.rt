@@ -61,7 +61,9 @@ fn retains<F: GcFilter>(
     let db = database(rt);
     let all = objects(rt, alloc, db, candidates).into_vec();
     let kept = retain_allowed_by_gc_filter(alloc, filter, all).expect(rt, "memory");
-    are(kept.as_slice(), db, wanted)
+    let are_so = are(kept.as_slice(), db, wanted);
+    drop(kept);
+    are_so
 }
 
 fn fixed(rt: &impl Abort, alloc: Global, returned: Told) -> Fixed {
@@ -70,12 +72,31 @@ fn fixed(rt: &impl Abort, alloc: Global, returned: Told) -> Fixed {
     }
 }
 
+fn retains_of(
+    rt: &impl Abort,
+    alloc: Global,
+    candidates: Told,
+    returned: Told,
+    wanted: Told,
+) -> bool {
+    let filter = fixed(rt, alloc, returned);
+    let are_so = retains(rt, alloc, Some(&filter), candidates, wanted);
+    drop(filter);
+    are_so
+}
+
+fn retains_boxed(rt: &impl Abort, alloc: Global) -> bool {
+    let boxed: Box<dyn GcFilter> = Box::new(alloc, fixed(rt, alloc, &[(2, 2)])).expect(
+        rt, "memory",
+    );
+    retains(rt, alloc, Some(&boxed), &[(1, 1), (2, 2)], &[(2, 2)])
+}
+
 #[test]
 fn candidates_that_a_filter_returned_are_retained(rt: HostRuntime) {
     for (candidates, returned, wanted) in &RETAINED {
-        let filter = fixed(&rt, rt.alloc(), *returned);
         assert!(rt;
-            retains(&rt, rt.alloc(), Some(&filter), *candidates, *wanted),
+            retains_of(&rt, rt.alloc(), *candidates, *returned, *wanted),
             "{returned:?}"
         );
     }
@@ -83,10 +104,7 @@ fn candidates_that_a_filter_returned_are_retained(rt: HostRuntime) {
 
 #[test]
 fn a_boxed_filter_is_asked(rt: HostRuntime) {
-    let boxed: Box<dyn GcFilter> = Box::new(rt.alloc(), fixed(&rt, rt.alloc(), &[(2, 2)])).expect(
-        &rt, "memory",
-    );
-    assert!(rt; retains(&rt, rt.alloc(), Some(&boxed), &[(1, 1), (2, 2)], &[(2, 2)]));
+    assert!(rt; retains_boxed(&rt, rt.alloc()));
 }
 
 #[test]

@@ -3,8 +3,8 @@
 use crate::test_filters::{Fixed, database};
 use crate::test_stores::{End, NOW, Put, are_left, end_of, store_of};
 use slate_ids::{DbPath, GcMessage, Listed, ObjectPath};
-use slate_passes::{GarbageCollectorDirectoryOptions, PassSettings};
-use slate_store::MemoryStore;
+use slate_passes::{GarbageCollectorDirectoryOptions, GcPhase, PassSettings};
+use slate_store::{MemoryStore, StoredObject};
 use std::alloc::Global;
 use std::process::Abort;
 
@@ -127,11 +127,57 @@ fn settings(given: &Given) -> PassSettings {
     }
 }
 
-fn boundary(db: DbPath, store: &MemoryStore) -> u64 {
-    match store.object(&ObjectPath::ManifestBoundary(db)) {
+fn boundary_in(object: Option<&StoredObject>) -> u64 {
+    match object {
         None => 0,
         Some(object) => slate_layout::decode_boundary(object.bytes.as_slice()).unwrap_or(u64::MAX),
     }
+}
+
+fn boundary(db: DbPath, store: &MemoryStore) -> u64 {
+    let path = ObjectPath::ManifestBoundary(db);
+    let found = boundary_in(store.object(&path));
+    drop(path);
+    found
+}
+
+fn ends_by(
+    rt: &impl Abort,
+    alloc: Global,
+    db: DbPath,
+    store: &mut MemoryStore,
+    given: &Given,
+    filter: Option<&Fixed>,
+) -> End {
+    let mut pass = GcPhase::start();
+    let end = end_of(
+        rt,
+        alloc,
+        db,
+        &mut pass,
+        store,
+        &settings(given),
+        filter,
+        given.4,
+    );
+    drop(pass);
+    end
+}
+
+fn ends_over(
+    rt: &impl Abort,
+    alloc: Global,
+    db: DbPath,
+    store: &mut MemoryStore,
+    given: &Given,
+) -> End {
+    let none = Fixed {
+        objects: Listed::new(alloc),
+    };
+    let filter = if given.3 { Some(&none) } else { None };
+    let end = ends_by(rt, alloc, db, store, given, filter);
+    drop(none);
+    end
 }
 
 fn ends_so(
@@ -145,12 +191,11 @@ fn ends_so(
 ) -> bool {
     let db = database(rt);
     let mut store = store_of(rt, alloc, db, puts);
-    let none = Fixed {
-        objects: Listed::new(alloc),
-    };
-    let filter = if given.3 { Some(&none) } else { None };
-    let end = end_of(rt, alloc, db, &mut store, &settings(given), filter, given.4);
-    end == *wanted && boundary(db, &store) == bound && are_left(db, &store, puts, left)
+    let end = ends_over(rt, alloc, db, &mut store, given);
+    let are_so = are_left(db, &store, puts, left);
+    let found = boundary(db, &store);
+    drop(store);
+    are_so && found == bound && end == *wanted
 }
 
 #[test]

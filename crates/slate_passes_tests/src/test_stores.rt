@@ -63,45 +63,95 @@ fn name(rt: &impl Abort, core: &mut ManifestCore, version: u64, expire_time: Opt
     core.checkpoints.push(checkpoint).expect(rt, "memory");
 }
 
-fn hold(rt: &impl Abort, core: &mut ManifestCore, ms: u64) {
-    let info = SsTableInfo {
+fn name_if(rt: &impl Abort, core: &mut ManifestCore, version: Option<u64>) {
+    if let Some(version) = version {
+        name(rt, core, version, None);
+    }
+}
+
+fn table_info() -> SsTableInfo {
+    SsTableInfo {
         first_entry: Some(bytes::Bytes::from("a")),
         last_entry: Some(bytes::Bytes::from("z")),
         ..SsTableInfo::default()
-    };
+    }
+}
+
+fn table_view(ms: u64) -> SsTableView {
     let handle = SsTableHandle {
         id: SsTableId::Compacted(table_id(ms)),
         format_version: 1,
-        info,
+        info: table_info(),
     };
-    core.tree
-        .l0
-        .push_back(SsTableView::new(table_id(ms), handle))
-        .expect(rt, "memory");
+    SsTableView::new(table_id(ms), handle)
+}
+
+fn hold(rt: &impl Abort, core: &mut ManifestCore, tables: &[u64]) {
+    for ms in tables {
+        core.tree.l0.push_back(table_view(*ms)).expect(rt, "memory");
+    }
 }
 
 fn manifest_bytes(rt: &impl Abort, alloc: Global, core: ManifestCore) -> ByteList {
     let manifest = Manifest::initial(alloc, core);
-    ByteList::new(encode_manifest(alloc, &manifest).expect(rt, "bytes"))
+    let bytes = encode_manifest(alloc, &manifest).expect(rt, "bytes");
+    drop(manifest);
+    ByteList::new(bytes)
+}
+
+fn naming(rt: &impl Abort, alloc: Global, version: u64, expire_time: Option<Millis>) -> ByteList {
+    let mut core = ManifestCore::new(alloc);
+    name(rt, &mut core, version, expire_time);
+    manifest_bytes(rt, alloc, core)
+}
+
+fn holding(rt: &impl Abort, alloc: Global, tables: &[u64], version: Option<u64>) -> ByteList {
+    let mut core = ManifestCore::new(alloc);
+    hold(rt, &mut core, tables);
+    name_if(rt, &mut core, version);
+    manifest_bytes(rt, alloc, core)
+}
+
+fn replaying(
+    rt: &impl Abort,
+    alloc: Global,
+    replay: u64,
+    next: u64,
+    version: Option<u64>,
+) -> ByteList {
+    let mut core = ManifestCore::new(alloc);
+    core.replay_after_wal_id = replay;
+    core.next_wal_sst_id = next;
+    name_if(rt, &mut core, version);
+    manifest_bytes(rt, alloc, core)
+}
+
+fn compaction(alloc: Global, ms: u64) -> Compaction {
+    Compaction {
+        id: table_id(ms),
+        spec: CompactionSpec::DrainSegment {
+            segment: bytes::Bytes::new(),
+            sources: Listed::new(alloc),
+        },
+        status: CompactionStatus::Submitted,
+        worker: None,
+        output_ssts: Listed::new(alloc),
+        ctx: None,
+    }
+}
+
+fn add_if(rt: &impl Abort, alloc: Global, record: &mut Compactions, ms: Option<u64>) {
+    if let Some(ms) = ms {
+        record.insert(compaction(alloc, ms)).expect(rt, "memory");
+    }
 }
 
 fn record_bytes(rt: &impl Abort, alloc: Global, ms: Option<u64>) -> ByteList {
     let mut record = Compactions::new(alloc, 0);
-    if let Some(ms) = ms {
-        let compaction = Compaction {
-            id: table_id(ms),
-            spec: CompactionSpec::DrainSegment {
-                segment: bytes::Bytes::new(),
-                sources: Listed::new(alloc),
-            },
-            status: CompactionStatus::Submitted,
-            worker: None,
-            output_ssts: Listed::new(alloc),
-            ctx: None,
-        };
-        record.insert(compaction).expect(rt, "memory");
-    }
-    ByteList::new(encode_compactions(alloc, &record).expect(rt, "bytes"))
+    add_if(rt, alloc, &mut record, ms);
+    let bytes = encode_compactions(alloc, &record).expect(rt, "bytes");
+    drop(record);
+    ByteList::new(bytes)
 }
 
 fn file_bytes(rt: &impl Abort, alloc: Global, has_rows: bool) -> ByteList {
@@ -110,44 +160,32 @@ fn file_bytes(rt: &impl Abort, alloc: Global, has_rows: bool) -> ByteList {
 }
 
 fn bytes_of(rt: &impl Abort, alloc: Global, put: Put) -> ByteList {
-    let mut core = ManifestCore::new(alloc);
     match put {
-        Put::Plain(_) => manifest_bytes(rt, alloc, core),
-        Put::Naming(_, version, expire_time) => {
-            name(rt, &mut core, version, expire_time);
-            manifest_bytes(rt, alloc, core)
-        }
-        Put::Holding(_, tables, version) => {
-            for ms in tables {
-                hold(rt, &mut core, *ms);
-            }
-            if let Some(version) = version {
-                name(rt, &mut core, version, None);
-            }
-            manifest_bytes(rt, alloc, core)
-        }
-        Put::Replaying(_, replay, next, version) => {
-            core.replay_after_wal_id = replay;
-            core.next_wal_sst_id = next;
-            if let Some(version) = version {
-                name(rt, &mut core, version, None);
-            }
-            manifest_bytes(rt, alloc, core)
-        }
+        Put::Plain(_) => manifest_bytes(rt, alloc, ManifestCore::new(alloc)),
+        Put::Naming(_, version, expire_time) => naming(rt, alloc, version, expire_time),
+        Put::Holding(_, tables, version) => holding(rt, alloc, tables, version),
+        Put::Replaying(_, replay, next, version) => replaying(rt, alloc, replay, next, version),
         Put::Record(_, ms) => record_bytes(rt, alloc, ms),
         Put::Table(_) => file_bytes(rt, alloc, true),
         Put::Wal(_, has_rows) => file_bytes(rt, alloc, has_rows),
     }
 }
 
+fn put_one(rt: &impl Abort, alloc: Global, db: DbPath, store: &mut MemoryStore, put: Put) {
+    let bytes = bytes_of(rt, alloc, put);
+    let path = path_of(db, put);
+    store
+        .put(alloc, &path, bytes.as_slice(), 0)
+        .expect(rt, "memory");
+    drop(path);
+    drop(bytes);
+}
+
 /// A store with these objects.
 pub(crate) fn store_of(rt: &impl Abort, alloc: Global, db: DbPath, puts: &[Put]) -> MemoryStore {
     let mut store = MemoryStore::new(alloc, Vec::new(alloc));
     for put in puts {
-        let bytes = bytes_of(rt, alloc, *put);
-        store
-            .put(alloc, &path_of(db, *put), bytes.as_slice(), 0)
-            .expect(rt, "memory");
+        put_one(rt, alloc, db, &mut store, *put);
     }
     store
 }
@@ -156,10 +194,12 @@ pub(crate) fn store_of(rt: &impl Abort, alloc: Global, db: DbPath, puts: &[Put])
 /// number.
 pub(crate) type End = (u8, (u64, u64, u64, u64), u8);
 
-fn told(steps: u8, reply: &Result<PassCounts, SlateDBError>) -> End {
+/// A reply: how many were picked, deleted and faulted, how many versions are left, and the refusal's number.
+pub(crate) type Told = ((u64, u64, u64, u64), u8);
+
+fn told(reply: &Result<PassCounts, SlateDBError>) -> Told {
     match reply {
         Ok(counts) => (
-            steps,
             (
                 counts.picked,
                 counts.deleted,
@@ -168,47 +208,81 @@ fn told(steps: u8, reply: &Result<PassCounts, SlateDBError>) -> End {
             ),
             0,
         ),
-        Err(e) => (steps, (0, 0, 0, 0), e.code()),
+        Err(e) => ((0, 0, 0, 0), e.code()),
     }
 }
 
-/// The end of a pass of which a step faults, the first one being 0. Each step is a millisecond later.
+/// What a reply tells.
+pub(crate) fn told_by(reply: Result<PassCounts, SlateDBError>) -> Told {
+    let all = told(&reply);
+    drop(reply);
+    all
+}
+
+/// The logs of the database.
+fn logs_of(db: DbPath) -> Logs<ManifestCodec, CompactionsCodec> {
+    Logs {
+        db,
+        manifests: ManifestCodec,
+        records: CompactionsCodec,
+    }
+}
+
+/// One more step of a pass: what it replies, where it ends.
+fn step_of<F: GcFilter>(
+    rt: &impl Abort,
+    alloc: Global,
+    db: DbPath,
+    pass: &mut GcPhase,
+    store: &mut MemoryStore,
+    settings: &PassSettings,
+    filter: Option<&F>,
+    moment: Millis,
+) -> Option<Told> {
+    let wal: Option<&PlainWalGc> = None;
+    assert!(rt; pass.due());
+    match pass.next(alloc, &logs_of(db), filter, wal, settings, store, moment) {
+        Step::Again => None,
+        Step::Done(reply) => Some(told_by(reply)),
+    }
+}
+
+/// The end of a pass, which is at its start, of which a step faults, the first one being 0. Each step is a millisecond later.
 pub(crate) fn end_of<F: GcFilter>(
     rt: &impl Abort,
     alloc: Global,
     db: DbPath,
+    pass: &mut GcPhase,
     store: &mut MemoryStore,
     settings: &PassSettings,
     filter: Option<&F>,
     faulty: Option<u8>,
 ) -> End {
-    let logs = Logs {
-        db,
-        manifests: ManifestCodec,
-        records: CompactionsCodec,
-    };
-    let wal: Option<&PlainWalGc> = None;
-    let mut pass = GcPhase::start();
     for steps in 0..30u8 {
         if faulty == Some(steps) {
             store.set_mark(Mark::Fail);
         }
-        assert!(rt; pass.due());
         let moment = NOW + steps as i64;
-        match pass.next(alloc, &logs, filter, wal, settings, store, moment) {
-            Step::Again => {}
-            Step::Done(reply) => {
-                return told(steps + 1, &reply);
-            }
+        if let Some((counts, code)) = step_of(
+            rt, alloc, db, pass, store, settings, filter, moment,
+        ) {
+            return (steps + 1, counts, code);
         }
     }
     (30, (0, 0, 0, 0), 0)
 }
 
+fn stands(db: DbPath, store: &MemoryStore, put: Put) -> bool {
+    let path = path_of(db, put);
+    let is_there = store.object(&path).is_some();
+    drop(path);
+    is_there
+}
+
 /// Whether just these of the objects are left.
 pub(crate) fn are_left(db: DbPath, store: &MemoryStore, puts: &[Put], left: &[bool]) -> bool {
-    for (put, stands) in puts.iter().zip(left.iter()) {
-        if store.object(&path_of(db, *put)).is_some() != *stands {
+    for (put, is_left) in puts.iter().zip(left.iter()) {
+        if stands(db, store, *put) != *is_left {
             return false;
         }
     }

@@ -30,14 +30,22 @@ const RANGES: [(u64, Versions, &[Range]); 3] = [
     (9, &[], &[]),
 ];
 
+fn version(alloc: Global, replay: u64, next: u64) -> Manifest {
+    let mut core = ManifestCore::new(alloc);
+    core.replay_after_wal_id = replay;
+    core.next_wal_sst_id = next;
+    Manifest::initial(alloc, core)
+}
+
+fn add(rt: &impl Abort, active: &mut BTreeMap<u64, Manifest>, number: u64, manifest: Manifest) {
+    let kept: Result<_, _> = active.insert(number, manifest);
+    drop(kept.expect(rt, "memory"));
+}
+
 fn versions(rt: &impl Abort, alloc: Global, told: Versions) -> BTreeMap<u64, Manifest> {
     let mut active = BTreeMap::new(alloc);
     for (number, replay, next) in told {
-        let mut manifest = Manifest::initial(alloc, ManifestCore::new(alloc));
-        manifest.core.replay_after_wal_id = *replay;
-        manifest.core.next_wal_sst_id = *next;
-        let kept: Result<_, _> = active.insert(*number, manifest);
-        let _ = kept.expect(rt, "memory");
+        add(rt, &mut active, *number, version(alloc, *replay, *next));
     }
     active
 }
@@ -54,12 +62,22 @@ fn are_ranges(found: &[WalFileRange], wanted: &[Range]) -> bool {
     true
 }
 
+fn keeps_so(rt: &impl Abort, alloc: Global, latest: u64, told: Versions, wanted: &[Range]) -> bool {
+    let active = versions(rt, alloc, told);
+    let found = referenced_wal_ranges(alloc, latest, &active).expect(rt, "memory");
+    drop(active);
+    let are_so = are_ranges(found.as_slice(), wanted);
+    drop(found);
+    are_so
+}
+
 #[test]
 fn versions_keep_their_ranges(rt: HostRuntime) {
     for (latest, told, wanted) in &RANGES {
-        let active = versions(&rt, rt.alloc(), *told);
-        let found = referenced_wal_ranges(rt.alloc(), *latest, &active).expect(&rt, "memory");
-        assert!(rt; are_ranges(found.as_slice(), *wanted), "{told:?}");
+        assert!(rt;
+            keeps_so(&rt, rt.alloc(), *latest, *told, *wanted),
+            "{told:?}"
+        );
     }
 }
 
@@ -107,7 +125,10 @@ fn picks_so(rt: &impl Abort, alloc: Global, mode: WalGcMode, min_age: u64, wante
     let found = PlainWalGc { mode }
         .picks(alloc, &ranges, files.as_slice(), min_age, 1000)
         .expect(rt, "memory");
-    are_files(found.as_slice(), db, wanted)
+    drop(files);
+    let are_so = are_files(found.as_slice(), db, wanted);
+    drop(found);
+    are_so
 }
 
 #[test]
