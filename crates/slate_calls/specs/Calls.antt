@@ -9,7 +9,7 @@ use Rattle.slate_json.specs.Words.{pass_in, filter_in}
 use Rattle.slate_calls.specs.Names.{name_in}
 use Rattle.slate_events.specs.declared.call.Call.{Call}
 use Rattle.slate_events.specs.declared.call.Call.TheVariants.{OpenWriter, Upload, Flush, OpenCompactor, Refresh, Schedule, Finish, Fail, WriteManifest, WriteRecord, WriteState, Claim, Report, WriteCheckpoint, ReplaceCheckpoint, RefreshCheckpoint, DeleteCheckpoint, Pass}
-use Rattle.slate_gc.specs.declared.filter_word.FilterWord.TheVariants.{All}
+use Rattle.slate_events.specs.declared.filter_word.FilterWord.TheVariants.{All}
 use Rattle.slate_calls.specs.declared.call_name.CallName.{CallName}
 use Rattle.slate_calls.specs.declared.call_name.CallName.TheVariants as name
 

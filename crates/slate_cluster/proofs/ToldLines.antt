@@ -9,7 +9,7 @@ use Rattle.slate_lines.specs.Lines.{entry_text, entries_text, end_line}
 use Rattle.slate_parties.specs.Events.{Happened}
 use Rattle.slate_protocol.specs.Reports.{state_text, report_text}
 use Rattle.slate_protocol.specs.Runs.{Course, Ran, run}
-use Rattle.slate_protocol.specs.World.{World, happens}
+use Rattle.slate_protocol.specs.World.{World}
 use Rattle.slate_cluster.proofs.Events.{Goes, goes_from, goes_further, goes_wrong, whole}
 use Rattle.slate_cluster.specs.Told.{from_state, Tells}
 

@@ -1,5 +1,5 @@
 -- What a call of the cluster says of its run.
-use Rattle.std.specs.Prelude.{◌≡◌, List, ◌++◌, take, Option, Some, None, Result, Ok, Err}
+use Rattle.std.specs.Prelude.{◌≡◌, List, ◌++◌, take, Some, None, Result, Ok, Err}
 use Rattle.slate_events.specs.declared.event.Event.{Event}
 use Rattle.slate_events.specs.declared.entry.Entry.{Entry}
 use Rattle.slate_protocol.specs.Runs.{Course, run}

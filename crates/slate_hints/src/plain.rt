@@ -96,7 +96,7 @@ impl Plain {
             Plain::Drain => "true",
             Plain::Mark => "\"fail\" or \"lost\"",
             Plain::Pass => "\"manifest\"",
-            Plain::Filter => "\"all\" or \"none\"",
+            Plain::Filter => "\"all\", \"none\" or an array of texts",
             Plain::CallName => "the name of a call, which slate run --help lists",
         }
     }

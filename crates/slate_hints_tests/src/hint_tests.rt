@@ -202,7 +202,7 @@ const DATABASES: [(&str, &str); 42] = [
 ];
 
 /// The last of three events, after one and 1000 of them, and what is wrong with it.
-const EVENTS: [(&str, &str); 46] = [
+const EVENTS: [(&str, &str); 47] = [
     (r#"[]"#, r#"events[2] has to be an object"#),
     (
         r#"{"go":1}"#,
@@ -307,7 +307,11 @@ const EVENTS: [(&str, &str); 46] = [
     ),
     (
         r#"{"start":1,"call":"pass","pass":"manifest","filter":"some"}"#,
-        r#"events[2].filter has to be "all" or "none""#,
+        r#"events[2].filter has to be "all", "none" or an array of texts"#,
+    ),
+    (
+        r#"{"start":1,"call":"pass","pass":"manifest","filter":["a",1]}"#,
+        r#"events[2].filter has to be "all", "none" or an array of texts"#,
     ),
     (r#"{"step":1}"#, r#"events[2] lacks the field "at""#),
     (

@@ -105,10 +105,10 @@ fn manifests_alone_have_a_pass(rt: HostRuntime) {
 }
 
 #[test]
-fn filters_allow_all_or_nothing(rt: HostRuntime) {
+fn a_pass_starts_with_any_filter(rt: HostRuntime) {
     let paths: Listed<Text> = Listed::new(rt.alloc());
     assert!(rt;
-        !starts(
+        starts(
             &rt,
             rt.alloc(),
             GcMessage::Manifest,

@@ -56,9 +56,20 @@ left db/manifest/00000000000000000003.manifest
 ok
 ";
 
+// What stands where the second version alone was deleted.
+const SECOND_GONE: &str = "\
+commits db manifest 3 compactions 0
+deleted 1
+left db/gc/manifest.boundary
+left db/manifest/00000000000000000001.manifest
+left db/manifest/00000000000000000003.manifest
+ok
+";
+
 // The versions below the greatest go, after the boundary was moved. A filter that allows nothing keeps them, and so does a
-// dry run; the boundary is moved all the same.
-const PASSES: [(&str, &[&str]); 3] = [
+// dry run; the boundary is moved all the same. A filter of paths allows the candidates at these: neither the greatest version nor what
+// isn't there.
+const PASSES: [(&str, &[&str]); 5] = [
     (
         r#"{"databases":[{"path":"db"}],"events":[
   {"open":1,"kind":"writer","db":"db"},{"start":1,"call":"open_writer"},{"step":1,"at":1000,"times":5},
@@ -95,6 +106,36 @@ const PASSES: [(&str, &[&str]); 3] = [
   {"open":2,"kind":"writer","db":"db"},{"start":2,"call":"open_writer"},{"step":2,"at":1000,"times":5},
   {"open":3,"kind":"collector","db":"db"},{"start":3,"call":"pass","pass":"manifest","min_age":0,"dry_run":true},
   {"step":3,"at":3601000,"times":8}]}"#,
+        &[
+            OPENED,
+            READS,
+            "23 call 3 put_new db/gc/manifest.boundary 1 -> created 4 reply pass 0 0 0\n",
+            ALL_LEFT,
+        ],
+    ),
+    (
+        r#"{"databases":[{"path":"db"}],"events":[
+  {"open":1,"kind":"writer","db":"db"},{"start":1,"call":"open_writer"},{"step":1,"at":1000,"times":5},
+  {"open":2,"kind":"writer","db":"db"},{"start":2,"call":"open_writer"},{"step":2,"at":1000,"times":5},
+  {"open":3,"kind":"collector","db":"db"},{"start":3,"call":"pass","pass":"manifest","min_age":1000,"filter":[
+  "db/manifest/00000000000000000003.manifest","db/manifest/00000000000000000002.manifest","db/manifest","x"]},
+  {"step":3,"at":3601000,"times":9}]}"#,
+        &[
+            OPENED,
+            READS,
+            "\
+23 call 3 put_new db/gc/manifest.boundary 1 -> created 4
+24 call 3 delete db/manifest/00000000000000000002.manifest -> deleted reply pass 1 1 0
+",
+            SECOND_GONE,
+        ],
+    ),
+    (
+        r#"{"databases":[{"path":"db"}],"events":[
+  {"open":1,"kind":"writer","db":"db"},{"start":1,"call":"open_writer"},{"step":1,"at":1000,"times":5},
+  {"open":2,"kind":"writer","db":"db"},{"start":2,"call":"open_writer"},{"step":2,"at":1000,"times":5},
+  {"open":3,"kind":"collector","db":"db"},
+  {"start":3,"call":"pass","pass":"manifest","min_age":1000,"filter":[]},{"step":3,"at":3601000,"times":8}]}"#,
         &[
             OPENED,
             READS,

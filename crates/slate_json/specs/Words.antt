@@ -8,9 +8,9 @@ use Rattle.slate_store.specs.declared.mark.Mark.{Mark}
 use Rattle.slate_store.specs.declared.mark.Mark.TheVariants as mark
 use Rattle.slate_records.specs.declared.compaction_status.CompactionStatus.{CompactionStatus}
 use Rattle.slate_records.specs.declared.compaction_status.CompactionStatus.TheVariants as status
-use Rattle.slate_json.specs.Fields.{◌>>=◌}
-use Rattle.slate_gc.specs.declared.filter_word.FilterWord.{FilterWord}
-use Rattle.slate_gc.specs.declared.filter_word.FilterWord.TheVariants as filter
+use Rattle.slate_json.specs.Fields.{◌>>=◌, list_in}
+use Rattle.slate_events.specs.declared.filter_word.FilterWord.{FilterWord}
+use Rattle.slate_events.specs.declared.filter_word.FilterWord.TheVariants as filter
 use Rattle.slate_events.specs.declared.party_kind.PartyKind.{PartyKind}
 use Rattle.slate_events.specs.declared.party_kind.PartyKind.TheVariants as kind
 
@@ -43,13 +43,18 @@ pass_word s = word_in ((codes "manifest", pass.Manifest) ∷ []) s
 abbrev pub pass_in : Data → Option GcMessage
 pass_in d = as_str d >>= pass_word
 
--- the filters of a pass
+-- the filters of a pass that have a word
 unfoldable pub filter_word : List ℕ → Option FilterWord
 filter_word s = word_in ((codes "all", filter.All) ∷ (codes "none", filter.Nothing) ∷ []) s
 
--- a text that is the word of a filter
+-- the filter of a value that is this text, or that is none: a word, or an array of texts, which are paths
+abbrev pub filter_by : Option (List ℕ) → Data → Option FilterWord
+filter_by (Some text) d = filter_word text
+filter_by None d = list_in as_str d >>= λ paths. Some (filter.Paths paths)
+
+-- a text that is the word of a filter, or an array of texts
 abbrev pub filter_in : Data → Option FilterWord
-filter_in d = as_str d >>= filter_word
+filter_in d = filter_by (as_str d) d
 
 -- how far a compaction is
 unfoldable pub status_word : List ℕ → Option CompactionStatus

@@ -101,10 +101,10 @@ impl FromJson for FilterWord {
 
     ghost reads = { filter_in };
 
-    fn from_json(_alloc: Global, d: &Value) -> Result<FilterWord, JsonError> {
+    fn from_json(alloc: Global, d: &Value) -> Result<FilterWord, JsonError> {
         match d.as_str() {
             Some(text) => or_malformed(filter_of(text)),
-            None => Err(JsonError::Malformed),
+            None => Ok(FilterWord::Paths(FromJson::from_json(alloc, d)?)),
         }
     }
 }

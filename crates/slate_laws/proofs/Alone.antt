@@ -7,6 +7,7 @@ use Rattle.slate_ids.specs.Ids.{is_db_path}
 use Rattle.slate_ids.specs.Limits.{last_number, next_count}
 use Rattle.slate_ids.specs.declared.error.SlateDBError.{SlateDBError}
 use Rattle.slate_ids.specs.declared.error.SlateDBError.TheVariants.{Exhausted, ManifestMissing, TransactionalObjectVersionExists}
+use Rattle.slate_ids.specs.declared.gc_message.GcMessage.TheVariants as of
 use Rattle.slate_ids.specs.declared.object_path.ObjectPath.TheVariants as paths
 use Rattle.slate_ids.proofs.PathsApart.{same_path}
 use Rattle.slate_manifest_parts.specs.Decoding.{decoded_manifest}
@@ -38,15 +39,17 @@ use Rattle.slate_log.specs.declared.log_kind.LogKind.TheVariants.{Manifest as Ma
 use Rattle.slate_log.specs.declared.read_phase.ReadPhase.{ReadPhase}
 use Rattle.slate_log.specs.declared.read_phase.ReadPhase.TheVariants as reading
 use Rattle.slate_log.specs.declared.right.Right.TheVariants.{Plain}
-use Rattle.slate_gc.specs.Deletes.{has_object}
-use Rattle.slate_gc.specs.GcPass.{GcGoes, gc_asks, gc_goes, gc_due, read_on, commit_on, collect_on, removal_goes}
-use Rattle.slate_gc.specs.Pass.{pass_asks, pass_goes, listed_goes, decoded_goes, got_goes, bounded_goes, bounded_next, moves_to, picks_next, advanced_goes}
-use Rattle.slate_gc.specs.Picks.{unneeded, picks}
-use Rattle.slate_gc.specs.declared.gc_pass.GcPass.{GcPass}
-use Rattle.slate_gc.specs.declared.gc_pass.GcPass.TheVariants.{Reading, Committing, Collecting}
-use Rattle.slate_gc.specs.declared.pass_counts.PassCounts.{PassCounts}
-use Rattle.slate_gc.specs.declared.pass_options.PassOptions.{PassOptions}
-use Rattle.slate_gc.specs.declared.pass_phase.PassPhase.TheVariants as passing
+use Rattle.slate_passes.specs.Counts.{counts_of}
+use Rattle.slate_passes.specs.GcPhase.{GcGoes, gc_asks, gc_goes, gc_due, read_on, commit_on, collect_on, removal_goes, moment_of_pass}
+use Rattle.slate_passes.specs.Pass.{pass_asks, pass_goes, manifests_goes, decoded_goes, got_goes, bounded_goes, chosen_goes, advance_to, deletes_next, advanced_goes}
+use Rattle.slate_passes.specs.declared.directory_options.GarbageCollectorDirectoryOptions.{GarbageCollectorDirectoryOptions}
+use Rattle.slate_passes.specs.declared.gc_phase.GcPhase.{GcPhase}
+use Rattle.slate_passes.specs.declared.gc_phase.GcPhase.TheVariants.{Reading, Committing, Collecting}
+use Rattle.slate_passes.specs.declared.pass_counts.PassCounts.{PassCounts}
+use Rattle.slate_passes.specs.declared.pass_phase.PassPhase.TheVariants as passing
+use Rattle.slate_passes.specs.declared.pass_settings.PassSettings.{PassSettings}
+use Rattle.slate_picks.specs.Queue.{has_object}
+use Rattle.slate_events.specs.declared.filter_word.FilterWord.{FilterWord}
 use Rattle.slate_updates.specs.Changes.{commit_of, floored, with_floor}
 use Rattle.slate_updates.specs.Checkpoints.{is_named, is_expired, with_checkpoints}
 use Rattle.slate_updates.specs.Prefixes.{prefix_refusal}
@@ -62,13 +65,14 @@ use Rattle.slate_protocol.specs.Alone.{without}
 use Rattle.slate_protocol.specs.Calls.{Go}
 use Rattle.slate_protocol.specs.Passes.{pass_answers}
 use Rattle.slate_protocol.specs.Rows.{Answered, Standing, follow}
-use Rattle.slate_protocol.specs.Works.{pass_on}
+use Rattle.slate_protocol.specs.Works.{pass_on, pass_ways}
 use Rattle.slate_protocol.specs.declared.party.Facts.{Facts}
 use Rattle.slate_protocol.specs.declared.work.Work.TheVariants.{Pass}
 use Rattle.slate_laws.proofs.Encodable.{HasBytes, removal_bytes}
-use Rattle.slate_laws.proofs.Exact.{IsRemoval, bound_picks, bounded_picks, get_picks, decoded_picks, listed_picks, list_picks, none_unneeded, none_picked}
+use Rattle.slate_laws.proofs.ManifestPicks.{IsRemoval, of_candidates, bound_picks, bounded_picks, get_picks, decoded_picks, listed_picks, list_picks}
 use Rattle.slate_laws.proofs.Left.{without_none, without_one, advance_listed, delete_listed}
 use Rattle.slate_laws.proofs.Ordered.{IsOrdered}
+use Rattle.slate_laws.proofs.Passes.{manifest_pass}
 use Rattle.slate_laws.proofs.Stores.{IsTidy, at_else}
 
 not_at_most : (n b : ℕ) → b < n → nat_le n b ≡ false
@@ -162,12 +166,6 @@ pub record IsFine (db : List ℕ) (s : Store) : Type 0 where
   pub greatest : greatest ManifestLog (listed (Manifests db) s) ≡ Some top
   pub below : bound < top
 
--- candidates of some objects, by some checkpoints
-pub record AreUnneeded (n : ℕ) (candidates : List ObjectMetadata) : Type 0 where
-  pub checkpoints : List Checkpoint
-  pub found : List ObjectMetadata
-  pub is : candidates ≡ unneeded n checkpoints found
-
 -- the object of the boundary is as it was read
 abbrev AdvanceCan : List ℕ → Store → AdvancePhase → Type 0
 AdvanceCan db s (advancing.Bounding n) = Unit {0}
@@ -175,8 +173,14 @@ AdvanceCan db s (advancing.Creating n) = object_at (boundary_path ManifestLog db
 AdvanceCan db s (advancing.Replacing n tag) = has_tag tag (object_at (boundary_path ManifestLog db) s) ≡ true
 AdvanceCan db s advancing.Over = ⊥
 
+-- the counts of a pass before its first delete
+pub record IsFirst (left : List ObjectMetadata) (counts : PassCounts) : Type 0 where
+  pub picked : counts.picked ≡ length left
+  pub deleted : counts.deleted ≡ 0
+  pub failed : counts.failed ≡ 0
+
 -- what is known in a phase
-abbrev pub Knows : List ℕ → Store → GcPass → Type 0
+abbrev pub Knows : List ℕ → Store → GcPhase → Type 0
 Knows db s (Reading reading.Listing) = Unit {0}
 Knows db s (Reading (reading.Getting n)) = (v : Manifest) × IsLatest db s n v × IsUp db s n
 Knows db s (Reading (reading.Bounding n v)) = IsLatest db s n v × IsUp db s n
@@ -184,15 +188,19 @@ Knows db s (Reading reading.Over) = ⊥
 Knows db s (Committing now (committing.Putting n bytes v)) = (n < 2 ^ 64) × (object_at (version_path ManifestLog db n) s ≡ None) × IsUp db s n
 Knows db s (Committing now (committing.Bounding n v)) = IsUp db s n
 Knows db s (Committing now committing.Over) = ⊥
-Knows db s (Collecting passing.Listing) = Unit {0}
-Knows db s (Collecting (passing.Getting n found)) = (v : Manifest) × IsLatest db s n v × IsUp db s n
-Knows db s (Collecting (passing.Bounding n candidates)) = IsUp db s n × AreUnneeded n candidates
-Knows db s (Collecting (passing.Advancing advance picked)) = AdvanceCan db s advance
-Knows db s (Collecting (passing.Deleting left counts)) = (has_object left ≡ true) × (counts.deleted ≤ last_number)
-Knows db s (Collecting passing.Over) = ⊥
+Knows db s (Collecting at (passing.ReadingRecord phase)) = ⊥
+Knows db s (Collecting at (passing.ReadingManifest least phase)) = ⊥
+Knows db s (Collecting at (passing.Fetching heads phase)) = ⊥
+Knows db s (Collecting None (passing.Listing heads versions)) = Unit {0}
+Knows db s (Collecting (Some now) (passing.Listing heads versions)) = ⊥
+Knows db s (Collecting at (passing.Getting n count found)) = (v : Manifest) × IsLatest db s n v × IsUp db s n
+Knows db s (Collecting at (passing.Bounding n count candidates)) = IsUp db s n
+Knows db s (Collecting at (passing.Advancing advance left counts)) = AdvanceCan db s advance × IsFirst left counts
+Knows db s (Collecting at (passing.Deleting left counts)) = (has_object left ≡ true) × (counts.deleted ≤ last_number)
+Knows db s (Collecting at passing.Over) = ⊥
 
 -- where so much is known a call is due
-pub known_due : (db : List ℕ) (s : Store) (phase : GcPass) → Knows db s phase → gc_due phase ≡ true
+pub known_due : (db : List ℕ) (s : Store) (phase : GcPhase) → Knows db s phase → gc_due phase ≡ true
 known_due db s (Reading reading.Listing) h = refl
 known_due db s (Reading (reading.Getting n)) h = refl
 known_due db s (Reading (reading.Bounding n v)) h = refl
@@ -200,15 +208,18 @@ known_due db s (Reading reading.Over) h = absurd h
 known_due db s (Committing now (committing.Putting n bytes v)) h = refl
 known_due db s (Committing now (committing.Bounding n v)) h = refl
 known_due db s (Committing now committing.Over) h = absurd h
-known_due db s (Collecting passing.Listing) h = refl
-known_due db s (Collecting (passing.Getting n found)) h = refl
-known_due db s (Collecting (passing.Bounding n candidates)) h = refl
-known_due db s (Collecting (passing.Advancing (advancing.Bounding n) picked)) h = refl
-known_due db s (Collecting (passing.Advancing (advancing.Creating n) picked)) h = refl
-known_due db s (Collecting (passing.Advancing (advancing.Replacing n tag) picked)) h = refl
-known_due db s (Collecting (passing.Advancing advancing.Over picked)) h = absurd h
-known_due db s (Collecting (passing.Deleting left counts)) h = h.0
-known_due db s (Collecting passing.Over) h = absurd h
+known_due db s (Collecting at (passing.ReadingRecord phase)) h = absurd h
+known_due db s (Collecting at (passing.ReadingManifest least phase)) h = absurd h
+known_due db s (Collecting at (passing.Fetching heads phase)) h = absurd h
+known_due db s (Collecting at (passing.Listing heads versions)) h = refl
+known_due db s (Collecting at (passing.Getting n count found)) h = refl
+known_due db s (Collecting at (passing.Bounding n count candidates)) h = refl
+known_due db s (Collecting at (passing.Advancing (advancing.Bounding n) left counts)) h = refl
+known_due db s (Collecting at (passing.Advancing (advancing.Creating n) left counts)) h = refl
+known_due db s (Collecting at (passing.Advancing (advancing.Replacing n tag) left counts)) h = refl
+known_due db s (Collecting at (passing.Advancing advancing.Over left counts)) h = absurd h.0
+known_due db s (Collecting at (passing.Deleting left counts)) h = h.0
+known_due db s (Collecting at passing.Over) h = absurd h
 
 -- the reply of a pass that deleted all of these objects, and left of those that were found the others
 pub record EndsWith (db : List ℕ) (ps found : List ObjectMetadata) (r : Reply) (s : Store) : Type 0 where
@@ -221,30 +232,36 @@ pub record DeletesEnd (db : List ℕ) (ps : List ObjectMetadata) (counts : PassC
   pub left : listed (Manifests db) s ≡ without ps found
 
 -- by the answers from its list on: the pass ended, or there was no list
-pub data RemovalEnds (db : List ℕ) (options : PassOptions) (answers : List Answered) (r : Reply) (s : Store) : Type 0 where
-  Lists : (found : List ObjectMetadata) (moment : ℤ) (later : List Answered) → answers ≡ (Found found, moment) ∷ later → EndsWith db (list_picks options answers) found r s
-      → RemovalEnds db options answers r s
-  Lacks : answers ≡ [] → r ≡ Refused (Exhausted last_number) → RemovalEnds db options answers r s
+pub data RemovalEnds (db : List ℕ) (settings : PassSettings) (word : FilterWord) (answers : List Answered) (r : Reply) (s : Store) : Type 0 where
+  Lists : (found : List ObjectMetadata) (moment : ℤ) (later : List Answered) → answers ≡ (Found found, moment) ∷ later → EndsWith db (list_picks settings word answers) found r s
+      → RemovalEnds db settings word answers r s
+  Lacks : answers ≡ [] → r ≡ Refused (Exhausted last_number) → RemovalEnds db settings word answers r s
 
-module _ (facts : Facts) (call : Call) (db : List ℕ) (options : PassOptions) where
+module _ (facts : Facts) (call : Call) (db : List ℕ) (options : GarbageCollectorDirectoryOptions) (word : FilterWord) where
+  abbrev settings : PassSettings
+  settings = manifest_pass options
+
   -- where a call stands in a phase
-  abbrev pub standing : GcPass → Standing
-  standing phase = record { facts = facts; next = Go (Pass db options phase) }
+  abbrev pub standing : GcPhase → Standing
+  standing phase = record { facts = facts; next = Go (Pass db settings word phase) }
 
   -- where a call stands once its pass has gone on
   abbrev pub next_of : ℤ → GcGoes → Standing
-  next_of moment g = follow facts call moment (pass_on db options g)
+  next_of moment g = follow facts call moment (pass_on db settings word g)
 
   -- what a pass leaves, from a phase on: by the store there, the answers from there on, the reply, and the store at the end
-  abbrev pub Ends : GcPass → Store → List Answered → Reply → Store → Type 0
-  Ends (Reading phase) s answers r t = RemovalEnds db options (pass_answers call (standing (Reading phase)) answers) r t
-  Ends (Committing now phase) s answers r t = RemovalEnds db options (pass_answers call (standing (Committing now phase)) answers) r t
-  Ends (Collecting passing.Listing) s answers r t = RemovalEnds db options (pass_answers call (standing (Collecting passing.Listing)) answers) r t
-  Ends (Collecting (passing.Getting n found)) s answers r t = EndsWith db (get_picks options n found answers) (listed (Manifests db) s) r t
-  Ends (Collecting (passing.Bounding n candidates)) s answers r t = EndsWith db (bound_picks options n candidates answers) (listed (Manifests db) s) r t
-  Ends (Collecting (passing.Advancing advance picked)) s answers r t = EndsWith db picked (listed (Manifests db) s) r t
-  Ends (Collecting (passing.Deleting left counts)) s answers r t = DeletesEnd db left counts (listed (Manifests db) s) r t
-  Ends (Collecting passing.Over) s answers r t = ⊥
+  abbrev pub Ends : GcPhase → Store → List Answered → Reply → Store → Type 0
+  Ends (Reading phase) s answers r t = RemovalEnds db settings word (pass_answers call (standing (Reading phase)) answers) r t
+  Ends (Committing now phase) s answers r t = RemovalEnds db settings word (pass_answers call (standing (Committing now phase)) answers) r t
+  Ends (Collecting at (passing.ReadingRecord phase)) s answers r t = ⊥
+  Ends (Collecting at (passing.ReadingManifest least phase)) s answers r t = ⊥
+  Ends (Collecting at (passing.Fetching heads phase)) s answers r t = ⊥
+  Ends (Collecting at (passing.Listing heads versions)) s answers r t = RemovalEnds db settings word (pass_answers call (standing (Collecting at (passing.Listing heads versions))) answers) r t
+  Ends (Collecting at (passing.Getting n count found)) s answers r t = EndsWith db (get_picks settings word n found answers) (listed (Manifests db) s) r t
+  Ends (Collecting at (passing.Bounding n count candidates)) s answers r t = EndsWith db (bound_picks settings word n candidates answers) (listed (Manifests db) s) r t
+  Ends (Collecting at (passing.Advancing advance left counts)) s answers r t = EndsWith db left (listed (Manifests db) s) r t
+  Ends (Collecting at (passing.Deleting left counts)) s answers r t = DeletesEnd db left counts (listed (Manifests db) s) r t
+  Ends (Collecting at passing.Over) s answers r t = ⊥
 
   -- what a step brings: what is known after it, with which the end from there on is the end from here on; or the end
   abbrev pub Brings : Store → (List Answered → Reply → Store → Type 0) → GcGoes → Type 0
@@ -260,16 +277,16 @@ module _ (facts : Facts) (call : Call) (db : List ℕ) (options : PassOptions) w
   Removed s (End phase (Ok counts)) = ⊥
   Removed s (End phase (Err e)) = e ≡ Exhausted last_number
 
-  removal_brings : (s : Store) (moment : ℤ) (g : GcGoes) → Removed s g → Brings s (λ answers r t. RemovalEnds db options (pass_answers call (next_of moment g) answers) r t) g
+  removal_brings : (s : Store) (moment : ℤ) (g : GcGoes) → Removed s g → Brings s (λ answers r t. RemovalEnds db settings word (pass_answers call (next_of moment g) answers) r t) g
   removal_brings s moment (Stay (Reading phase)) h = (h.0, λ answers r t e. e)
   removal_brings s moment (Stay (Committing now phase)) h = (h.0, λ answers r t e. e)
-  removal_brings s moment (Stay (Collecting passing.Listing)) h = (h.0, λ answers r t e. e)
-  removal_brings s moment (Stay (Collecting _)) h = absurd h.1
+  removal_brings s moment (Stay (Collecting None (passing.Listing heads versions))) h = (h.0, λ answers r t e. e)
+  removal_brings s moment (Stay (Collecting _ _)) h = absurd h.1
   removal_brings s moment (End phase (Ok counts)) h = absurd h
   removal_brings s moment (End phase (Err e)) h = Lacks refl (ap (λ (x : SlateDBError). Refused x) h)
 
   -- what is made without the expired checkpoints is committed, or there is no number left for it
-  removal_made : (s : Store) (now : ℤ) (n : ℕ) (v : Manifest) → IsLatest db s n v → IsUp db s n → Removed s (removal_goes now (commit_of encoded DropExpired now n v))
+  removal_made : (s : Store) (now : ℤ) (n : ℕ) (v : Manifest) → IsLatest db s n v → IsUp db s n → Removed s (removal_goes of.Manifest now (commit_of encoded DropExpired now n v))
   removal_made s now n v h up = by_expired (list_any (is_expired now) v.core.checkpoints)
     where
       keep : Checkpoint → Bool
@@ -279,14 +296,14 @@ module _ (facts : Facts) (call : Call) (db : List ℕ) (options : PassOptions) w
       new = less (λ c. not (is_expired now c)) v
 
       by_number : HasBytes new → (b : Bool) → (n == last_number) ≡ b
-          → Removed s (removal_goes now (some_commit (if b then Err (Exhausted n) else checked_commit (manifest_refusal n v new Plain) (n + 1) new (encoded new))))
+          → Removed s (removal_goes of.Manifest now (some_commit (if b then Err (Exhausted n) else checked_commit (manifest_refusal n v new Plain) (n + 1) new (encoded new))))
       by_number k true is = ap (λ (i : ℕ). Exhausted i) (is_last n is)
         where
           is_last : (i : ℕ) → (i == last_number) ≡ true → i ≡ last_number
           is_last i e = grind (arith, nat_tests)
       by_number k false is =
-          subst (λ (o : Option SlateDBError). Removed s (removal_goes now (some_commit (checked_commit o (n + 1) new (encoded new))))) (sym (less_lawful n v keep h.apart))
-          (subst (λ (r : Result (List ℕ) SlateDBError). Removed s (removal_goes now (some_commit (encoded_commit (n + 1) new r)))) (sym k.is) ((fits n is h.small, h.free (fits n is h.small), λ b e. above b n (up b e)), tt))
+          subst (λ (o : Option SlateDBError). Removed s (removal_goes of.Manifest now (some_commit (checked_commit o (n + 1) new (encoded new))))) (sym (less_lawful n v keep h.apart))
+          (subst (λ (r : Result (List ℕ) SlateDBError). Removed s (removal_goes of.Manifest now (some_commit (encoded_commit (n + 1) new r)))) (sym k.is) ((fits n is h.small, h.free (fits n is h.small), λ b e. above b n (up b e)), tt))
         where
           fits : (i : ℕ) → (i == last_number) ≡ false → i < 2 ^ 64 → i + 1 < 2 ^ 64
           fits i e lt = grind (arith, nat_tests)
@@ -294,7 +311,7 @@ module _ (facts : Facts) (call : Call) (db : List ℕ) (options : PassOptions) w
           above : (b i : ℕ) → b < i → b < i + 1
           above b i lt = omega arith
 
-      by_expired : (b : Bool) → Removed s (removal_goes now (wanted (λ m. prepared manifest_refusal encoded n v m Plain) (floored v.core.floor (if b then Ok (Some (with_checkpoints (filter (λ c. not (is_expired now c)) v.core.checkpoints) v)) else Ok None))))
+      by_expired : (b : Bool) → Removed s (removal_goes of.Manifest now (wanted (λ m. prepared manifest_refusal encoded n v m Plain) (floored v.core.floor (if b then Ok (Some (with_checkpoints (filter (λ c. not (is_expired now c)) v.core.checkpoints) v)) else Ok None))))
       by_expired false = (tt, tt)
       by_expired true = by_number (subst (λ (m : Manifest). HasBytes (less (λ c. not (is_expired now c)) m)) (sym h.normal) (removal_bytes h.source h.bytes (λ c. not (is_expired now c)) h.encodes)) (n == last_number) refl
 
@@ -313,15 +330,15 @@ module _ (facts : Facts) (call : Call) (db : List ℕ) (options : PassOptions) w
     above_test n up = not_at_most n fine.bound (up fine.bound fine.read)
 
     read_step : (phase : ReadPhase Manifest) → Knows db s (Reading phase)
-        → Removed s (read_on encoded moment (read_goes ManifestLog decoded_manifest phase (whole (read_asks db ManifestLog phase) moment s).answer))
+        → Removed s (read_on encoded of.Manifest moment (read_goes ManifestLog decoded_manifest phase (whole (read_asks db ManifestLog phase) moment s).answer))
     read_step reading.Listing h =
-        subst (λ (o : Option ℕ). Removed s (read_on encoded moment (read_listed o))) (sym fine.greatest) ((fine.value, fine.latest, top_up), tt)
+        subst (λ (o : Option ℕ). Removed s (read_on encoded of.Manifest moment (read_listed o))) (sym fine.greatest) ((fine.value, fine.latest, top_up), tt)
     read_step (reading.Getting n) h =
-        subst (λ (o : Option StoredObject). Removed s (read_on encoded moment (read_got decoded_manifest n o))) (sym h.1.at)
-        (subst (λ (r : Result Manifest SlateDBError). Removed s (read_on encoded moment (read_decoded n r))) (sym h.1.value) ((h.1, h.2), tt))
+        subst (λ (o : Option StoredObject). Removed s (read_on encoded of.Manifest moment (read_got decoded_manifest n o))) (sym h.1.at)
+        (subst (λ (r : Result Manifest SlateDBError). Removed s (read_on encoded of.Manifest moment (read_decoded n r))) (sym h.1.value) ((h.1, h.2), tt))
     read_step (reading.Bounding n v) h =
-        subst (λ (o : Option ℕ). Removed s (read_on encoded moment (read_bounded n v o))) (sym fine.read)
-        (subst (λ (b : Bool). Removed s (read_on encoded moment (if b then Stay reading.Listing else End reading.Over (Ok (Some (n, v)))))) (sym (above_test n h.1)) (removal_made s moment n v h.0 h.1))
+        subst (λ (o : Option ℕ). Removed s (read_on encoded of.Manifest moment (read_bounded n v o))) (sym fine.read)
+        (subst (λ (b : Bool). Removed s (read_on encoded of.Manifest moment (if b then Stay reading.Listing else End reading.Over (Ok (Some (n, v)))))) (sym (above_test n h.1)) (removal_made s moment n v h.0 h.1))
     read_step reading.Over h = absurd h
 
     module _ (named : is_db_path db ≡ true) where
@@ -332,59 +349,79 @@ module _ (facts : Facts) (call : Call) (db : List ℕ) (options : PassOptions) w
           apart e = absurd cc
 
       commit_step : (since : ℤ) (phase : CommitPhase Manifest) → Knows db s (Committing since phase)
-          → Removed (whole (commit_asks db ManifestLog phase) moment s).store (commit_on since (commit_goes phase (whole (commit_asks db ManifestLog phase) moment s).answer))
+          → Removed (whole (commit_asks db ManifestLog phase) moment s).store (commit_on of.Manifest since (commit_goes phase (whole (commit_asks db ManifestLog phase) moment s).answer))
       commit_step since (committing.Putting n bytes v) h =
-          subst (λ (o : Option StoredObject). Removed (put_new o (version_path ManifestLog db n) bytes moment s).store (commit_on since (commit_goes (committing.Putting n bytes v) (put_new o (version_path ManifestLog db n) bytes moment s).answer))) (sym h.1)
+          subst (λ (o : Option StoredObject). Removed (put_new o (version_path ManifestLog db n) bytes moment s).store (commit_on of.Manifest since (commit_goes (committing.Putting n bytes v) (put_new o (version_path ManifestLog db n) bytes moment s).answer))) (sym h.1)
           ((λ b is. h.2 b (sym (ap boundary_got (boundary_else n bytes h.0)) ∙ is)), tt)
       commit_step since (committing.Bounding n v) h =
-          subst (λ (o : Option ℕ). Removed s (commit_on since (commit_bounded n v o))) (sym fine.read)
-          (subst (λ (b : Bool). Removed s (commit_on since (if b then End committing.Over (Err (TransactionalObjectVersionExists n (Some fine.bound))) else End committing.Over (Ok (n, v))))) (sym (above_test n h)) (tt, tt))
+          subst (λ (o : Option ℕ). Removed s (commit_on of.Manifest since (commit_bounded n v o))) (sym fine.read)
+          (subst (λ (b : Bool). Removed s (commit_on of.Manifest since (if b then End committing.Over (Err (TransactionalObjectVersionExists n (Some fine.bound))) else End committing.Over (Ok (n, v))))) (sym (above_test n h)) (tt, tt))
       commit_step since committing.Over h = absurd h
 
     -- ---- the steps of what follows
 
-    list_step : Brings s (λ answers r t. RemovalEnds db options ((Found (listed (Manifests db) s), moment) ∷ answers) r t) (collect_on (listed_goes options.min_age moment (listed (Manifests db) s) (greatest ManifestLog (listed (Manifests db) s))))
+    list_step : Brings s (λ answers r t. RemovalEnds db settings word ((Found (listed (Manifests db) s), moment) ∷ answers) r t)
+        (collect_on None moment (manifests_goes options.min_age moment (listed (Manifests db) s) (greatest ManifestLog (listed (Manifests db) s))))
     list_step = by_greatest (greatest ManifestLog (listed (Manifests db) s)) refl (sym fine.greatest)
       where
         by_greatest : (o : Option ℕ) → greatest ManifestLog (listed (Manifests db) s) ≡ o → Some fine.top ≡ greatest ManifestLog (listed (Manifests db) s)
-            → Brings s (λ answers r t. RemovalEnds db options ((Found (listed (Manifests db) s), moment) ∷ answers) r t) (collect_on (listed_goes options.min_age moment (listed (Manifests db) s) o))
+            → Brings s (λ answers r t. RemovalEnds db settings word ((Found (listed (Manifests db) s), moment) ∷ answers) r t) (collect_on None moment (manifests_goes options.min_age moment (listed (Manifests db) s) o))
         by_greatest None is top = absurd cc
         by_greatest (Some n) is top =
             let same : fine.top ≡ n = cc in (
               subst (λ (i : ℕ). (v : Manifest) × IsLatest db s i v × IsUp db s i) same (fine.value, fine.latest, top_up),
               λ answers r t e. Lists (listed (Manifests db) s) moment answers refl
-                  (subst (λ (o : Option ℕ). EndsWith db (listed_picks options moment (listed (Manifests db) s) o answers) (listed (Manifests db) s) r t) (sym is) e),
+                  (subst (λ (o : Option ℕ). EndsWith db (listed_picks settings word moment (listed (Manifests db) s) o answers) (listed (Manifests db) s) r t) (sym is) e),
             )
 
-    get_step : (n : ℕ) (found : List ObjectMetadata) → Knows db s (Collecting (passing.Getting n found))
-        → Brings s (λ answers r t. EndsWith db (get_picks options n found ((Got (object_at (version_path ManifestLog db n) s), moment) ∷ answers)) (listed (Manifests db) s) r t)
-        (collect_on (got_goes decoded_manifest n found (object_at (version_path ManifestLog db n) s)))
-    get_step n found h =
-        subst (λ (o : Option StoredObject). Brings s (λ answers r t. EndsWith db (get_picks options n found ((Got o, moment) ∷ answers)) (listed (Manifests db) s) r t) (collect_on (got_goes decoded_manifest n found o)))
+    get_step : (at : Option ℤ) (now : ℤ) (n count : ℕ) (found : List ObjectMetadata) → Knows db s (Collecting at (passing.Getting n count found))
+        → Brings s (λ answers r t. EndsWith db (get_picks settings word n found ((Got (object_at (version_path ManifestLog db n) s), moment) ∷ answers)) (listed (Manifests db) s) r t)
+        (collect_on at now (got_goes decoded_manifest n count found (object_at (version_path ManifestLog db n) s)))
+    get_step at now n count found h =
+        subst (λ (o : Option StoredObject). Brings s (λ answers r t. EndsWith db (get_picks settings word n found ((Got o, moment) ∷ answers)) (listed (Manifests db) s) r t) (collect_on at now (got_goes decoded_manifest n count found o)))
         (sym h.1.at)
-        (subst (λ (res : Result Manifest SlateDBError). Brings s (λ answers r t. EndsWith db (decoded_picks options n found res answers) (listed (Manifests db) s) r t) (collect_on (decoded_goes n found res)))
+        (subst (λ (res : Result Manifest SlateDBError). Brings s (λ answers r t. EndsWith db (decoded_picks settings word n found res answers) (listed (Manifests db) s) r t) (collect_on at now (decoded_goes n count found res)))
         (sym h.1.value)
-        ((h.2, record { checkpoints = h.0.core.checkpoints; found = found; is = refl }), λ answers r t e. e))
+        (h.2, λ answers r t e. e))
 
-    -- where nothing is picked nothing is left out
-    none_ends : (ps : List ObjectMetadata) → ps ≡ [] → EndsWith db ps (listed (Manifests db) s) (reply.Pass 0 0 0) s
-    none_ends ps is = subst (λ (qs : List ObjectMetadata). EndsWith db qs (listed (Manifests db) s) (reply.Pass 0 0 0) s) (sym is) (record { replied = refl; left = sym (without_none (listed (Manifests db) s)) })
-
-    bound_step : (n : ℕ) (candidates : List ObjectMetadata) → Knows db s (Collecting (passing.Bounding n candidates))
-        → Brings s (λ answers r t. EndsWith db (bounded_picks options n candidates (boundary_got (object_at (boundary_path ManifestLog db) s))) (listed (Manifests db) s) r t)
-        (collect_on (bounded_goes options n candidates (boundary_got (object_at (boundary_path ManifestLog db) s))))
-    bound_step n candidates h =
-        subst (λ (o : Option ℕ). Brings s (λ answers r t. EndsWith db (bounded_picks options n candidates o) (listed (Manifests db) s) r t) (collect_on (bounded_goes options n candidates o))) (sym fine.read)
-        (subst (λ (b : Bool). Brings s (λ answers r t. EndsWith db (if b then [] else picks options candidates) (listed (Manifests db) s) r t) (collect_on (if b then End passing.Over (Err (ManifestMissing n)) else bounded_next options candidates)))
-        (sym (above_test n h.0)) (by_greatest (greatest ManifestLog candidates) refl))
+    -- the picks are to be deleted
+    picks_bring : (at : Option ℤ) (now : ℤ) (t : Store) (ps : List ObjectMetadata) (counts : PassCounts) → IsFirst ps counts → listed (Manifests db) t ≡ listed (Manifests db) s
+        → Brings t (λ answers r u. EndsWith db ps (listed (Manifests db) s) r u) (collect_on at now (deletes_next ps counts))
+    picks_bring at now t [] counts first same = record {
+      replied = first_reply counts.picked counts.deleted counts.failed first.picked first.deleted first.failed;
+      left = same ∙ sym (without_none (listed (Manifests db) s));
+    }
       where
-        by_greatest : (k : Option ℕ) → greatest ManifestLog candidates ≡ k
-            → Brings s (λ answers r t. EndsWith db (picks options candidates) (listed (Manifests db) s) r t) (collect_on (moves_to (picks options candidates) k))
-        by_greatest (Some k) is = (tt, λ answers r t e. e)
-        by_greatest None is =
-            let u = h.1 in
-            let none : candidates ≡ [] = u.is ∙ none_unneeded n u.checkpoints u.found (sym (ap (greatest ManifestLog) u.is) ∙ is) in
-            none_ends (picks options candidates) (ap (picks options) none ∙ none_picked options)
+        first_reply : (a b c : ℕ) → a ≡ 0 → b ≡ 0 → c ≡ 0 → reply.Pass a b c ≡ reply.Pass 0 0 0
+        first_reply a b c e f g = cc
+    picks_bring at now t (p ∷ ps) counts first same = (
+      (refl, subst (λ (i : ℕ). i ≤ last_number) (sym first.deleted) (zero_small last_number)),
+      λ answers r u e. record {
+        replied = e.replied ∙ (ap (λ (i : ℕ). reply.Pass i (min (counts.deleted + length (p ∷ ps)) last_number) counts.failed) first.picked
+            ∙ (ap (λ (i : ℕ). reply.Pass (length (p ∷ ps)) (min (i + length (p ∷ ps)) last_number) counts.failed) first.deleted
+            ∙ (ap (λ (i : ℕ). reply.Pass (length (p ∷ ps)) (min (0 + length (p ∷ ps)) last_number) i) first.failed
+            ∙ ap (λ (i : ℕ). reply.Pass (length (p ∷ ps)) i 0) (from_none (length (p ∷ ps))))));
+        left = e.left ∙ ap (without (p ∷ ps)) same;
+      },
+    )
+      where
+        zero_small : (i : ℕ) → 0 ≤ i
+        zero_small i = omega arith
+
+    bound_step : (at : Option ℤ) (now : ℤ) (n count : ℕ) (candidates : List ObjectMetadata) → Knows db s (Collecting at (passing.Bounding n count candidates))
+        → Brings s (λ answers r t. EndsWith db (bounded_picks settings word n candidates (boundary_got (object_at (boundary_path ManifestLog db) s))) (listed (Manifests db) s) r t)
+        (collect_on at now (bounded_goes (pass_ways word).allows settings n count candidates (boundary_got (object_at (boundary_path ManifestLog db) s))))
+    bound_step at now n count candidates h =
+        subst (λ (o : Option ℕ). Brings s (λ answers r t. EndsWith db (bounded_picks settings word n candidates o) (listed (Manifests db) s) r t) (collect_on at now (bounded_goes (pass_ways word).allows settings n count candidates o))) (sym fine.read)
+        (subst (λ (b : Bool). Brings s (λ answers r t. EndsWith db (if b then [] else of_candidates settings word candidates) (listed (Manifests db) s) r t)
+        (collect_on at now (if b then End passing.Over (Err (ManifestMissing n)) else chosen_goes (pass_ways word).allows settings count candidates)))
+        (sym (above_test n h)) (by_greatest (greatest ManifestLog candidates)))
+      where
+        by_greatest : (k : Option ℕ)
+            → Brings s (λ answers r t. EndsWith db (of_candidates settings word candidates) (listed (Manifests db) s) r t)
+            (collect_on at now (advance_to k (of_candidates settings word candidates) (counts_of (length (of_candidates settings word candidates)) count)))
+        by_greatest (Some k) = ((tt, record { picked = refl; deleted = refl; failed = refl }), λ answers r t e. e)
+        by_greatest None = picks_bring at now s (of_candidates settings word candidates) (counts_of (length (of_candidates settings word candidates)) count) (record { picked = refl; deleted = refl; failed = refl }) refl
 
     -- ---- the boundary moves up
 
@@ -417,37 +454,23 @@ module _ (facts : Facts) (call : Call) (db : List ℕ) (options : PassOptions) w
         subst (λ (b : Bool). Moved (replace b (boundary_path ManifestLog db) (decimal k) moment s).store (advance_goes (advancing.Replacing k tag) (replace b (boundary_path ManifestLog db) (decimal k) moment s).answer)) (sym h) tt
     move_step advancing.Over h = absurd h
 
-    -- the picks are to be deleted
-    picks_bring : (t : Store) (ps : List ObjectMetadata) → listed (Manifests db) t ≡ listed (Manifests db) s → Brings t (λ answers r u. EndsWith db ps (listed (Manifests db) s) r u) (collect_on (picks_next ps))
-    picks_bring t [] same = record { replied = refl; left = same ∙ sym (without_none (listed (Manifests db) s)) }
-    picks_bring t (p ∷ ps) same = (
-      (refl, zero_small last_number),
-      λ answers r u e. record {
-        replied = e.replied ∙ ap (λ (i : ℕ). reply.Pass (length (p ∷ ps)) i 0) (from_none (length (p ∷ ps)));
-        left = e.left ∙ ap (without (p ∷ ps)) same;
-      },
-    )
-      where
-        zero_small : (i : ℕ) → 0 ≤ i
-        zero_small i = omega arith
-
-    moved_brings : (t : Store) (ps : List ObjectMetadata) → listed (Manifests db) t ≡ listed (Manifests db) s → (g : AdvanceGoes) → Moved t g
-        → Brings t (λ answers r u. EndsWith db ps (listed (Manifests db) s) r u) (collect_on (advanced_goes ps g))
-    moved_brings t ps same (Stay advance) h = (h, λ answers r u e. subst (λ (found : List ObjectMetadata). EndsWith db ps found r u) same e)
-    moved_brings t ps same (End advance (Ok done)) h = picks_bring t ps same
-    moved_brings t ps same (End advance (Err e)) h = absurd h
+    moved_brings : (at : Option ℤ) (now : ℤ) (t : Store) (ps : List ObjectMetadata) (counts : PassCounts) → IsFirst ps counts → listed (Manifests db) t ≡ listed (Manifests db) s → (g : AdvanceGoes) → Moved t g
+        → Brings t (λ answers r u. EndsWith db ps (listed (Manifests db) s) r u) (collect_on at now (advanced_goes ps counts g))
+    moved_brings at now t ps counts first same (Stay advance) h = ((h, first), λ answers r u e. subst (λ (found : List ObjectMetadata). EndsWith db ps found r u) same e)
+    moved_brings at now t ps counts first same (End advance (Ok done)) h = picks_bring at now t ps counts first same
+    moved_brings at now t ps counts first same (End advance (Err e)) h = absurd h
 
     -- ---- a delete
 
-    delete_step : (left : List ObjectMetadata) (counts : PassCounts) → Knows db s (Collecting (passing.Deleting left counts))
-        → Brings (whole (pass_asks db (passing.Deleting left counts)) moment s).store (λ answers r t. DeletesEnd db left counts (listed (Manifests db) s) r t)
-        (collect_on (pass_goes decoded_manifest options moment (passing.Deleting left counts) (whole (pass_asks db (passing.Deleting left counts)) moment s).answer))
-    delete_step [] counts h = absurd (cc (h.0))
-    delete_step (p ∷ []) counts h = record {
+    delete_step : (at : Option ℤ) (now : ℤ) (left : List ObjectMetadata) (counts : PassCounts) → Knows db s (Collecting at (passing.Deleting left counts))
+        → Brings (whole (pass_asks db of.Manifest (passing.Deleting left counts)) moment s).store (λ answers r t. DeletesEnd db left counts (listed (Manifests db) s) r t)
+        (collect_on at now (pass_goes (pass_ways word) settings now (passing.Deleting left counts) (whole (pass_asks db of.Manifest (passing.Deleting left counts)) moment s).answer))
+    delete_step at now [] counts h = absurd (cc (h.0))
+    delete_step at now (p ∷ []) counts h = record {
       replied = refl;
       left = delete_listed db p s fine.ordered;
     }
-    delete_step (p ∷ q ∷ ps) counts h = (
+    delete_step at now (p ∷ q ∷ ps) counts h = (
       (refl, count_small counts.deleted),
       λ answers r t e. record {
         replied = e.replied ∙ ap (λ (i : ℕ). reply.Pass counts.picked i counts.failed) (more_deleted counts.deleted (length (q ∷ ps)) (length (p ∷ q ∷ ps)) (omega arith));
@@ -457,12 +480,12 @@ module _ (facts : Facts) (call : Call) (db : List ℕ) (options : PassOptions) w
 
     -- ---- any step without a fault
 
-    pub step_brings : is_db_path db ≡ true → (phase : GcPass) → Knows db s phase
-        → Brings (whole (gc_asks db phase) moment s).store (λ answers r t. Ends phase s (((whole (gc_asks db phase) moment s).answer, moment) ∷ answers) r t)
-        (gc_goes decoded_manifest encoded options moment phase (whole (gc_asks db phase) moment s).answer)
+    pub step_brings : is_db_path db ≡ true → (phase : GcPhase) → Knows db s phase
+        → Brings (whole (gc_asks db of.Manifest phase) moment s).store (λ answers r t. Ends phase s (((whole (gc_asks db of.Manifest phase) moment s).answer, moment) ∷ answers) r t)
+        (gc_goes (pass_ways word) settings moment phase (whole (gc_asks db of.Manifest phase) moment s).answer)
     step_brings named (Reading phase) h =
-        removal_brings (whole (read_asks db ManifestLog phase) moment s).store moment (read_on encoded moment (read_goes ManifestLog decoded_manifest phase (whole (read_asks db ManifestLog phase) moment s).answer))
-        (subst (λ (t : Store). Removed t (read_on encoded moment (read_goes ManifestLog decoded_manifest phase (whole (read_asks db ManifestLog phase) moment s).answer))) (read_same phase) (read_step phase h))
+        removal_brings (whole (read_asks db ManifestLog phase) moment s).store moment (read_on encoded of.Manifest moment (read_goes ManifestLog decoded_manifest phase (whole (read_asks db ManifestLog phase) moment s).answer))
+        (subst (λ (t : Store). Removed t (read_on encoded of.Manifest moment (read_goes ManifestLog decoded_manifest phase (whole (read_asks db ManifestLog phase) moment s).answer))) (read_same phase) (read_step phase h))
       where
         read_same : (p : ReadPhase Manifest) → s ≡ (whole (read_asks db ManifestLog p) moment s).store
         read_same reading.Listing = refl
@@ -470,12 +493,16 @@ module _ (facts : Facts) (call : Call) (db : List ℕ) (options : PassOptions) w
         read_same (reading.Bounding n v) = refl
         read_same reading.Over = refl
     step_brings named (Committing since phase) h =
-        removal_brings (whole (commit_asks db ManifestLog phase) moment s).store moment (commit_on since (commit_goes phase (whole (commit_asks db ManifestLog phase) moment s).answer))
+        removal_brings (whole (commit_asks db ManifestLog phase) moment s).store moment (commit_on of.Manifest since (commit_goes phase (whole (commit_asks db ManifestLog phase) moment s).answer))
         (commit_step named since phase h)
-    step_brings named (Collecting passing.Listing) h = list_step
-    step_brings named (Collecting (passing.Getting n found)) h = get_step n found h
-    step_brings named (Collecting (passing.Bounding n candidates)) h = bound_step n candidates h
-    step_brings named (Collecting (passing.Advancing advance picked)) h =
-        moved_brings (whole (advance_asks db ManifestLog advance) moment s).store picked (advance_listed db named moment s fine.tidy advance) _ (move_step advance h)
-    step_brings named (Collecting (passing.Deleting left counts)) h = delete_step left counts h
-    step_brings named (Collecting passing.Over) h = absurd h
+    step_brings named (Collecting at (passing.ReadingRecord phase)) h = absurd h
+    step_brings named (Collecting at (passing.ReadingManifest least phase)) h = absurd h
+    step_brings named (Collecting at (passing.Fetching heads phase)) h = absurd h
+    step_brings named (Collecting None (passing.Listing heads versions)) h = list_step
+    step_brings named (Collecting (Some now) (passing.Listing heads versions)) h = absurd h
+    step_brings named (Collecting at (passing.Getting n count found)) h = get_step at (moment_of_pass at moment) n count found h
+    step_brings named (Collecting at (passing.Bounding n count candidates)) h = bound_step at (moment_of_pass at moment) n count candidates h
+    step_brings named (Collecting at (passing.Advancing advance left counts)) h =
+        moved_brings at (moment_of_pass at moment) (whole (advance_asks db ManifestLog advance) moment s).store left counts h.1 (advance_listed db named moment s fine.tidy advance) _ (move_step advance h.0)
+    step_brings named (Collecting at (passing.Deleting left counts)) h = delete_step at (moment_of_pass at moment) left counts h
+    step_brings named (Collecting at passing.Over) h = absurd h

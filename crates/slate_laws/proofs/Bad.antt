@@ -19,12 +19,11 @@ use Rattle.slate_store.specs.declared.mark.Mark.{Mark}
 use Rattle.slate_store.specs.declared.store_call.StoreCall.{StoreCall}
 use Rattle.slate_store.specs.declared.store_call.StoreCall.TheVariants.{List as ListCall, Get, PutNew, Replace, Put, Delete}
 use Rattle.slate_events.specs.declared.call.Call.{Call}
-use Rattle.slate_events.specs.declared.call.Call.TheVariants.{OpenWriter}
 use Rattle.slate_events.specs.declared.db_spec.DbSpec.{DbSpec}
 use Rattle.slate_events.specs.declared.event.Event.{Event}
 use Rattle.slate_events.specs.declared.event.Event.TheVariants.{Open, Start, Step, Stop}
 use Rattle.slate_events.specs.declared.party_kind.PartyKind.{PartyKind}
-use Rattle.slate_protocol.specs.Calls.{fresh_checkpoints, named_checkpoints, fresh_ulids, named_ulids, facts_after}
+use Rattle.slate_protocol.specs.Calls.{fresh_checkpoints, named_checkpoints, fresh_ulids, named_ulids}
 use Rattle.slate_protocol.specs.Done.{kind_opened, was_opened, is_database, start_names, was_named, start_names_ulid, was_ulid_named, comes_again, is_old, lacks_call, is_bad_after}
 use Rattle.slate_protocol.specs.Ids.{Pool, checkpoint_cmp, is_carried, is_stale_among, is_stale}
 use Rattle.slate_protocol.specs.Lawful.{IsAccepted, AreGood, course_after, world_at_end}
@@ -39,9 +38,6 @@ use Rattle.slate_protocol.specs.declared.party.State.{State}
 use Rattle.slate_protocol.specs.declared.party.State.TheVariants.{Resting, Busy, Halted}
 use Rattle.slate_protocol.specs.declared.party.Task.{Task}
 use Rattle.slate_protocol.specs.declared.tally.Tally.{Tally}
-use Rattle.slate_protocol.specs.declared.work.Ended.{Ended}
-use Rattle.slate_protocol.specs.declared.work.Ended.TheVariants.{NoManifest, ManifestRead, ManifestCommitted, NoRecord, RecordRead, RecordCommitted, TablePut, Passed}
-use Rattle.slate_protocol.specs.declared.work.Purpose.TheVariants.{Once}
 use Rattle.slate_laws.proofs.FactsKept.{ends_same, starts_same}
 use Rattle.slate_laws.proofs.GoingOn.{run_world}
 use Rattle.slate_laws.proofs.Maps.{number_order, name_order, set_here, set_else, insert_here, insert_else}

@@ -1,7 +1,9 @@
 -- What a call makes of its work's end.
-use Rattle.std.proofs.Common.{◌≡◌, ℕ, ℤ, ◌+◌, ◌<◌, ◌≤◌, ◌^◌, ◌==◌, true, false, true≢false, List, Option, Some, None, Result, Ok, Err, refl, sym, ap, ◌∙◌, subst, ◌⊎◌, inl, inr, arith}
+use Rattle.std.proofs.Common.{◌≡◌, ℕ, ℤ, ◌+◌, ◌<◌, ◌≤◌, ◌^◌, ◌==◌, Bool, true, false, true≢false, List, Option, Some, None, Result, Ok, Err, refl, sym, ap, ◌∙◌, subst, ◌⊎◌, inl, inr, arith}
 use Rattle.std.proofs.lemmas.Bool.Decides.{nat_tests}
 use Rattle.slate_ids.specs.Limits.{last_number}
+use Rattle.slate_ids.specs.declared.gc_message.GcMessage.{GcMessage}
+use Rattle.slate_ids.specs.declared.gc_message.GcMessage.TheVariants as of
 use Rattle.slate_ids.specs.Ulids.{is_id}
 use Rattle.slate_ids.specs.declared.error.SlateDBError.{SlateDBError}
 use Rattle.slate_layout.specs.Codec.{encoded}
@@ -25,24 +27,25 @@ use Rattle.slate_log.specs.declared.commit_phase.CommitPhase.{CommitPhase}
 use Rattle.slate_log.specs.declared.log_kind.LogKind.{LogKind}
 use Rattle.slate_log.specs.declared.read_phase.ReadPhase.TheVariants as reading
 use Rattle.slate_log.specs.declared.log_kind.LogKind.TheVariants as logs
-use Rattle.slate_gc.specs.GcPass.{GcGoes, gc_goes, removal_goes}
-use Rattle.slate_gc.specs.GcPass as whole
-use Rattle.slate_gc.specs.Pass.{PassGoes, pass_goes}
-use Rattle.slate_gc.specs.declared.gc_pass.GcPass.{GcPass}
-use Rattle.slate_gc.specs.declared.gc_pass.GcPass.TheVariants.{Reading, Committing, Collecting}
-use Rattle.slate_gc.specs.declared.pass_options.PassOptions.{PassOptions}
+use Rattle.slate_passes.specs.GcPhase.{GcGoes, gc_goes, removal_goes, moment_of_pass}
+use Rattle.slate_passes.specs.GcPhase as whole
+use Rattle.slate_passes.specs.Pass.{PassGoes, first_phase, pass_goes}
+use Rattle.slate_passes.specs.declared.gc_phase.GcPhase.{GcPhase}
+use Rattle.slate_passes.specs.declared.gc_phase.GcPhase.TheVariants.{Reading, Committing, Collecting}
+use Rattle.slate_passes.specs.declared.pass_settings.PassSettings.{PassSettings}
+use Rattle.slate_events.specs.declared.filter_word.FilterWord.{FilterWord}
 use Rattle.slate_events.specs.declared.call.Call.{Call}
 use Rattle.slate_events.specs.declared.call.Call.TheVariants.{Upload as UploadCall, OpenCompactor, Refresh, Finish as FinishCall, Fail, WriteState, Pass}
 use Rattle.slate_events.specs.declared.party_kind.PartyKind.{PartyKind}
 use Rattle.slate_events.specs.declared.party_kind.PartyKind.TheVariants.{Writer, Compactor, Worker, Holder, Collector}
 use Rattle.slate_encodable.specs.Normal.{normal_manifest}
 use Rattle.slate_record_bytes.specs.RecordNormal.{normal_record}
-use Rattle.slate_protocol.specs.Calls.{has_call, refusal_at_start, facts_at_start, change_of, again, done_once, done_merged, done, record_change_of, record_again, record_done_once, record_done, refresh_next, first_of, facts_after, Next, Go, Finish}
+use Rattle.slate_protocol.specs.Calls.{has_call, pass_settings, refusal_at_start, facts_at_start, change_of, again, done_once, done_merged, done, record_change_of, record_again, record_done_once, record_done, refresh_next, first_of, facts_after, Next, Go, Finish}
 use Rattle.slate_protocol.specs.Chains.{Link, Log, link_at, top}
 use Rattle.slate_protocol.specs.Logs.{Chains, Phrase, Reads, Commits, Uploads, Collects, manifests, records, log_of, phrase_of}
 use Rattle.slate_protocol.specs.PartyChanges.{change_made, change_right, change_fence, made_by, right_by, fence_by, manifest_commit}
 use Rattle.slate_protocol.specs.Rows.{Standing, first_next, begin_unless, begin, commit_for, last_next, then_next, commit_next, record_commit_for, record_next, record_then, first_put, no_record, after, ended, follow}
-use Rattle.slate_protocol.specs.Works.{WorkGoes, db_of, read_on, commit_on, record_read_on, record_commit_on, put_end, pass_on, goes}
+use Rattle.slate_protocol.specs.Works.{WorkGoes, db_of, read_on, commit_on, record_read_on, record_commit_on, put_end, pass_on, pass_ways, goes}
 use Rattle.slate_protocol.specs.declared.party.Facts.{Facts}
 use Rattle.slate_protocol.specs.declared.party_change.PartyChange.{PartyChange}
 use Rattle.slate_protocol.specs.declared.party_change.PartyChange.TheVariants.{Shared}
@@ -58,12 +61,16 @@ use Rattle.slate_laws.proofs.Facts.{IsSound, IsValue, IsNext, ReadBrings, Commit
 use Rattle.slate_laws.proofs.Facts.IsMade.{OfVersion, OfNone}
 use Rattle.slate_laws.proofs.FactsKept.{ends_same, starts_same, is_commit, commits, end_or_commit}
 use Rattle.slate_laws.proofs.Manifests.{IsChanged, change_commits}
-use Rattle.slate_laws.proofs.Passes.{PassBrings}
+use Rattle.slate_laws.proofs.Passes.{PassKnows, PassBrings, manifest_pass}
 use Rattle.slate_laws.proofs.Steps.{author_of, PhraseKnows, PhraseBrings}
 
--- the work of a pass is that of a call that drops the expired checkpoints
+-- the work of a pass is that of a pass over the manifests that keeps the boundary, in a call that drops the expired checkpoints
+pub record FitsPass (call : Call) (settings : PassSettings) : Type 0 where
+  pub over : settings ≡ manifest_pass settings.options
+  pub drops : (facts : Facts) → change_of facts call Once ≡ Some (Shared DropExpired)
+
 abbrev pub Fits : Call → Work → Type 0
-Fits call (works.Pass db options phase) = (facts : Facts) → change_of facts call Once ≡ Some (Shared DropExpired)
+Fits call (works.Pass db settings filter phase) = FitsPass call settings
 Fits call (works.ReadManifest purpose db phase) = Unit {0}
 Fits call (works.CommitManifest purpose now db phase) = Unit {0}
 Fits call (works.ReadRecord purpose db phase) = Unit {0}
@@ -128,7 +135,6 @@ module _ (Has : List ℕ → Type 0) (s : Store) (chains : Chains) (n : ℕ) (ca
   -- what follows a commit, or a read after which none is needed
   once_reaches : (facts : Facts) (by : Call) (m : Manifest) → Has facts.db → NextKnows Has s chains n facts by (done_once facts by m)
   once_reaches facts OpenCompactor m has = record_read_reaches facts OpenCompactor Once has
-  once_reaches facts (Pass pass min_age dry_run filter) m has = record { has = has; fits = λ f. refl; knows = tt }
   once_reaches facts _ m has = tt
 
   merged_reaches : (facts : Facts) (by : Call) → Has facts.db → NextKnows Has s chains n facts by (done_merged facts by)
@@ -223,7 +229,7 @@ module _ (Has : List ℕ → Type 0) (s : Store) (chains : Chains) (n : ℕ) (ca
   phrase_still facts known (Reads k db phase) is h = h
   phrase_still facts known (Commits k db purpose now phase) is h = absurd (true≢false is)
   phrase_still facts known (Uploads db table bytes) is h = h
-  phrase_still facts known (Collects db phase) is h = h
+  phrase_still facts known (Collects db pass phase) is h = h
 
   next_still : (facts known : Facts) (next : Next) → commits next ≡ false → NextKnows Has s chains n facts call next → NextKnows Has s chains n known call next
   next_still facts known (Go work) is h = record { has = h.has; fits = h.fits; knows = phrase_still facts known (phrase_of work) is h.knows }
@@ -265,40 +271,51 @@ module _ (Has : List ℕ → Type 0) (s : Store) (chains : Chains) (n : ℕ) (ca
     commit_goes_on purpose now (End phase (Err e)) b = tt
 
     -- ---- a whole pass
-    module _ (options : PassOptions) (fits : (f : Facts) → change_of f call Once ≡ Some (Shared DropExpired)) where
+    module _ (settings : PassSettings) (filter : FilterWord) (fits : FitsPass call settings) where
       abbrev GcBrings : GcGoes → Type 0
-      GcBrings (Stay phase) = PhraseKnows s chains n facts call (phrase_of (works.Pass db options phase))
+      GcBrings (Stay phase) = PhraseKnows s chains n facts call (phrase_of (works.Pass db settings filter phase))
       GcBrings (End phase r) = Unit {0}
 
-      pass_goes_on : (g : GcGoes) → GcBrings g → GoesOn facts (pass_on db options g)
+      pass_goes_on : (g : GcGoes) → GcBrings g → GoesOn facts (pass_on db settings filter g)
       pass_goes_on (Stay phase) b = record { has = has; fits = fits; knows = b }
       pass_goes_on (End phase (Ok counts)) b = tt
       pass_goes_on (End phase (Err e)) b = tt
 
-      removal_brings : (now : ℤ) (k : ℕ) (m : Manifest) (r : Result (Option (CommitPhase Manifest)) SlateDBError) → IsValue (chains logs.Manifest db) k m → commit_of encoded DropExpired now k m ≡ r → GcBrings (removal_goes now r)
-      removal_brings now k m (Ok (Some commit)) v h = made_next facts Once db i now k m commit v (ap (λ (change : Option PartyChange). manifest_commit change now k m) (fits facts) ∙ h)
-      removal_brings now k m (Ok None) v h = tt
+      -- a pass over the manifests
+      is_manifest : settings.pass ≡ of.Manifest
+      is_manifest = ap (λ (x : PassSettings). x.pass) fits.over
+
+      -- it begins with its list
+      begins : GcBrings (whole.collects settings.pass)
+      begins = (is_manifest, subst (λ (p : GcMessage). PassKnows s (chains logs.Manifest db) db (first_phase p)) (sym is_manifest) tt)
+
+      removal_brings : (now : ℤ) (k : ℕ) (m : Manifest) (r : Result (Option (CommitPhase Manifest)) SlateDBError) → IsValue (chains logs.Manifest db) k m → commit_of encoded DropExpired now k m ≡ r → GcBrings (removal_goes settings.pass now r)
+      removal_brings now k m (Ok (Some commit)) v h = made_next facts Once db i now k m commit v (ap (λ (change : Option PartyChange). manifest_commit change now k m) (fits.drops facts) ∙ h)
+      removal_brings now k m (Ok None) v h = begins
       removal_brings now k m (Err e) v h = tt
 
-      gc_read : (now : ℤ) (g : Reply Manifest) → ReadBrings manifests db s (chains logs.Manifest db) g → GcBrings (whole.read_on encoded now g)
+      gc_read : (now : ℤ) (g : Reply Manifest) → ReadBrings manifests db s (chains logs.Manifest db) g → GcBrings (whole.read_on encoded settings.pass now g)
       gc_read now (Stay phase) b = b
       gc_read now (End phase (Ok None)) b = tt
       gc_read now (End phase (Ok (Some version))) b = removal_brings now version.0 version.1 (commit_of encoded DropExpired now version.0 version.1) b refl
       gc_read now (End phase (Err e)) b = tt
 
-      gc_commit : (now : ℤ) (g : CommitGoes Manifest) → CommitBrings manifests db s (chains logs.Manifest db) (author_of n facts call Once now) g → GcBrings (whole.commit_on now g)
+      gc_commit : (now : ℤ) (g : CommitGoes Manifest) → CommitBrings manifests db s (chains logs.Manifest db) (author_of n facts call Once now) g → GcBrings (whole.commit_on settings.pass now g)
       gc_commit now (Stay phase) b = b
-      gc_commit now (End phase (Ok version)) b = tt
+      gc_commit now (End phase (Ok version)) b = begins
       gc_commit now (End phase (Err e)) b = tt
 
-      gc_collect : (g : PassGoes) → PassBrings s (chains logs.Manifest db) db g → GcBrings (whole.collect_on g)
-      gc_collect (Stay phase) b = b
-      gc_collect (End phase r) b = tt
+      gc_collect : (at : Option ℤ) (now : ℤ) (g : PassGoes) → PassBrings s (chains logs.Manifest db) db g → GcBrings (whole.collect_on at now g)
+      gc_collect at now (Stay phase) b = (is_manifest, b)
+      gc_collect at now (End phase r) b = tt
 
-      gc_brings : (phase : GcPass) (now : ℤ) (answer : StoreAnswer) → PhraseBrings s chains n facts call (phrase_of (works.Pass db options phase)) now answer → GcBrings (gc_goes decoded_manifest encoded options now phase answer)
+      gc_brings : (phase : GcPhase) (now : ℤ) (answer : StoreAnswer) → PhraseBrings s chains n facts call (phrase_of (works.Pass db settings filter phase)) now answer → GcBrings (gc_goes (pass_ways filter) settings now phase answer)
       gc_brings (Reading phase) now answer b = gc_read now (read_goes logs.Manifest decoded_manifest phase answer) b
       gc_brings (Committing at phase) now answer b = gc_commit at (commit_goes phase answer) b
-      gc_brings (Collecting phase) now answer b = gc_collect (pass_goes decoded_manifest options now phase answer) (b options)
+      gc_brings (Collecting at phase) now answer b =
+          let moment = moment_of_pass at now in
+          gc_collect at moment (pass_goes (pass_ways filter) settings moment phase answer)
+          (subst (λ (x : PassSettings). PassBrings s (chains logs.Manifest db) db (pass_goes (pass_ways filter) x moment phase answer)) (sym fits.over) (b settings.options filter moment))
 
   module _ (facts : Facts) (db : List ℕ) (has : Has db) (i : IsSound records db s (chains logs.Compactions db)) where
     record_read_goes_on : (purpose : Purpose) (g : Reply Record) → ReadBrings records db s (chains logs.Compactions db) g → GoesOn facts (record_read_on purpose db g)
@@ -324,7 +341,8 @@ module _ (Has : List ℕ → Type 0) (s : Store) (chains : Chains) (n : ℕ) (ca
   work_goes_on facts (works.ReadRecord purpose db phase) now answer has i fits b = record_read_goes_on facts db has (i logs.Compactions) purpose (read_goes logs.Compactions decoded_record phase answer) b
   work_goes_on facts (works.CommitRecord purpose at db phase) now answer has i fits b = record_commit_goes_on facts db has (i logs.Compactions) purpose at (commit_goes phase answer) b
   work_goes_on facts (works.PutTable db upload bytes) now answer has i fits b = put_goes_on facts db upload bytes answer
-  work_goes_on facts (works.Pass db options phase) now answer has i fits b = pass_goes_on facts db has (i logs.Manifest) options fits (gc_goes decoded_manifest encoded options now phase answer) (gc_brings facts db has (i logs.Manifest) options fits phase now answer b)
+  work_goes_on facts (works.Pass db settings filter phase) now answer has i fits b =
+      pass_goes_on facts db has (i logs.Manifest) settings filter fits (gc_goes (pass_ways filter) settings now phase answer) (gc_brings facts db has (i logs.Manifest) settings filter fits phase now answer b)
 
   -- how the call goes on
   pub follow_reaches : (facts : Facts) (work : Work) (now : ℤ) (answer : StoreAnswer) → Has facts.db → Has (db_of work) → ((k : LogKind) → IsSound (log_of k) (db_of work) s (chains k (db_of work))) → Fits call work
@@ -339,10 +357,23 @@ upload_is_id Worker table first last h = h
 upload_is_id Holder table first last h = absurd cc
 upload_is_id Collector table first last h = absurd cc
 
+-- a pass that a party may start is one over the manifests
+over_manifests : (kind : PartyKind) (pass : GcMessage) (min_age : ℕ) (dry_run : Bool) (filter : FilterWord) → has_call kind (Pass pass min_age dry_run filter) ≡ true → pass ≡ of.Manifest
+over_manifests Collector of.Manifest min_age dry_run filter h = refl
+over_manifests Writer pass min_age dry_run filter h = absurd cc
+over_manifests Compactor pass min_age dry_run filter h = absurd cc
+over_manifests Worker pass min_age dry_run filter h = absurd cc
+over_manifests Holder pass min_age dry_run filter h = absurd cc
+over_manifests Collector _ min_age dry_run filter h = absurd cc
+
 -- how a call begins that the party has, once it isn't refused
 first_reached : (Has : List ℕ → Type 0) (s : Store) (chains : Chains) (n : ℕ) (facts : Facts) (call : Call) → has_call facts.kind call ≡ true → Has facts.db → NextKnows Has s chains n (facts_at_start facts call) call (first_next facts call)
 first_reached Has s chains n facts (UploadCall table first last) may own = record { has = own; fits = tt; knows = upload_is_id facts.kind table first last may }
-first_reached Has s chains n facts (Pass pass min_age dry_run filter) may own = record { has = own; fits = λ f. refl; knows = tt }
+first_reached Has s chains n facts (Pass pass min_age dry_run filter) may own = record {
+  has = own;
+  fits = record { over = ap (λ (p : GcMessage). pass_settings p min_age dry_run) (over_manifests facts.kind pass min_age dry_run filter may); drops = λ f. refl };
+  knows = tt;
+}
 first_reached Has s chains n facts (FinishCall id) may own = tt
 first_reached Has s chains n facts (Fail id) may own = tt
 first_reached Has s chains n facts _ may own = record { has = own; fits = tt; knows = tt }

@@ -1,5 +1,5 @@
 -- In a call under way a store call is due.
-use Rattle.std.proofs.Common.{◌≡◌, ℕ, ℤ, ◌+◌, ◌==◌, nat_le, Bool, true, false, List, [], ◌∷◌, Option, Some, None, Result, Ok, Err, refl}
+use Rattle.std.proofs.Common.{◌≡◌, ℕ, ℤ, ◌+◌, ◌==◌, nat_le, Bool, true, false, List, [], ◌∷◌, drop, length, Option, Some, None, Result, Ok, Err, refl}
 use Rattle.std.specs.Prelude.{if◌then◌else◌}
 use Rattle.slate_ids.specs.Limits.{last_number}
 use Rattle.slate_ids.specs.declared.error.SlateDBError.{SlateDBError}
@@ -37,23 +37,35 @@ use Rattle.slate_log.specs.declared.read_phase.ReadPhase.TheVariants as reading
 use Rattle.slate_log.specs.declared.right.Right.{Right}
 use Rattle.slate_updates.specs.Rules.{manifest_refusal}
 use Rattle.slate_updates.specs.declared.manifest_change.ManifestChange.TheVariants.{DropExpired}
-use Rattle.slate_gc.specs.GcPass as whole
-use Rattle.slate_gc.specs.GcPass.{GcGoes, gc_goes, gc_due}
-use Rattle.slate_gc.specs.Pass as gc
-use Rattle.slate_gc.specs.Pass.{PassGoes, pass_goes, pass_due}
-use Rattle.slate_gc.specs.Picks.{picks}
-use Rattle.slate_gc.specs.declared.gc_pass.GcPass.{GcPass}
-use Rattle.slate_gc.specs.declared.gc_pass.GcPass.TheVariants as removing
-use Rattle.slate_gc.specs.declared.pass_counts.PassCounts.{PassCounts}
-use Rattle.slate_gc.specs.declared.pass_options.PassOptions.{PassOptions}
-use Rattle.slate_gc.specs.declared.pass_phase.PassPhase.{PassPhase}
-use Rattle.slate_gc.specs.declared.pass_phase.PassPhase.TheVariants as passing
+use Rattle.slate_ids.specs.declared.gc_message.GcMessage.{GcMessage}
+use Rattle.slate_ids.specs.declared.gc_message.GcMessage.TheVariants as of
+use Rattle.slate_events.specs.declared.filter_word.FilterWord.{FilterWord}
+use Rattle.slate_log.specs.TryRead.{try_reply}
+use Rattle.slate_passes.specs.Candidates.{candidates, heads_at}
+use Rattle.slate_passes.specs.GcPhase as whole
+use Rattle.slate_passes.specs.GcPhase.{GcGoes, gc_goes, gc_due, moment_of_pass}
+use Rattle.slate_passes.specs.Pass as gc
+use Rattle.slate_passes.specs.Pass.{PassGoes, pass_goes, pass_due}
+use Rattle.slate_passes.specs.Rows.{reads_greatest, target}
+use Rattle.slate_passes.specs.Ways.{Ways}
+use Rattle.slate_passes.specs.declared.gc_phase.GcPhase.{GcPhase}
+use Rattle.slate_passes.specs.declared.gc_phase.GcPhase.TheVariants as removing
+use Rattle.slate_passes.specs.declared.heads.Heads.{Heads}
+use Rattle.slate_passes.specs.declared.pass_counts.PassCounts.{PassCounts}
+use Rattle.slate_passes.specs.declared.pass_phase.PassPhase.{PassPhase}
+use Rattle.slate_passes.specs.declared.pass_phase.PassPhase.TheVariants as passing
+use Rattle.slate_passes.specs.declared.pass_settings.PassSettings.{PassSettings}
+use Rattle.slate_picks.specs.Filter.{picks}
+use Rattle.slate_referenced.specs.Named.{named_numbers}
+use Rattle.slate_referenced.specs.Referenced.{Versions, ReferencedGoes, referenced_due, referenced_goes, rest_goes, number_goes, first_goes, first_number}
+use Rattle.slate_referenced.specs.declared.referenced_phase.ReferencedPhase.{ReferencedPhase}
+use Rattle.slate_referenced.specs.declared.referenced_phase.ReferencedPhase.TheVariants as fetching
 use Rattle.slate_encodable.specs.Normal.{normal_manifest}
 use Rattle.slate_record_bytes.specs.RecordNormal.{normal_record}
 use Rattle.slate_protocol.specs.Calls.{refusal_at_start, change_of, again, done_once, done_merged, done, record_change_of, record_again, record_done_once, record_done, refresh_next, first_of, Next, Go, Finish}
 use Rattle.slate_protocol.specs.PartyChanges.{change_made, change_right, change_fence, made_by, right_by, fence_by, manifest_commit, record_commit}
 use Rattle.slate_protocol.specs.Rows.{commit_for, last_next, then_next, commit_next, record_commit_for, record_next, record_then, first_put, no_record, after, follow, first_next, begin_unless, begin}
-use Rattle.slate_protocol.specs.Works.{WorkGoes, goes, is_due, read_on, commit_on, record_read_on, record_commit_on, put_end, pass_on}
+use Rattle.slate_protocol.specs.Works.{WorkGoes, goes, is_due, read_on, commit_on, record_read_on, record_commit_on, put_end, pass_on, pass_ways}
 use Rattle.slate_protocol.specs.declared.party.Facts.{Facts}
 use Rattle.slate_protocol.specs.declared.party_change.PartyChange.{PartyChange}
 use Rattle.slate_protocol.specs.declared.party_change.PartyChange.TheVariants.{Shared}
@@ -188,50 +200,32 @@ advances_due (advancing.Creating n) (Created tag) = written_due n tag
 advances_due (advancing.Replacing n old) (Replaced tag) = written_due n tag
 advances_due _ _ = tt
 
+abbrev FetchAt : ReferencedGoes → Type 0
+FetchAt g = DueAt referenced_due g
+
+rest_due : (left : List ℕ) (found : Versions) → FetchAt (rest_goes left found)
+rest_due [] found = tt
+rest_due (n ∷ left) found = refl
+
+number_due : (n : ℕ) (left : List ℕ) (found : Versions) (r : Result (Option Manifest) SlateDBError) → FetchAt (number_goes n left found r)
+number_due n left found (Ok (Some m)) = rest_due left _
+number_due n left found (Ok None) = tt
+number_due n left found (Err e) = tt
+
+first_fetch_due : (o : Option ℕ) (left : List ℕ) (found : Versions) (r : Result (Option Manifest) SlateDBError) → FetchAt (first_goes o left found r)
+first_fetch_due None left found r = tt
+first_fetch_due (Some n) left found r = number_due n left found r
+
+fetches_due : (decoded : List ℕ → Result Manifest SlateDBError) (phase : ReferencedPhase) (answer : StoreAnswer) → FetchAt (referenced_goes decoded phase answer)
+fetches_due decoded (fetching.Getting left found) answer = first_fetch_due (first_number left) (drop 1 left) found (try_reply decoded answer)
+fetches_due decoded fetching.Over answer = tt
+
 abbrev PassAt : PassGoes → Type 0
 PassAt g = DueAt pass_due g
-
-pass_listed_due : (min_age : ℕ) (now : ℤ) (found : List ObjectMetadata) (n : Option ℕ) → PassAt (gc.listed_goes min_age now found n)
-pass_listed_due min_age now found None = tt
-pass_listed_due min_age now found (Some n) = refl
-
-pass_list_due : (min_age : ℕ) (now : ℤ) (answer : StoreAnswer) → PassAt (gc.list_goes min_age now answer)
-pass_list_due min_age now (Found found) = pass_listed_due min_age now found (greatest ManifestLog found)
-pass_list_due min_age now _ = tt
-
-pass_decoded_due : (n : ℕ) (found : List ObjectMetadata) (r : Result Manifest SlateDBError) → PassAt (gc.decoded_goes n found r)
-pass_decoded_due n found (Ok m) = refl
-pass_decoded_due n found (Err e) = tt
-
-pass_get_due : (n : ℕ) (found : List ObjectMetadata) (answer : StoreAnswer) → PassAt (gc.get_goes decoded_manifest n found answer)
-pass_get_due n found (Got None) = tt
-pass_get_due n found (Got (Some object)) = pass_decoded_due n found (decoded_manifest object.bytes)
-pass_get_due n found _ = tt
-
-next_due : (picked : List ObjectMetadata) (k : Option ℕ) → PassAt (gc.moves_to picked k)
-next_due picked None = tt
-next_due picked (Some k) = refl
-
-pass_above_due : (options : PassOptions) (n : ℕ) (found : List ObjectMetadata) (b : Bool) → PassAt (if b then End passing.Over (Err (ManifestMissing n)) else gc.bounded_next options found)
-pass_above_due options n found true = tt
-pass_above_due options n found false = next_due (picks options found) (greatest ManifestLog found)
-
-pass_bounded_due : (options : PassOptions) (n : ℕ) (found : List ObjectMetadata) (b : Option ℕ) → PassAt (gc.bounded_goes options n found b)
-pass_bounded_due options n found None = tt
-pass_bounded_due options n found (Some b) = pass_above_due options n found (nat_le n b)
-
-pass_bound_due : (options : PassOptions) (n : ℕ) (found : List ObjectMetadata) (answer : StoreAnswer) → PassAt (gc.bound_goes options n found answer)
-pass_bound_due options n found (Got o) = pass_bounded_due options n found (boundary_got o)
-pass_bound_due options n found _ = tt
 
 left_due : (left : List ObjectMetadata) (counts : PassCounts) → PassAt (gc.deletes_next left counts)
 left_due [] counts = tt
 left_due (m ∷ left) counts = refl
-
-pass_advanced_due : (picked : List ObjectMetadata) (g : AdvanceGoes) → AdvanceAt g → PassAt (gc.advanced_goes picked g)
-pass_advanced_due picked (Stay phase) h = h
-pass_advanced_due picked (End phase (Ok u)) h = left_due picked _
-pass_advanced_due picked (End phase (Err e)) h = tt
 
 deletes_due : (left : List ObjectMetadata) (counts : PassCounts) (answer : StoreAnswer) → PassAt (gc.delete_goes left counts answer)
 deletes_due [] counts answer = tt
@@ -239,43 +233,122 @@ deletes_due (m ∷ left) counts Deleted = left_due left _
 deletes_due (m ∷ left) counts Fault = left_due left _
 deletes_due (m ∷ left) counts _ = tt
 
-passes_due : (options : PassOptions) (now : ℤ) (phase : PassPhase) (answer : StoreAnswer) → PassAt (pass_goes decoded_manifest options now phase answer)
-passes_due options now passing.Listing answer = pass_list_due options.min_age now answer
-passes_due options now (passing.Getting n found) answer = pass_get_due n found answer
-passes_due options now (passing.Bounding n found) answer = pass_bound_due options n found answer
-passes_due options now (passing.Advancing phase picked) answer = pass_advanced_due picked (advance_goes phase answer) (advances_due phase answer)
-passes_due options now (passing.Deleting left counts) answer = deletes_due left counts answer
-passes_due options now passing.Over answer = tt
+next_due : (k : Option ℕ) (left : List ObjectMetadata) (counts : PassCounts) → PassAt (gc.advance_to k left counts)
+next_due None left counts = left_due left counts
+next_due (Some k) left counts = refl
+
+pass_advanced_due : (left : List ObjectMetadata) (counts : PassCounts) (g : AdvanceGoes) → AdvanceAt g → PassAt (gc.advanced_goes left counts g)
+pass_advanced_due left counts (Stay phase) h = h
+pass_advanced_due left counts (End phase (Ok u)) h = left_due left counts
+pass_advanced_due left counts (End phase (Err e)) h = tt
+
+pass_manifests_due : (min_age : ℕ) (now : ℤ) (found : List ObjectMetadata) (n : Option ℕ) → PassAt (gc.manifests_goes min_age now found n)
+pass_manifests_due min_age now found None = tt
+pass_manifests_due min_age now found (Some n) = refl
+
+pass_decoded_due : (n listed : ℕ) (found : List ObjectMetadata) (r : Result Manifest SlateDBError) → PassAt (gc.decoded_goes n listed found r)
+pass_decoded_due n listed found (Ok m) = refl
+pass_decoded_due n listed found (Err e) = tt
+
+pass_got_due : (decoded : List ℕ → Result Manifest SlateDBError) (n listed : ℕ) (found : List ObjectMetadata) (answer : StoreAnswer) → PassAt (gc.get_goes decoded n listed found answer)
+pass_got_due decoded n listed found (Got None) = tt
+pass_got_due decoded n listed found (Got (Some object)) = pass_decoded_due n listed found (decoded object.bytes)
+pass_got_due decoded n listed found _ = tt
+
+fetched_due : (heads : Heads) (g : ReferencedGoes) → FetchAt g → PassAt (gc.fetched_goes heads g)
+fetched_due heads (Stay phase) h = h
+fetched_due heads (End phase (Ok versions)) h = refl
+fetched_due heads (End phase (Err e)) h = tt
+
+pass_manifest_due : (least : ℕ) (g : Goes (ReadPhase Manifest) (Option (ℕ × Manifest))) → ReadAt g → PassAt (gc.manifest_goes least g)
+pass_manifest_due least (Stay phase) h = h
+pass_manifest_due least (End phase (Ok None)) h = tt
+pass_manifest_due least (End phase (Ok (Some version))) h = fetched_due (heads_at least version.0 version.1) _ (rest_due (named_numbers version.0 version.1.core.checkpoints) ((version.0, version.1) ∷ []))
+pass_manifest_due least (End phase (Err e)) h = tt
+
+pass_record_due : (g : Goes (ReadPhase Record) (Option (ℕ × Record))) → ReadAt g → PassAt (gc.record_goes g)
+pass_record_due (Stay phase) h = h
+pass_record_due (End phase (Ok None)) h = refl
+pass_record_due (End phase (Ok (Some version))) h = refl
+pass_record_due (End phase (Err e)) h = tt
+
+module _ (ways : Ways) (settings : PassSettings) (now : ℤ) where
+  pass_chosen_due : (listed : ℕ) (found : List ObjectMetadata) → PassAt (gc.chosen_goes ways.allows settings listed found)
+  pass_chosen_due listed found = next_due (target settings found) (picks ways.allows settings.options.dry_run found) _
+
+  pass_above_due : (n listed : ℕ) (found : List ObjectMetadata) (b : Bool) → PassAt (if b then End passing.Over (Err (ManifestMissing n)) else gc.chosen_goes ways.allows settings listed found)
+  pass_above_due n listed found true = tt
+  pass_above_due n listed found false = pass_chosen_due listed found
+
+  pass_bounded_due : (n listed : ℕ) (found : List ObjectMetadata) (b : Option ℕ) → PassAt (gc.bounded_goes ways.allows settings n listed found b)
+  pass_bounded_due n listed found None = tt
+  pass_bounded_due n listed found (Some b) = pass_above_due n listed found (nat_le n b)
+
+  pass_bound_due : (n listed : ℕ) (found : List ObjectMetadata) (answer : StoreAnswer) → PassAt (gc.bound_goes ways.allows settings n listed found answer)
+  pass_bound_due n listed found (Got o) = pass_bounded_due n listed found (boundary_got o)
+  pass_bound_due n listed found _ = tt
+
+  pass_found_due : (heads : Heads) (versions : Versions) (found : List ObjectMetadata) → PassAt (gc.found_goes ways.allows ways.files settings now heads versions found)
+  pass_found_due heads versions found = test (reads_greatest settings.pass)
+    where
+      test : (b : Bool) → PassAt (if b then gc.manifests_goes settings.options.min_age now found (greatest ManifestLog found)
+          else gc.chosen_goes ways.allows settings (length found) (candidates ways.files settings.options.min_age now heads versions found settings.pass))
+      test true = pass_manifests_due settings.options.min_age now found (greatest ManifestLog found)
+      test false = pass_chosen_due (length found) (candidates ways.files settings.options.min_age now heads versions found settings.pass)
+
+  pass_list_due : (heads : Heads) (versions : Versions) (answer : StoreAnswer) → PassAt (gc.list_goes ways.allows ways.files settings now heads versions answer)
+  pass_list_due heads versions (Found found) = pass_found_due heads versions found
+  pass_list_due heads versions _ = tt
+
+  passes_due : (phase : PassPhase) (answer : StoreAnswer) → PassAt (pass_goes ways settings now phase answer)
+  passes_due (passing.ReadingRecord phase) answer = pass_record_due (read_goes RecordLog ways.record_of phase answer) (reads_due ways.record_of RecordLog phase answer)
+  passes_due (passing.ReadingManifest least phase) answer = pass_manifest_due least (read_goes ManifestLog ways.manifest_of phase answer) (reads_due ways.manifest_of ManifestLog phase answer)
+  passes_due (passing.Fetching heads phase) answer = fetched_due heads (referenced_goes ways.manifest_of phase answer) (fetches_due ways.manifest_of phase answer)
+  passes_due (passing.Listing heads versions) answer = pass_list_due heads versions answer
+  passes_due (passing.Getting n listed found) answer = pass_got_due ways.manifest_of n listed found answer
+  passes_due (passing.Bounding n listed found) answer = pass_bound_due n listed found answer
+  passes_due (passing.Advancing phase left counts) answer = pass_advanced_due left counts (advance_goes phase answer) (advances_due phase answer)
+  passes_due (passing.Deleting left counts) answer = deletes_due left counts answer
+  passes_due passing.Over answer = tt
 
 -- ---- whole passes
 
 abbrev GcAt : GcGoes → Type 0
 GcAt g = DueAt gc_due g
 
-removal_due : (now : ℤ) (r : Result (Option (CommitPhase Manifest)) SlateDBError) → DueCommit r → GcAt (whole.removal_goes now r)
-removal_due now (Ok (Some commit)) h = h
-removal_due now (Ok None) h = refl
-removal_due now (Err e) h = tt
+begins_due : (pass : GcMessage) → GcAt (whole.collects pass)
+begins_due of.Manifest = refl
+begins_due of.Wal = refl
+begins_due of.WalFence = refl
+begins_due of.Compacted = refl
+begins_due of.Compactions = refl
+begins_due of.Detach = refl
 
-gc_read_due : (now : ℤ) (g : Goes (ReadPhase Manifest) (Option (ℕ × Manifest))) → ReadAt g → GcAt (whole.read_on encoded now g)
-gc_read_due now (Stay phase) h = h
-gc_read_due now (End phase (Ok None)) h = tt
-gc_read_due now (End phase (Ok (Some version))) h = removal_due now _ (made_due (Some (Shared DropExpired)) now version.0 version.1)
-gc_read_due now (End phase (Err e)) h = tt
+removal_due : (pass : GcMessage) (now : ℤ) (r : Result (Option (CommitPhase Manifest)) SlateDBError) → DueCommit r → GcAt (whole.removal_goes pass now r)
+removal_due pass now (Ok (Some commit)) h = h
+removal_due pass now (Ok None) h = begins_due pass
+removal_due pass now (Err e) h = tt
 
-gc_commit_due : (now : ℤ) (g : Goes (CommitPhase Manifest) (ℕ × Manifest)) → CommitAt g → GcAt (whole.commit_on now g)
-gc_commit_due now (Stay phase) h = h
-gc_commit_due now (End phase (Ok version)) h = refl
-gc_commit_due now (End phase (Err e)) h = tt
+gc_read_due : (pass : GcMessage) (now : ℤ) (g : Goes (ReadPhase Manifest) (Option (ℕ × Manifest))) → ReadAt g → GcAt (whole.read_on encoded pass now g)
+gc_read_due pass now (Stay phase) h = h
+gc_read_due pass now (End phase (Ok None)) h = tt
+gc_read_due pass now (End phase (Ok (Some version))) h = removal_due pass now _ (made_due (Some (Shared DropExpired)) now version.0 version.1)
+gc_read_due pass now (End phase (Err e)) h = tt
 
-gc_collect_due : (g : PassGoes) → PassAt g → GcAt (whole.collect_on g)
-gc_collect_due (Stay phase) h = h
-gc_collect_due (End phase r) h = tt
+gc_commit_due : (pass : GcMessage) (now : ℤ) (g : Goes (CommitPhase Manifest) (ℕ × Manifest)) → CommitAt g → GcAt (whole.commit_on pass now g)
+gc_commit_due pass now (Stay phase) h = h
+gc_commit_due pass now (End phase (Ok version)) h = begins_due pass
+gc_commit_due pass now (End phase (Err e)) h = tt
 
-collects_due : (options : PassOptions) (now : ℤ) (phase : GcPass) (answer : StoreAnswer) → GcAt (gc_goes decoded_manifest encoded options now phase answer)
-collects_due options now (removing.Reading phase) answer = gc_read_due now (read_goes ManifestLog decoded_manifest phase answer) (reads_due decoded_manifest ManifestLog phase answer)
-collects_due options now (removing.Committing at phase) answer = gc_commit_due at (commit_goes phase answer) (commits_due phase answer)
-collects_due options now (removing.Collecting phase) answer = gc_collect_due (pass_goes decoded_manifest options now phase answer) (passes_due options now phase answer)
+gc_collect_due : (at : Option ℤ) (now : ℤ) (g : PassGoes) → PassAt g → GcAt (whole.collect_on at now g)
+gc_collect_due at now (Stay phase) h = h
+gc_collect_due at now (End phase r) h = tt
+
+collects_due : (filter : FilterWord) (settings : PassSettings) (now : ℤ) (phase : GcPhase) (answer : StoreAnswer) → GcAt (gc_goes (pass_ways filter) settings now phase answer)
+collects_due filter settings now (removing.Reading phase) answer = gc_read_due settings.pass now (read_goes ManifestLog decoded_manifest phase answer) (reads_due decoded_manifest ManifestLog phase answer)
+collects_due filter settings now (removing.Committing made phase) answer = gc_commit_due settings.pass made (commit_goes phase answer) (commits_due phase answer)
+collects_due filter settings now (removing.Collecting at phase) answer =
+    gc_collect_due at (moment_of_pass at now) (pass_goes (pass_ways filter) settings (moment_of_pass at now) phase answer) (passes_due (pass_ways filter) settings (moment_of_pass at now) phase answer)
 
 -- ---- calls
 
@@ -304,10 +377,10 @@ record_commit_around purpose now db (Stay phase) h = h
 record_commit_around purpose now db (End phase (Ok version)) h = tt
 record_commit_around purpose now db (End phase (Err e)) h = tt
 
-pass_around : (db : List ℕ) (options : PassOptions) (g : GcGoes) → GcAt g → WorkAt (pass_on db options g)
-pass_around db options (Stay phase) h = h
-pass_around db options (End phase (Ok counts)) h = tt
-pass_around db options (End phase (Err e)) h = tt
+pass_around : (db : List ℕ) (settings : PassSettings) (filter : FilterWord) (g : GcGoes) → GcAt g → WorkAt (pass_on db settings filter g)
+pass_around db settings filter (Stay phase) h = h
+pass_around db settings filter (End phase (Ok counts)) h = tt
+pass_around db settings filter (End phase (Err e)) h = tt
 
 put_around : (db : List ℕ) (upload : Upload) (bytes : List ℕ) (r : Result Ended SlateDBError) → WorkAt (End (work.PutTable db upload bytes) r)
 put_around db upload bytes (Ok end) = tt
@@ -319,7 +392,7 @@ work_due (work.CommitManifest purpose made db phase) now answer = commit_around 
 work_due (work.ReadRecord purpose db phase) now answer = record_read_around purpose db (read_goes RecordLog decoded_record phase answer) (reads_due decoded_record RecordLog phase answer)
 work_due (work.CommitRecord purpose made db phase) now answer = record_commit_around purpose made db (commit_goes phase answer) (commits_due phase answer)
 work_due (work.PutTable db upload bytes) now answer = put_around db upload bytes (put_end upload answer)
-work_due (work.Pass db options phase) now answer = pass_around db options (gc_goes decoded_manifest encoded options now phase answer) (collects_due options now phase answer)
+work_due (work.Pass db settings filter phase) now answer = pass_around db settings filter (gc_goes (pass_ways filter) settings now phase answer) (collects_due filter settings now phase answer)
 
 -- where a call goes on, a store call is due
 abbrev pub DueNext : Next → Type 0
@@ -328,7 +401,6 @@ DueNext (Finish reply) = Unit {0}
 
 once_due : (facts : Facts) (m : Manifest) (call : Call) → DueNext (done_once facts call m)
 once_due facts m OpenCompactor = refl
-once_due facts m (Pass pass min_age dry_run filter) = refl
 once_due facts m _ = tt
 
 merged_due : (facts : Facts) (call : Call) → DueNext (done_merged facts call)

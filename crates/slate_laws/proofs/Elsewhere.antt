@@ -9,7 +9,7 @@ use Rattle.slate_store.specs.declared.mark.Mark.TheVariants.{Good, Fail, Lost}
 use Rattle.slate_store.specs.declared.store_call.StoreCall.TheVariants.{Put}
 use Rattle.slate_log.specs.LogPaths.{version_path, boundary_path}
 use Rattle.slate_log.specs.declared.log_kind.LogKind.{LogKind}
-use Rattle.slate_protocol.specs.Owners.{Version, Boundary, owner_of, is_log, LogStays}
+use Rattle.slate_protocol.specs.Owners.{owner_of, is_log, LogStays}
 use Rattle.slate_laws.proofs.Paths.{IsElsewhere, elsewhere}
 use Rattle.slate_laws.proofs.Stores.{at_else}
 

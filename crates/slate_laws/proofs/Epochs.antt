@@ -5,7 +5,6 @@ use Rattle.std.specs.Prelude.{if◌then◌else◌}
 use Rattle.slate_compactor_changes.specs.CompactorChanges.{compactor_epoch_in, fence_of as compactor_fence_of}
 use Rattle.slate_compactor_changes.specs.declared.compactor_change.CompactorChange.{CompactorChange}
 use Rattle.slate_compactor_changes.specs.declared.compactor_change.CompactorChange.TheVariants.{Raise, KeepTrees, MergeTrees}
-use Rattle.slate_ids.specs.declared.error.SlateDBError.{SlateDBError}
 use Rattle.slate_ids.specs.declared.error.SlateDBError.TheVariants.{Fenced}
 use Rattle.slate_ids.specs.declared.error.UpdateRule.TheVariants.{U1}
 use Rattle.slate_model.specs.declared.manifest.Manifest.{Manifest}
@@ -17,7 +16,6 @@ use Rattle.slate_record_updates.specs.declared.record_change.RecordChange.{Recor
 use Rattle.slate_record_updates.specs.declared.record_change.RecordChange.TheVariants.{GiveEpoch, Reset, Schedule, PutStatuses}
 use Rattle.std.specs.Option.{option_or}
 use Rattle.slate_updates.specs.Changes.{fence_of, writer_fence, writer_epoch_in}
-use Rattle.slate_updates.specs.Rules.{manifest_refusal}
 use Rattle.slate_updates.specs.Writers.{epoch_of}
 use Rattle.slate_updates.specs.declared.epochs.ManifestEpochs.TheVariants.{Writer, Compactor}
 use Rattle.slate_updates.specs.declared.manifest_change.ManifestChange.{ManifestChange}

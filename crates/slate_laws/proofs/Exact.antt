@@ -1,351 +1,214 @@
 -- A pass makes one delete for each of its picks, in their order, and nothing else: a front of them while it is under way, and
 -- all of them where it ended without a refusal.
-use Rattle.std.proofs.Common.{◌≡◌, ℕ, ℤ, max, nat_le, Bool, true, false, List, [], ◌∷◌, ◌++◌, length, Option, Some, None, Result, Ok, Err, refl, sym, ap, ◌∙◌, subst}
-use Rattle.std.specs.Prelude.{if◌then◌else◌}
-use Rattle.slate_ids.specs.declared.error.SlateDBError.{SlateDBError}
-use Rattle.slate_ids.specs.declared.error.SlateDBError.TheVariants.{ManifestMissing}
+use Rattle.std.proofs.Common.{◌≡◌, ℕ, ℤ, Bool, false, List, [], ◌∷◌, ◌++◌, Option, Some, None, Ok, Err, refl, sym, ap, ◌∙◌}
+use Rattle.std.specs.Prelude.{if◌then◌else◌, option_to_list}
 use Rattle.slate_ids.specs.declared.gc_message.GcMessage.{GcMessage}
-use Rattle.slate_manifest_parts.specs.Decoding.{decoded_manifest}
-use Rattle.slate_model.specs.declared.checkpoint.Checkpoint.{Checkpoint}
-use Rattle.slate_model.specs.declared.manifest.Manifest.{Manifest}
-use Rattle.slate_layout.specs.Codec.{encoded}
 use Rattle.slate_store.specs.Machines.{Stay, End}
 use Rattle.slate_store.specs.Store.{Store}
+use Rattle.slate_store.specs.declared.made.Made.{Made}
 use Rattle.slate_store.specs.declared.object.ObjectMetadata.{ObjectMetadata}
-use Rattle.slate_store.specs.declared.object.StoredObject.{StoredObject}
 use Rattle.slate_store.specs.declared.store_answer.StoreAnswer.{StoreAnswer}
-use Rattle.slate_store.specs.declared.store_answer.StoreAnswer.TheVariants.{Found, Got}
+use Rattle.slate_store.specs.declared.store_call.StoreCall.{StoreCall}
+use Rattle.slate_store.specs.declared.store_call.StoreCall.TheVariants.{Delete}
 use Rattle.slate_events.specs.declared.call.Call.{Call}
 use Rattle.slate_events.specs.declared.call.Call.TheVariants as calls
 use Rattle.slate_events.specs.declared.entry.Entry.{Entry}
 use Rattle.slate_events.specs.declared.entry.Entry.TheVariants.{Called}
 use Rattle.slate_events.specs.declared.event.Event.{Event}
+use Rattle.slate_events.specs.declared.filter_word.FilterWord.{FilterWord}
+use Rattle.slate_events.specs.declared.reply.Reply.{Reply}
 use Rattle.slate_events.specs.declared.reply.Reply.TheVariants.{Refused}
-use Rattle.slate_log.specs.AdvancePhase.{AdvanceGoes, advance_asks, advance_goes}
-use Rattle.slate_log.specs.Boundary.{boundary_got, greater, greatest_from, greatest}
-use Rattle.slate_log.specs.CommitPhase.{CommitGoes, commit_asks, commit_goes}
-use Rattle.slate_log.specs.LogPaths.{number_of}
-use Rattle.slate_log.specs.ReadPhase.{Reply, read_asks, read_goes}
+use Rattle.slate_log.specs.AdvancePhase.{advance_asks}
+use Rattle.slate_log.specs.CommitPhase.{commit_asks}
+use Rattle.slate_log.specs.ReadPhase.{read_asks}
 use Rattle.slate_log.specs.declared.advance_phase.AdvancePhase.{AdvancePhase}
 use Rattle.slate_log.specs.declared.advance_phase.AdvancePhase.TheVariants as advancing
 use Rattle.slate_log.specs.declared.commit_phase.CommitPhase.{CommitPhase}
 use Rattle.slate_log.specs.declared.commit_phase.CommitPhase.TheVariants as committing
-use Rattle.slate_log.specs.declared.log_kind.LogKind.TheVariants.{Manifest as ManifestLog}
+use Rattle.slate_log.specs.declared.log_kind.LogKind.{LogKind}
+use Rattle.slate_log.specs.declared.log_kind.LogKind.TheVariants as logs
 use Rattle.slate_log.specs.declared.read_phase.ReadPhase.{ReadPhase}
 use Rattle.slate_log.specs.declared.read_phase.ReadPhase.TheVariants as reading
-use Rattle.slate_gc.specs.Deletes.{counts_of}
-use Rattle.slate_gc.specs.Filter.{allowed}
-use Rattle.slate_gc.specs.GcPass.{GcGoes, read_on, commit_on, removal_goes}
-use Rattle.slate_gc.specs.Pass.{PassGoes, pass_asks, pass_goes, listed_goes, decoded_goes, bounded_goes, bounded_next, moves_to, advanced_goes}
-use Rattle.slate_gc.specs.Picks.{aged, is_unneeded, unneeded, candidates, picks}
-use Rattle.slate_gc.specs.declared.filter_word.FilterWord.{FilterWord}
-use Rattle.slate_gc.specs.declared.filter_word.FilterWord.TheVariants.{All, Nothing, Paths}
-use Rattle.slate_gc.specs.declared.gc_pass.GcPass.{GcPass}
-use Rattle.slate_gc.specs.declared.gc_pass.GcPass.TheVariants.{Reading, Committing, Collecting}
-use Rattle.slate_gc.specs.declared.pass_options.PassOptions.{PassOptions}
-use Rattle.slate_gc.specs.declared.pass_phase.PassPhase.{PassPhase}
-use Rattle.slate_gc.specs.declared.pass_phase.PassPhase.TheVariants as passing
-use Rattle.slate_updates.specs.Changes.{commit_of}
-use Rattle.slate_updates.specs.declared.manifest_change.ManifestChange.TheVariants.{DropExpired}
+use Rattle.slate_passes.specs.Exact.{counted, counted_along, counts_before, deleted_along, stands_after, to_delete}
+use Rattle.slate_passes.specs.GcPhase.{GcGoes, gc_asks, gc_goes, gc_start}
+use Rattle.slate_passes.specs.Rows.{log_of_pass, log_or_manifests}
+use Rattle.slate_passes.specs.declared.gc_phase.GcPhase.{GcPhase}
+use Rattle.slate_passes.specs.declared.gc_phase.GcPhase.TheVariants.{Reading, Committing, Collecting}
+use Rattle.slate_passes.specs.declared.pass_counts.PassCounts.{PassCounts}
+use Rattle.slate_passes.specs.declared.pass_phase.PassPhase.TheVariants as passing
+use Rattle.slate_passes.specs.declared.pass_settings.PassSettings.{PassSettings}
+use Rattle.slate_passes.proofs.Exactly.{exactly}
+use Rattle.slate_referenced.specs.Referenced.{referenced_asks}
+use Rattle.slate_referenced.specs.declared.referenced_phase.ReferencedPhase.{ReferencedPhase}
+use Rattle.slate_referenced.specs.declared.referenced_phase.ReferencedPhase.TheVariants as fetching
 use Rattle.slate_protocol.specs.ByRows.{Doing, Answers, Told, AllTold, entry_by, party_in, all_told_after, entry_store}
-use Rattle.slate_protocol.specs.Calls.{pass_options, facts_after, Go, Finish}
-use Rattle.slate_protocol.specs.Passes.{picks_at, picks_of, picks_read, pass_answers, is_delete, IsExact, ExactDoing, ExactEntry, ExactPasses}
-use Rattle.slate_protocol.specs.Rows.{Answered, Standing, begin, follow}
-use Rattle.slate_protocol.specs.Specs.{listed_or_none}
-use Rattle.slate_protocol.specs.Works.{pass_on}
+use Rattle.slate_protocol.specs.Calls.{pass_settings, Go, Finish}
+use Rattle.slate_protocol.specs.Passes.{calls_made, pass_answers, is_delete, deletes_in, deletes_made, deletes_of, calls_of, with_deletes, picked_so_far, reply_of, IsExact, ExactDoing, ExactEntry, ExactPasses}
+use Rattle.slate_protocol.specs.Rows.{Answered, Standing, answered, after_answers, follow}
+use Rattle.slate_protocol.specs.Works.{pass_on, pass_ways}
 use Rattle.slate_protocol.specs.declared.party.Facts.{Facts}
-use Rattle.slate_protocol.specs.declared.work.Ended.TheVariants.{Passed}
 use Rattle.slate_protocol.specs.declared.work.Work.TheVariants.{Pass}
-use Rattle.slate_laws.proofs.Deletes.{under_way, quiet_call, DeletesFrom, refused_deletes, replied_deletes, pass_next, in_phase, deletes_left}
 
--- ---- what is picked, by the phase in which the answers begin
+-- ---- a call that has its reply
 
-module _ (options : PassOptions) where
-  abbrev pub bounded_picks : ℕ → List ObjectMetadata → Option ℕ → List ObjectMetadata
-  bounded_picks n ms None = []
-  bounded_picks n ms (Some bound) = if nat_le n bound then [] else picks options ms
+module _ (call : Call) (facts : Facts) (r : Reply) where
+  -- it keeps it
+  stays_replied : (answers : List Answered) → after_answers call (record { facts = facts; next = Finish r }) answers ≡ record { facts = facts; next = Finish r }
+  stays_replied [] = refl
+  stays_replied (a ∷ answers) = stays_replied answers
 
-  abbrev pub bound_picks : ℕ → List ObjectMetadata → List Answered → List ObjectMetadata
-  bound_picks n ms ((Got boundary, at) ∷ answers) = bounded_picks n ms (boundary_got boundary)
-  bound_picks n ms _ = []
+  -- and its pass has no answers more
+  pub replied_answers : (answers : List Answered) → pass_answers call (record { facts = facts; next = Finish r }) answers ≡ []
+  replied_answers [] = refl
+  replied_answers (a ∷ answers) = replied_answers answers
 
-  abbrev pub decoded_picks : ℕ → List ObjectMetadata → Result Manifest SlateDBError → List Answered → List ObjectMetadata
-  decoded_picks n found (Ok m) answers = bound_picks n (unneeded n m.core.checkpoints found) answers
-  decoded_picks n found (Err e) answers = []
+-- ---- which calls are deletes
 
-  abbrev pub get_picks : ℕ → List ObjectMetadata → List Answered → List ObjectMetadata
-  get_picks n found ((Got (Some object), at) ∷ answers) = decoded_picks n found (decoded_manifest object.bytes) answers
-  get_picks n found _ = []
+read_quiet : {V : Type 0} (db : List ℕ) (log : LogKind) (phase : ReadPhase V) → is_delete (read_asks db log phase) ≡ false
+read_quiet db log reading.Listing = refl
+read_quiet db log (reading.Getting n) = refl
+read_quiet db log (reading.Bounding n v) = refl
+read_quiet db log reading.Over = refl
 
-  abbrev pub listed_picks : ℤ → List ObjectMetadata → Option ℕ → List Answered → List ObjectMetadata
-  listed_picks now found None answers = []
-  listed_picks now found (Some n) answers = get_picks n (aged options.min_age now found) answers
+commit_quiet : {V : Type 0} (db : List ℕ) (log : LogKind) (phase : CommitPhase V) → is_delete (commit_asks db log phase) ≡ false
+commit_quiet db log (committing.Putting n bytes v) = refl
+commit_quiet db log (committing.Bounding n v) = refl
+commit_quiet db log committing.Over = refl
 
-  abbrev pub list_picks : List Answered → List ObjectMetadata
-  list_picks ((Found found, now) ∷ answers) = listed_picks now found (greatest ManifestLog found) answers
-  list_picks _ = []
+fetch_quiet : (db : List ℕ) (phase : ReferencedPhase) → is_delete (referenced_asks db phase) ≡ false
+fetch_quiet db (fetching.Getting [] found) = refl
+fetch_quiet db (fetching.Getting (n ∷ left) found) = refl
+fetch_quiet db fetching.Over = refl
 
-  above_picks : (ms : List ObjectMetadata) (b : Bool) → listed_or_none (if b then None else Some (picks options ms)) ≡ (if b then [] else picks options ms)
-  above_picks ms true = refl
-  above_picks ms false = refl
+advance_quiet : (db : List ℕ) (log : LogKind) (phase : AdvancePhase) → is_delete (advance_asks db log phase) ≡ false
+advance_quiet db log (advancing.Bounding n) = refl
+advance_quiet db log (advancing.Creating n) = refl
+advance_quiet db log (advancing.Replacing n tag) = refl
+advance_quiet db log advancing.Over = refl
 
-  bounded_same : (now : ℤ) (found : List ObjectMetadata) (n : ℕ) (m : Manifest) (bound : Option ℕ)
-      → listed_or_none (picks_at options now found (Some n) (Ok m) bound) ≡ bounded_picks n (candidates options.min_age now n m.core.checkpoints found) bound
-  bounded_same now found n m None = refl
-  bounded_same now found n m (Some bound) = above_picks (candidates options.min_age now n m.core.checkpoints found) (nat_le n bound)
+-- the delete that is due in a phase, with the answer to it
+abbrev delete_made : Option ObjectMetadata → StoreAnswer → List Made
+delete_made None answer = []
+delete_made (Some m) answer = record { call = Delete m.location; answer = answer } ∷ []
 
-  decoded_same : (now : ℤ) (found : List ObjectMetadata) (n : ℕ) (r : Result Manifest SlateDBError) (boundary : Option StoredObject) (by : ℤ) (answers : List Answered)
-      → listed_or_none (picks_at options now found (Some n) r (boundary_got boundary)) ≡ decoded_picks n (aged options.min_age now found) r ((Got boundary, by) ∷ answers)
-  decoded_same now found n (Ok m) boundary by answers = bounded_same now found n m (boundary_got boundary)
-  decoded_same now found n (Err e) boundary by answers = refl
+no_delete : (call : StoreCall) (answer : StoreAnswer) (made : List Made) → is_delete call ≡ false → deletes_in (record { call = call; answer = answer } ∷ made) ≡ deletes_in made
+no_delete call answer made h = ap (λ (b : Bool). if b then record { call = call; answer = answer } ∷ deletes_in made else deletes_in made) h
 
-  -- of three answers that have what they are to have
-  listed_same : (now : ℤ) (found : List ObjectMetadata) (n : Option ℕ) (object : StoredObject) (at : ℤ) (boundary : Option StoredObject) (by : ℤ) (answers : List Answered)
-      → listed_or_none (picks_at options now found n (decoded_manifest object.bytes) (boundary_got boundary)) ≡ listed_picks now found n ((Got (Some object), at) ∷ (Got boundary, by) ∷ answers)
-  listed_same now found None object at boundary by answers = refl
-  listed_same now found (Some n) object at boundary by answers = decoded_same now found n (decoded_manifest object.bytes) boundary by answers
+one_call : (db : List ℕ) (pass : GcMessage) (phase : GcPhase) (answer : StoreAnswer) (made : List Made)
+    → deletes_in (record { call = gc_asks db pass phase; answer = answer } ∷ made) ≡ delete_made (to_delete phase) answer ++ deletes_in made
+one_call db pass (Reading phase) answer made = no_delete (read_asks db logs.Manifest phase) answer made (read_quiet db logs.Manifest phase)
+one_call db pass (Committing now phase) answer made = no_delete (commit_asks db logs.Manifest phase) answer made (commit_quiet db logs.Manifest phase)
+one_call db pass (Collecting at (passing.ReadingRecord phase)) answer made = no_delete (read_asks db logs.Compactions phase) answer made (read_quiet db logs.Compactions phase)
+one_call db pass (Collecting at (passing.ReadingManifest least phase)) answer made = no_delete (read_asks db logs.Manifest phase) answer made (read_quiet db logs.Manifest phase)
+one_call db pass (Collecting at (passing.Fetching heads phase)) answer made = no_delete (referenced_asks db phase) answer made (fetch_quiet db phase)
+one_call db pass (Collecting at (passing.Listing heads versions)) answer made = refl
+one_call db pass (Collecting at (passing.Getting n listed found)) answer made = refl
+one_call db pass (Collecting at (passing.Bounding n listed found)) answer made = refl
+one_call db pass (Collecting at (passing.Advancing phase left counts)) answer made =
+    no_delete (advance_asks db (log_or_manifests (log_of_pass pass)) phase) answer made (advance_quiet db (log_or_manifests (log_of_pass pass)) phase)
+one_call db pass (Collecting at (passing.Deleting [] counts)) answer made = refl
+one_call db pass (Collecting at (passing.Deleting (m ∷ left) counts)) answer made = refl
+one_call db pass (Collecting at passing.Over) answer made = refl
 
-  -- of other answers, or fewer
-  none_decoded : (n : ℕ) (found : List ObjectMetadata) (r : Result Manifest SlateDBError) (answers : List Answered) → ((ms : List ObjectMetadata) → [] ≡ bound_picks n ms answers)
-      → [] ≡ decoded_picks n found r answers
-  none_decoded n found (Ok m) answers h = h (unneeded n m.core.checkpoints found)
-  none_decoded n found (Err e) answers h = refl
+-- ---- a pass call, and its machine
 
-  none_listed : (now : ℤ) (found : List ObjectMetadata) (o : Option ℕ) (answers : List Answered) → ((n : ℕ) (ms : List ObjectMetadata) → [] ≡ get_picks n ms answers)
-      → [] ≡ listed_picks now found o answers
-  none_listed now found None answers h = refl
-  none_listed now found (Some n) answers h = h n (aged options.min_age now found)
+call_split : (o : Option ObjectMetadata) (answer : StoreAnswer) (made : List Made) → calls_of (delete_made o answer ++ made) ≡ deletes_of (option_to_list o) ++ calls_of made
+call_split None answer made = refl
+call_split (Some m) answer made = refl
 
-  two_same : (now : ℤ) (found : List ObjectMetadata) (object : StoredObject) (at : ℤ) (answers : List Answered) → ((n : ℕ) (ms : List ObjectMetadata) → [] ≡ bound_picks n ms answers)
-      → [] ≡ listed_picks now found (greatest ManifestLog found) ((Got (Some object), at) ∷ answers)
-  two_same now found object at answers h =
-      none_listed now found (greatest ManifestLog found) ((Got (Some object), at) ∷ answers) (λ n ms. none_decoded n ms (decoded_manifest object.bytes) answers (h n))
+object_split : (o : Option ObjectMetadata) (ms : List ObjectMetadata) → deletes_of (option_to_list o ++ ms) ≡ deletes_of (option_to_list o) ++ deletes_of ms
+object_split None ms = refl
+object_split (Some m) ms = refl
 
-  third_same : (now : ℤ) (found : List ObjectMetadata) (object : StoredObject) (at : ℤ) (boundary : Answered) (answers : List Answered)
-      → listed_or_none (picks_of options (Found found, now) (Got (Some object), at) boundary) ≡ listed_picks now found (greatest ManifestLog found) ((Got (Some object), at) ∷ boundary ∷ answers)
-  third_same now found object at (Got boundary, by) answers = listed_same now found (greatest ManifestLog found) object at boundary by answers
-  third_same now found object at (_, by) answers = two_same now found object at _ (λ n ms. refl)
+count_split : (o : Option ObjectMetadata) (answer : StoreAnswer) (counts : PassCounts) (made : List Made) → with_deletes counts (delete_made o answer ++ made) ≡ with_deletes (counted o answer counts) made
+count_split None answer counts made = refl
+count_split (Some m) answer counts made = refl
 
-  second_same : (now : ℤ) (found : List ObjectMetadata) (version : Answered) (boundary : Answered) (answers : List Answered)
-      → listed_or_none (picks_of options (Found found, now) version boundary) ≡ listed_picks now found (greatest ManifestLog found) (version ∷ boundary ∷ answers)
-  second_same now found (Got (Some object), at) boundary answers = third_same now found object at boundary answers
-  second_same now found (_, at) boundary answers = none_listed now found (greatest ManifestLog found) _ (λ n ms. refl)
+module _ (facts : Facts) (call : Call) (db : List ℕ) (settings : PassSettings) (word : FilterWord) where
+  -- where a call stands once its pass has gone on
+  abbrev pub standing_at : GcGoes → Standing
+  standing_at (Stay phase) = record { facts = facts; next = Go (Pass db settings word phase) }
+  standing_at (End phase (Ok counts)) = record { facts = facts; next = Finish (reply_of counts) }
+  standing_at (End phase (Err e)) = record { facts = facts; next = Finish (Refused e) }
 
-  -- what the answers of a pass have picked
-  pub picks_same : (answers : List Answered) → listed_or_none (picks_read options answers) ≡ list_picks answers
-  picks_same [] = refl
-  picks_same ((Found found, now) ∷ []) = none_listed now found (greatest ManifestLog found) [] (λ n ms. refl)
-  picks_same ((Found found, now) ∷ (Got (Some object), at) ∷ []) = two_same now found object at [] (λ n ms. refl)
-  picks_same ((Found found, now) ∷ (_, at) ∷ []) = none_listed now found (greatest ManifestLog found) _ (λ n ms. refl)
-  picks_same ((Found found, now) ∷ version ∷ boundary ∷ answers) = second_same now found version boundary answers
-  picks_same ((_, now) ∷ []) = refl
-  picks_same ((_, now) ∷ version ∷ []) = refl
-  picks_same ((_, now) ∷ version ∷ boundary ∷ answers) = refl
+  pub follows : (now : ℤ) (g : GcGoes) → follow facts call now (pass_on db settings word g) ≡ standing_at g
+  follows now (Stay phase) = refl
+  follows now (End phase (Ok counts)) = refl
+  follows now (End phase (Err e)) = refl
 
--- ---- where no candidate has a number there is none
+  pub went : (phase : GcPhase) (a : Answered) → answered call facts (Go (Pass db settings word phase)) a ≡ standing_at (gc_goes (pass_ways word) settings a.1 phase a.0)
+  went phase a = follows a.1 (gc_goes (pass_ways word) settings a.1 phase a.0)
 
-some_from : (k : ℕ) (ms : List ObjectMetadata) → greatest_from ManifestLog (Some k) ms ≡ None → ⊥
-some_from k [] h = absurd cc
-some_from k (m ∷ ms) h = step (number_of ManifestLog m.location) (λ j. some_from j ms) h
-  where
-    step : (o : Option ℕ) → ((j : ℕ) → greatest_from ManifestLog (Some j) ms ≡ None → ⊥) → greatest_from ManifestLog (greater (Some k) o) ms ≡ None → ⊥
-    step None f h = f k h
-    step (Some j) f h = f (max k j) h
+  -- after answers it stands where its machine does
+  stands : (answers : List Answered) (g : GcGoes) → after_answers call (standing_at g) answers ≡ standing_at (stands_after (pass_ways word) settings g answers)
+  stands [] g = refl
+  stands (a ∷ answers) (Stay phase) = ap (λ (st : Standing). after_answers call st answers) (went phase a) ∙ stands answers (gc_goes (pass_ways word) settings a.1 phase a.0)
+  stands (a ∷ answers) (End phase (Ok counts)) = stays_replied call facts (reply_of counts) answers
+  stands (a ∷ answers) (End phase (Err e)) = stays_replied call facts (Refused e) answers
 
--- without a greatest candidate there is none
-pub none_unneeded : (n : ℕ) (cs : List Checkpoint) (found : List ObjectMetadata) → greatest ManifestLog (unneeded n cs found) ≡ None → unneeded n cs found ≡ []
-none_unneeded n cs [] h = refl
-none_unneeded n cs (m ∷ ms) h = test (number_of ManifestLog m.location) (is_unneeded n cs (number_of ManifestLog m.location)) (none_unneeded n cs ms) refl refl h
-  where
-    test : (o : Option ℕ) (b : Bool) → (greatest_from ManifestLog None (unneeded n cs ms) ≡ None → unneeded n cs ms ≡ []) → number_of ManifestLog m.location ≡ o → is_unneeded n cs (number_of ManifestLog m.location) ≡ b
-        → greatest_from ManifestLog None (if b then m ∷ unneeded n cs ms else unneeded n cs ms) ≡ None → (if b then m ∷ unneeded n cs ms else unneeded n cs ms) ≡ []
-    test None true f is off h = absurd (cc (off, ap (is_unneeded n cs) is))
-    test (Some k) true f is off h = absurd (some_from k (unneeded n cs ms) (sym (ap (λ (o : Option ℕ). greatest_from ManifestLog (greater None o) (unneeded n cs ms)) is) ∙ h))
-    test o false f is off h = f h
+  -- its deletes are those of its machine
+  deletes_are : (answers : List Answered) (g : GcGoes) → calls_of (deletes_in (calls_made call (standing_at g) answers)) ≡ deletes_of (deleted_along (pass_ways word) settings g answers)
+  deletes_are [] g = refl
+  deletes_are (a ∷ answers) (Stay phase) =
+      let g = gc_goes (pass_ways word) settings a.1 phase a.0 in
+      let made = calls_made call (standing_at g) answers in
+      ap (λ (st : Standing). calls_of (deletes_in (record { call = gc_asks db settings.pass phase; answer = a.0 } ∷ calls_made call st answers))) (went phase a)
+      ∙ (ap calls_of (one_call db settings.pass phase a.0 made) ∙ (call_split (to_delete phase) a.0 (deletes_in made)
+      ∙ (ap (λ (cs : List StoreCall). deletes_of (option_to_list (to_delete phase)) ++ cs) (deletes_are answers g) ∙ sym (object_split (to_delete phase) (deleted_along (pass_ways word) settings g answers)))))
+  deletes_are (a ∷ answers) (End phase (Ok counts)) = refl
+  deletes_are (a ∷ answers) (End phase (Err e)) = refl
 
--- of no candidates none is picked
-pub none_picked : (options : PassOptions) → picks options [] ≡ []
-none_picked options = test options.dry_run options.filter
-  where
-    test : (b : Bool) (word : FilterWord) → (if b then [] else allowed word []) ≡ []
-    test true word = refl
-    test false All = refl
-    test false Nothing = refl
-    test false (Paths paths) = refl
+  -- and so are its counts
+  counts_are : (answers : List Answered) (g : GcGoes) (counts : PassCounts) → with_deletes counts (deletes_in (calls_made call (standing_at g) answers)) ≡ counted_along (pass_ways word) settings g answers counts
+  counts_are [] g counts = refl
+  counts_are (a ∷ answers) (Stay phase) counts =
+      let g = gc_goes (pass_ways word) settings a.1 phase a.0 in
+      let made = calls_made call (standing_at g) answers in
+      ap (λ (st : Standing). with_deletes counts (deletes_in (record { call = gc_asks db settings.pass phase; answer = a.0 } ∷ calls_made call st answers))) (went phase a)
+      ∙ (ap (with_deletes counts) (one_call db settings.pass phase a.0 made) ∙ (count_split (to_delete phase) a.0 counts (deletes_in made) ∙ counts_are answers g (counted (to_delete phase) a.0 counts)))
+  counts_are (a ∷ answers) (End phase (Ok c)) counts = refl
+  counts_are (a ∷ answers) (End phase (Err e)) counts = refl
 
--- ---- the reads of a pass
+-- ---- exactness
 
-module _ (facts : Facts) (call : Call) (db : List ℕ) (options : PassOptions) where
-  -- the deletes along answers from where a call stands, where these are the picks
-  abbrev ExactFrom : List ObjectMetadata → Standing → List Answered → Type 0
-  ExactFrom ms standing answers = DeletesFrom call ms (counts_of (length ms)) standing answers
+module _ (facts : Facts) (pass : GcMessage) (min_age : ℕ) (dry_run : Bool) (word : FilterWord) where
+  abbrev call : Call
+  call = calls.Pass pass min_age dry_run word
 
-  abbrev phase_at : PassPhase → Standing
-  phase_at phase = in_phase call facts db options phase
+  abbrev settings : PassSettings
+  settings = pass_settings pass min_age dry_run
 
-  abbrev next_at : ℤ → PassGoes → Standing
-  next_at now g = pass_next call facts db options now g
+  append_deletes : (xs ys : List ObjectMetadata) → deletes_of (xs ++ ys) ≡ deletes_of xs ++ deletes_of ys
+  append_deletes [] ys = refl
+  append_deletes (x ∷ xs) ys = ap (λ (cs : List StoreCall). Delete x.location ∷ cs) (append_deletes xs ys)
 
-  waits : (ms : List ObjectMetadata) (phase : PassPhase) → ExactFrom ms (phase_at phase) []
-  waits ms phase = under_way ms (counts_of (length ms)) (Pass db options (Collecting phase))
+  -- the counts of its picks
+  abbrev before : List Answered → PassCounts
+  before answers = counts_before settings (picked_so_far settings word answers)
 
-  refused : (ms : List ObjectMetadata) (e : SlateDBError) (answers : List Answered) → ExactFrom ms (record { facts = facts; next = Finish (Refused e) }) answers
-  refused ms e answers = refused_deletes call ms (counts_of (length ms)) facts e answers
+  -- where the call has the reply of a pass, its machine has ended so
+  at_reply : (answers : List Answered) (left : List ObjectMetadata)
+      → ((p : GcPhase) (c : PassCounts) → stands_after (pass_ways word) settings (Stay gc_start) answers ≡ End p (Ok c) → (left ≡ []) × (c ≡ counted_along (pass_ways word) settings (Stay gc_start) answers (before answers)))
+      → (counts : PassCounts) (g : GcGoes) → stands_after (pass_ways word) settings (Stay gc_start) answers ≡ g → (standing_at facts call facts.db settings word g).next ≡ Finish (reply_of counts)
+      → (left ≡ []) × (reply_of counts ≡ reply_of (with_deletes (before answers) (deletes_made facts call answers)))
+  at_reply answers left whole counts (Stay phase) is h = absurd cc
+  at_reply answers left whole counts (End phase (Err e)) is h = absurd cc
+  at_reply answers left whole counts (End phase (Ok c)) is h =
+      let w = whole phase c is in
+      let same : reply_of counts ≡ reply_of c = cc (h) in
+      (w.0, same ∙ ap reply_of (w.1 ∙ sym (counts_are facts call facts.db settings word answers (Stay gc_start) (before answers))))
 
-  -- a call of the pass that is no delete
-  quiet : (ms : List ObjectMetadata) (phase : PassPhase) (answer : StoreAnswer) (at : ℤ) (answers : List Answered) → is_delete (pass_asks db phase) ≡ false
-      → ExactFrom ms (next_at at (pass_goes decoded_manifest options at phase answer)) answers → ExactFrom ms (phase_at phase) ((answer, at) ∷ answers)
-  quiet ms phase answer at answers h d = quiet_call ms (counts_of (length ms)) _ _ (pass_asks db phase) answer h d
-
-  advance_quiet : (phase : AdvancePhase) → is_delete (advance_asks db ManifestLog phase) ≡ false
-  advance_quiet (advancing.Bounding n) = refl
-  advance_quiet (advancing.Creating n) = refl
-  advance_quiet (advancing.Replacing n tag) = refl
-  advance_quiet advancing.Over = refl
-
-  -- the boundary moves up, and then the picks are deleted
-  advance_exact : (answers : List Answered) (phase : AdvancePhase) (ms : List ObjectMetadata) → ExactFrom ms (phase_at (passing.Advancing phase ms)) answers
-  advance_exact [] phase ms = waits ms (passing.Advancing phase ms)
-  advance_exact ((answer, at) ∷ answers) phase ms = quiet ms (passing.Advancing phase ms) answer at answers (advance_quiet phase) (went (advance_goes phase answer) (λ p. advance_exact answers p ms))
-    where
-      went : (g : AdvanceGoes) → ((p : AdvancePhase) → ExactFrom ms (phase_at (passing.Advancing p ms)) answers) → ExactFrom ms (next_at at (advanced_goes ms g)) answers
-      went (Stay p) rest = rest p
-      went (End p (Ok u)) rest = deletes_left call facts db options answers at ms (counts_of (length ms))
-      went (End p (Err e)) rest = refused ms e answers
-
-  moved_exact : (now : ℤ) (n : ℕ) (cs : List Checkpoint) (found : List ObjectMetadata) (k : Option ℕ) (answers : List Answered) → greatest ManifestLog (unneeded n cs found) ≡ k
-      → ExactFrom (picks options (unneeded n cs found)) (next_at now (moves_to (picks options (unneeded n cs found)) k)) answers
-  moved_exact now n cs found None answers is =
-      subst (λ (ps : List ObjectMetadata). ExactFrom ps (next_at now (moves_to [] None)) answers) (sym (ap (picks options) (none_unneeded n cs found is) ∙ none_picked options))
-      (replied_deletes call (counts_of 0) (facts_after facts call (Passed (counts_of 0))) answers)
-  moved_exact now n cs found (Some k) answers is = advance_exact answers (advancing.Bounding k) (picks options (unneeded n cs found))
-
-  above_exact : (now : ℤ) (n : ℕ) (cs : List Checkpoint) (found : List ObjectMetadata) (answers : List Answered) (b : Bool)
-      → ExactFrom (if b then [] else picks options (unneeded n cs found)) (next_at now (if b then End passing.Over (Err (ManifestMissing n)) else bounded_next options (unneeded n cs found))) answers
-  above_exact now n cs found answers true = refused [] (ManifestMissing n) answers
-  above_exact now n cs found answers false = moved_exact now n cs found (greatest ManifestLog (unneeded n cs found)) answers refl
-
-  bounded_exact : (now : ℤ) (n : ℕ) (cs : List Checkpoint) (found : List ObjectMetadata) (bound : Option ℕ) (answers : List Answered)
-      → ExactFrom (bounded_picks options n (unneeded n cs found) bound) (next_at now (bounded_goes options n (unneeded n cs found) bound)) answers
-  bounded_exact now n cs found None answers = refused [] _ answers
-  bounded_exact now n cs found (Some bound) answers = above_exact now n cs found answers (nat_le n bound)
-
-  bound_exact : (n : ℕ) (cs : List Checkpoint) (found : List ObjectMetadata) (answers : List Answered)
-      → ExactFrom (bound_picks options n (unneeded n cs found) answers) (phase_at (passing.Bounding n (unneeded n cs found))) answers
-  bound_exact n cs found [] = waits [] (passing.Bounding n (unneeded n cs found))
-  bound_exact n cs found ((Got boundary, at) ∷ answers) = quiet _ (passing.Bounding n (unneeded n cs found)) _ at answers refl (bounded_exact at n cs found (boundary_got boundary) answers)
-  bound_exact n cs found ((_, at) ∷ answers) = quiet _ (passing.Bounding n (unneeded n cs found)) _ at answers refl (refused [] _ answers)
-
-  decoded_exact : (at : ℤ) (n : ℕ) (found : List ObjectMetadata) (r : Result Manifest SlateDBError) (answers : List Answered)
-      → ExactFrom (decoded_picks options n found r answers) (next_at at (decoded_goes n found r)) answers
-  decoded_exact at n found (Ok m) answers = bound_exact n m.core.checkpoints found answers
-  decoded_exact at n found (Err e) answers = refused [] e answers
-
-  get_exact : (n : ℕ) (found : List ObjectMetadata) (answers : List Answered) → ExactFrom (get_picks options n found answers) (phase_at (passing.Getting n found)) answers
-  get_exact n found [] = waits [] (passing.Getting n found)
-  get_exact n found ((Got (Some object), at) ∷ answers) = quiet _ (passing.Getting n found) _ at answers refl (decoded_exact at n found (decoded_manifest object.bytes) answers)
-  get_exact n found ((_, at) ∷ answers) = quiet _ (passing.Getting n found) _ at answers refl (refused [] _ answers)
-
-  listed_exact : (now : ℤ) (found : List ObjectMetadata) (n : Option ℕ) (answers : List Answered)
-      → ExactFrom (listed_picks options now found n answers) (next_at now (listed_goes options.min_age now found n)) answers
-  listed_exact now found None answers = refused [] _ answers
-  listed_exact now found (Some n) answers = get_exact n (aged options.min_age now found) answers
-
-  list_exact : (answers : List Answered) → ExactFrom (list_picks options answers) (phase_at passing.Listing) answers
-  list_exact [] = waits [] passing.Listing
-  list_exact ((Found found, now) ∷ answers) = quiet _ passing.Listing _ now answers refl (listed_exact now found (greatest ManifestLog found) answers)
-  list_exact ((_, now) ∷ answers) = quiet _ passing.Listing _ now answers refl (refused [] _ answers)
-
-  -- from the list on
-  pass_exact : (answers : List Answered) → ExactFrom (listed_or_none (picks_read options answers)) (phase_at passing.Listing) answers
-  pass_exact answers = subst (λ (ps : List ObjectMetadata). ExactFrom ps (phase_at passing.Listing) answers) (sym (picks_same options answers)) (list_exact answers)
-
--- ---- before the pass
-
-read_quiet : (db : List ℕ) (phase : ReadPhase Manifest) → is_delete (read_asks db ManifestLog phase) ≡ false
-read_quiet db reading.Listing = refl
-read_quiet db (reading.Getting n) = refl
-read_quiet db (reading.Bounding n m) = refl
-read_quiet db reading.Over = refl
-
-commit_quiet : (db : List ℕ) (phase : CommitPhase Manifest) → is_delete (commit_asks db ManifestLog phase) ≡ false
-commit_quiet db (committing.Putting n bytes m) = refl
-commit_quiet db (committing.Bounding n m) = refl
-commit_quiet db committing.Over = refl
-
--- a pass that still removes, or that is to list
-abbrev pub IsRemoval : GcPass → Type 0
-IsRemoval (Reading phase) = Unit {0}
-IsRemoval (Committing now phase) = Unit {0}
-IsRemoval (Collecting passing.Listing) = Unit {0}
-IsRemoval (Collecting _) = ⊥
-
-module _ (facts : Facts) (call : Call) (db : List ℕ) (options : PassOptions) where
-  -- where a pass call stands before its list, or as its list is due
-  data Before (standing : Standing) : Type 0 where
-    Begins : (phase : GcPass) → IsRemoval phase → standing ≡ record { facts = facts; next = Go (Pass db options phase) } → Before standing
-    Refuses : (e : SlateDBError) → standing ≡ record { facts = facts; next = Finish (Refused e) } → Before standing
-
-  -- where a call stands once its removal has gone on, at a moment
-  abbrev gc_next : ℤ → GcGoes → Standing
-  gc_next now g = follow facts call now (pass_on db options g)
-
-  removal_before : (at now : ℤ) (r : Result (Option (CommitPhase Manifest)) SlateDBError) → Before (gc_next at (removal_goes now r))
-  removal_before at now (Ok (Some commit)) = Begins (Committing now commit) tt refl
-  removal_before at now (Ok None) = Begins (Collecting passing.Listing) tt refl
-  removal_before at now (Err e) = Refuses e refl
-
-  read_before : (at now : ℤ) (g : Reply Manifest) → Before (gc_next at (read_on encoded now g))
-  read_before at now (Stay phase) = Begins (Reading phase) tt refl
-  read_before at now (End phase (Ok None)) = Refuses _ refl
-  read_before at now (End phase (Ok (Some version))) = removal_before at now (commit_of encoded DropExpired now version.0 version.1)
-  read_before at now (End phase (Err e)) = Refuses e refl
-
-  committed_before : (at made : ℤ) (g : CommitGoes Manifest) → Before (gc_next at (commit_on made g))
-  committed_before at made (Stay phase) = Begins (Committing made phase) tt refl
-  committed_before at made (End phase (Ok version)) = Begins (Collecting passing.Listing) tt refl
-  committed_before at made (End phase (Err e)) = Refuses e refl
-
-  -- the picks, by the answers from where the call stands
-  abbrev picks_from : Standing → List Answered → List ObjectMetadata
-  picks_from standing answers = listed_or_none (picks_read options (pass_answers call standing answers))
-
-  abbrev IsExactFrom : Standing → List Answered → Type 0
-  IsExactFrom standing answers = ExactFrom facts call db options (picks_from standing answers) standing answers
-
-  -- one answer more to the removal
-  one_more : (phase : GcPass) (a : Answered) (answers : List Answered) → IsRemoval phase → ((standing : Standing) → Before standing → IsExactFrom standing answers)
-      → IsExactFrom (record { facts = facts; next = Go (Pass db options phase) }) (a ∷ answers)
-  one_more (Reading phase) a answers h rest =
-      let standing = gc_next a.1 (read_on encoded a.1 (read_goes ManifestLog decoded_manifest phase a.0)) in
-      quiet_call (picks_from standing answers) (counts_of (length (picks_from standing answers))) _ _ (read_asks db ManifestLog phase) a.0 (read_quiet db phase)
-      (rest standing (read_before a.1 a.1 (read_goes ManifestLog decoded_manifest phase a.0)))
-  one_more (Committing made phase) a answers h rest =
-      let standing = gc_next a.1 (commit_on made (commit_goes phase a.0)) in
-      quiet_call (picks_from standing answers) (counts_of (length (picks_from standing answers))) _ _ (commit_asks db ManifestLog phase) a.0 (commit_quiet db phase)
-      (rest standing (committed_before a.1 made (commit_goes phase a.0)))
-  one_more (Collecting passing.Listing) a answers h rest = pass_exact facts call db options (a ∷ answers)
-  one_more (Collecting _) a answers h rest = absurd h
-
-  none_refused : (e : SlateDBError) (answers : List Answered) → picks_from (record { facts = facts; next = Finish (Refused e) }) answers ≡ []
-  none_refused e [] = refl
-  none_refused e (a ∷ answers) = none_refused e answers
-
-  exact_from : (answers : List Answered) (standing : Standing) → Before standing → IsExactFrom standing answers
-  exact_from answers standing (Refuses e is) =
-      subst (λ (s : Standing). IsExactFrom s answers) (sym is)
-      (subst (λ (ms : List ObjectMetadata). ExactFrom facts call db options ms (record { facts = facts; next = Finish (Refused e) }) answers) (sym (none_refused e answers))
-      (refused facts call db options [] e answers))
-  exact_from [] standing (Begins phase h is) = subst (λ (s : Standing). IsExactFrom s []) (sym is) (under_way [] (counts_of 0) (Pass db options phase))
-  exact_from (a ∷ answers) standing (Begins phase h is) = subst (λ (s : Standing). IsExactFrom s (a ∷ answers)) (sym is) (one_more phase a answers h (λ next k. exact_from answers next k))
-
-module _ (facts : Facts) (pass : GcMessage) (min_age : ℕ) (dry_run : Bool) (filter : FilterWord) where
   -- along any answers, also of kinds that no store gives
-  pub exact_pass : (answers : List Answered) → IsExact facts (calls.Pass pass min_age dry_run filter) (pass_options min_age dry_run filter) answers
+  pub exact_pass : (answers : List Answered) → IsExact facts call settings word answers
   exact_pass answers =
-      let call = calls.Pass pass min_age dry_run filter in
-      let d = exact_from facts call facts.db (pass_options min_age dry_run filter) answers (begin facts call) (Begins (Reading reading.Listing) tt refl) in
-      record { left = d.left; front = d.front; whole = d.whole }
+      let e = exactly (pass_ways word) settings answers in
+      let deletes = deletes_are facts call facts.db settings word answers (Stay gc_start) in
+      record {
+        left = e.left;
+        front = ap (λ (cs : List StoreCall). cs ++ deletes_of e.left) deletes ∙ (sym (append_deletes (deleted_along (pass_ways word) settings (Stay gc_start) answers) e.left) ∙ ap deletes_of e.front);
+        whole = λ counts h. at_reply answers e.left e.whole counts (stands_after (pass_ways word) settings (Stay gc_start) answers) refl
+            (sym (ap (λ (st : Standing). st.next) (stands facts call facts.db settings word answers (Stay gc_start))) ∙ h);
+      }
 
 -- ---- in a trail
 

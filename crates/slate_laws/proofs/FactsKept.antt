@@ -4,7 +4,7 @@ use Rattle.slate_compactor.specs.Local.{scheduled, finished, failed, manifest_co
 use Rattle.slate_compactor.specs.declared.local_state.LocalState.{LocalState}
 use Rattle.slate_encodable.specs.Normal.{normal_manifest}
 use Rattle.slate_events.specs.declared.call.Call.{Call}
-use Rattle.slate_events.specs.declared.call.Call.TheVariants.{OpenWriter, OpenCompactor, Refresh, Schedule, Finish as FinishCall, Fail, WriteManifest, WriteRecord, WriteState}
+use Rattle.slate_events.specs.declared.call.Call.TheVariants.{OpenWriter, OpenCompactor, Refresh, Schedule, Finish as FinishCall, Fail, WriteRecord, WriteState}
 use Rattle.slate_ids.specs.declared.error.SlateDBError.{SlateDBError}
 use Rattle.slate_model.specs.declared.manifest.Manifest.{Manifest}
 use Rattle.slate_protocol.specs.Calls.{Next, Go, Finish, done_merged, with_opened, with_refreshed, refresh_of, refresh_next, with_held, end_of, facts_read_once, facts_read, facts_committed_once, facts_committed, facts_record_read_once, facts_record_read, facts_record_committed_once, facts_record_committed, facts_after, facts_at_start}
@@ -108,7 +108,7 @@ abbrev pub is_commit : Phrase → Bool
 is_commit (Reads k db phase) = false
 is_commit (Commits k db purpose now phase) = true
 is_commit (Uploads db table bytes) = false
-is_commit (Collects db phase) = false
+is_commit (Collects db pass phase) = false
 
 -- whether a call goes on with a commit
 abbrev pub commits : Next → Bool

@@ -5,10 +5,11 @@ use Rattle.slate_compactor.specs.Trees.{Trees}
 use Rattle.slate_encodable.specs.Normal.{normal_manifest}
 use Rattle.slate_events.specs.declared.call.Call.{Call}
 use Rattle.slate_events.specs.declared.call.Call.TheVariants.{OpenCompactor, Refresh, Schedule, WriteRecord, WriteState, Claim, Report}
-use Rattle.slate_gc.specs.GcPass.{GcGoes, gc_goes}
+use Rattle.slate_passes.specs.GcPhase.{GcGoes, gc_goes}
+use Rattle.slate_passes.specs.declared.pass_settings.PassSettings.{PassSettings}
+use Rattle.slate_events.specs.declared.filter_word.FilterWord.{FilterWord}
 use Rattle.slate_ids.specs.declared.error.SlateDBError.{SlateDBError}
 use Rattle.slate_ids.specs.declared.error.SlateDBError.TheVariants.{TransactionalObjectVersionExists}
-use Rattle.slate_layout.specs.Codec.{encoded}
 use Rattle.slate_layout.specs.RecordCodec.{record_encoded}
 use Rattle.slate_log.specs.Boundary.{boundary_got}
 use Rattle.slate_log.specs.CommitPhase.{CommitGoes, commit_goes, created_goes, bounded_goes, encoded_commit}
@@ -31,7 +32,7 @@ use Rattle.slate_store.specs.declared.store_answer.StoreAnswer.TheVariants.{Crea
 use Rattle.slate_protocol.specs.Calls.{Next, Go, Finish, record_change_of, epoch_change, reset_change, first_of, record_again, again, done, done_once, done_merged, record_done, record_done_once, refresh_next, facts_after, facts_at_start, refusal_at_start}
 use Rattle.slate_protocol.specs.PartyChanges.{made_by, right_by, fence_by}
 use Rattle.slate_protocol.specs.Rows.{commit_for, last_next, then_next, commit_next, record_commit_for, record_next, record_then, first_put, no_record, after, first_next, begin_unless, begin}
-use Rattle.slate_protocol.specs.Works.{WorkGoes, read_on, commit_on, record_read_on, record_commit_on, put_end, pass_on, goes}
+use Rattle.slate_protocol.specs.Works.{WorkGoes, read_on, commit_on, record_read_on, record_commit_on, put_end, pass_on, pass_ways, goes}
 use Rattle.slate_protocol.specs.declared.party.Facts.{Facts}
 use Rattle.slate_protocol.specs.declared.party.Kept.{Kept}
 use Rattle.slate_protocol.specs.declared.party.Kept.TheVariants.{Raised}
@@ -76,7 +77,7 @@ WorkGives facts call (works.CommitManifest purpose now db phase) = Unit {0}
 WorkGives facts call (works.ReadRecord purpose db phase) = purpose ≡ Once
 WorkGives facts call (works.CommitRecord purpose now db phase) = HasRaised facts call purpose (Puts phase)
 WorkGives facts call (works.PutTable db upload bytes) = Unit {0}
-WorkGives facts call (works.Pass db options phase) = Unit {0}
+WorkGives facts call (works.Pass db settings filter phase) = Unit {0}
 
 abbrev pub NextGives : Facts → Call → Next → Type 0
 NextGives facts call (Go work) = WorkGives facts call work
@@ -152,10 +153,10 @@ module _ (facts : Facts) (call : Call) where
   put_gives work upload (Written tag) = tt
   put_gives work upload _ = tt
 
-  pass_gives : (db : List ℕ) (options : _) (g : GcGoes) → GoesGives facts call (pass_on db options g)
-  pass_gives db options (Stay phase) = tt
-  pass_gives db options (End phase (Ok counts)) = tt
-  pass_gives db options (End phase (Err e)) = tt
+  pass_gives : (db : List ℕ) (settings : PassSettings) (filter : FilterWord) (g : GcGoes) → GoesGives facts call (pass_on db settings filter g)
+  pass_gives db settings filter (Stay phase) = tt
+  pass_gives db settings filter (End phase (Ok counts)) = tt
+  pass_gives db settings filter (End phase (Err e)) = tt
 
   pub work_gives : (work : Work) (now : ℤ) (answer : StoreAnswer) → WorkGives facts call work → GoesGives facts call (goes work now answer)
   work_gives (works.ReadManifest purpose db phase) now answer h = read_gives purpose db (read_goes logs.Manifest decoded_manifest phase answer)
@@ -163,7 +164,7 @@ module _ (facts : Facts) (call : Call) where
   work_gives (works.ReadRecord purpose db phase) now answer h = record_read_gives purpose db (read_goes logs.Compactions decoded_record phase answer) h
   work_gives (works.CommitRecord purpose at db phase) now answer h = record_commit_gives purpose at db (commit_goes phase answer) (λ e trees kept gives. goes_with phase answer e (h e trees kept gives))
   work_gives (works.PutTable db upload bytes) now answer h = put_gives (works.PutTable db upload bytes) upload answer
-  work_gives (works.Pass db options phase) now answer h = pass_gives db options (gc_goes decoded_manifest encoded options now phase answer)
+  work_gives (works.Pass db settings filter phase) now answer h = pass_gives db settings filter (gc_goes (pass_ways filter) settings now phase answer)
 
 -- ---- at the end of a phrase
 
@@ -298,7 +299,7 @@ module _ (facts : Facts) (call : Call) (now : ℤ) where
   work_still known (works.ReadRecord purpose db phase) is h = h
   work_still known (works.CommitRecord purpose at db phase) is h = absurd (cc is)
   work_still known (works.PutTable db upload bytes) is h = tt
-  work_still known (works.Pass db options phase) is h = tt
+  work_still known (works.Pass db settings filter phase) is h = tt
 
   known_gives : (known : Facts) (next : Next) → (known ≡ facts) ⊎ (commits next ≡ false) → NextGives facts call next → NextGives known call next
   known_gives known next (inl same) h = subst (λ (f : Facts). NextGives f call next) (sym same) h

@@ -11,10 +11,11 @@ use Rattle.slate_store.specs.declared.mark.Mark.TheVariants.{Good, Fail, Lost}
 use Rattle.slate_events.specs.declared.call.Call.{Call}
 use Rattle.slate_events.specs.declared.db_spec.DbSpec.{DbSpec}
 use Rattle.slate_events.specs.declared.event.Event.{Event}
-use Rattle.slate_gc.specs.declared.gc_pass.GcPass.TheVariants as gc
-use Rattle.slate_gc.specs.declared.pass_phase.PassPhase.{PassPhase}
-use Rattle.slate_gc.specs.declared.pass_phase.PassPhase.TheVariants as passing
-use Rattle.slate_gc.specs.GcPass as whole_pass
+use Rattle.slate_ids.specs.declared.gc_message.GcMessage.{GcMessage}
+use Rattle.slate_passes.specs.declared.gc_phase.GcPhase.TheVariants as gc
+use Rattle.slate_passes.specs.declared.pass_phase.PassPhase.{PassPhase}
+use Rattle.slate_passes.specs.declared.pass_phase.PassPhase.TheVariants as passing
+use Rattle.slate_passes.specs.GcPhase as whole_pass
 use Rattle.slate_log.specs.Advance.{boundary_at}
 use Rattle.slate_log.specs.CommitPhase.{CommitGoes, commit_asks, commit_goes, bounded_goes}
 use Rattle.slate_log.specs.LogPaths.{version_path}
@@ -109,7 +110,7 @@ abbrev PhraseFails : Store → ℤ → Mark → Phrase → Type 0
 PhraseFails s moment mark (Commits k db purpose now phase) = CommitFails (commit_goes phase (effect mark (commit_asks db k phase) moment s).answer)
 PhraseFails s moment mark (Reads k db phase) = ⊥
 PhraseFails s moment mark (Uploads db table bytes) = ⊥
-PhraseFails s moment mark (Collects db phase) = ⊥
+PhraseFails s moment mark (Collects db pass phase) = ⊥
 
 -- then the call ends with it
 work_fails : (s : Store) (moment : ℤ) (mark : Mark) (facts : Facts) (call : Call) (work : Work) → PhraseFails s moment mark (phrase_of work) → IsRefused (follow facts call moment (goes work moment (effect mark (asks work) moment s).answer)).next
@@ -118,9 +119,9 @@ work_fails s moment mark facts call (CommitManifest purpose now db phase) h = re
 work_fails s moment mark facts call (ReadRecord purpose db phase) h = absurd h
 work_fails s moment mark facts call (CommitRecord purpose now db phase) h = record { error = h.error; is = ap (λ g. (follow facts call moment (record_commit_on purpose now db g)).next) h.is }
 work_fails s moment mark facts call (PutTable db upload bytes) h = absurd h
-work_fails s moment mark facts call (Pass db options (gc.Reading phase)) h = absurd h
-work_fails s moment mark facts call (Pass db options (gc.Committing now phase)) h = record { error = h.error; is = ap (λ g. (follow facts call moment (pass_on db options (whole_pass.commit_on now g))).next) h.is }
-work_fails s moment mark facts call (Pass db options (gc.Collecting phase)) h = absurd h
+work_fails s moment mark facts call (Pass db settings filter (gc.Reading phase)) h = absurd h
+work_fails s moment mark facts call (Pass db settings filter (gc.Committing now phase)) h = record { error = h.error; is = ap (λ g. (follow facts call moment (pass_on db settings filter (whole_pass.commit_on settings.pass now g))).next) h.is }
+work_fails s moment mark facts call (Pass db settings filter (gc.Collecting at phase)) h = absurd h
 
 -- what was removed up to now was collected
 gone_collected : (specs : List DbSpec) (events : List Event) → IsAccepted specs → AreGood specs events → AllCollected (world_after events (opening_world specs)) (chains_at_end specs events) (gone_after specs events)
@@ -159,26 +160,32 @@ module _ (specs : List DbSpec) (events : List Event) (n : ℕ) (p : Party) (task
   commit_holds k db purpose now number bytes v e = made_of k (chains k db) _ number v (knows (Commits k db purpose now (Putting number bytes v)) e).made
 
   all_spare : (db : List ℕ) (phase : PassPhase) → PassKnows w.store (chains logs.Manifest db) db phase → Each (IsManifestThat db (IsSpare manifests (chains logs.Manifest db))) (picks_in phase)
-  all_spare db passing.Listing h = tt
-  all_spare db (passing.Getting k found) h = tt
-  all_spare db (passing.Bounding k candidates) h = tt
-  all_spare db (passing.Advancing phase picked) h = each_is db _ (IsSpare manifests (chains logs.Manifest db)) (λ k w. w.1) picked h.1
+  all_spare db (passing.ReadingRecord phase) h = tt
+  all_spare db (passing.ReadingManifest least phase) h = tt
+  all_spare db (passing.Fetching heads phase) h = tt
+  all_spare db (passing.Listing heads versions) h = tt
+  all_spare db (passing.Getting k listed found) h = tt
+  all_spare db (passing.Bounding k listed candidates) h = tt
+  all_spare db (passing.Advancing phase left counts) h = each_is db _ (IsSpare manifests (chains logs.Manifest db)) (λ k w. w.1) left h.1
   all_spare db (passing.Deleting left counts) h = each_is db _ (IsSpare manifests (chains logs.Manifest db)) (λ k w. w.1) left h
   all_spare db passing.Over h = tt
 
-  pub spare_picks : (db : List ℕ) (phase : PassPhase) → phrase_of task.work ≡ Collects db phase → Each (IsManifestThat db (IsSpare manifests (chains logs.Manifest db))) (picks_in phase)
-  spare_picks db phase e = all_spare db phase (knows (Collects db phase) e)
+  pub spare_picks : (db : List ℕ) (pass : GcMessage) (phase : PassPhase) → phrase_of task.work ≡ Collects db pass phase → Each (IsManifestThat db (IsSpare manifests (chains logs.Manifest db))) (picks_in phase)
+  spare_picks db pass phase e = all_spare db phase (knows (Collects db pass phase) e).1
 
   all_bounded : (db : List ℕ) (bound : ℕ) → bound_in manifests db w.store ≡ Some bound → (phase : PassPhase) → PassKnows w.store (chains logs.Manifest db) db phase → Each (IsManifestThat db (λ k. k ≤ bound)) (due_in phase)
-  all_bounded db bound read passing.Listing h = tt
-  all_bounded db bound read (passing.Getting k found) h = tt
-  all_bounded db bound read (passing.Bounding k candidates) h = tt
-  all_bounded db bound read (passing.Advancing phase picked) h = tt
+  all_bounded db bound read (passing.ReadingRecord phase) h = tt
+  all_bounded db bound read (passing.ReadingManifest least phase) h = tt
+  all_bounded db bound read (passing.Fetching heads phase) h = tt
+  all_bounded db bound read (passing.Listing heads versions) h = tt
+  all_bounded db bound read (passing.Getting k listed found) h = tt
+  all_bounded db bound read (passing.Bounding k listed candidates) h = tt
+  all_bounded db bound read (passing.Advancing phase left counts) h = tt
   all_bounded db bound read (passing.Deleting left counts) h = each_is db _ (λ k. k ≤ bound) (λ k w. w.0.reached bound read) left h
   all_bounded db bound read passing.Over h = tt
 
-  pub bounded_due : (db : List ℕ) (phase : PassPhase) (bound : ℕ) → phrase_of task.work ≡ Collects db phase → bound_in manifests db w.store ≡ Some bound → Each (IsManifestThat db (λ k. k ≤ bound)) (due_in phase)
-  bounded_due db phase bound e read = all_bounded db bound read phase (knows (Collects db phase) e)
+  pub bounded_due : (db : List ℕ) (pass : GcMessage) (phase : PassPhase) (bound : ℕ) → phrase_of task.work ≡ Collects db pass phase → bound_in manifests db w.store ≡ Some bound → Each (IsManifestThat db (λ k. k ≤ bound)) (due_in phase)
+  bounded_due db pass phase bound e read = all_bounded db bound read phase (knows (Collects db pass phase) e).1
 
   -- the database of a phrase is one of the cluster
   has_db : (phrase : Phrase) → phrase_of task.work ≡ phrase → HasDb w (db_in phrase)

@@ -22,7 +22,7 @@ use Rattle.slate_log.specs.LogPaths.{boundary_path}
 use Rattle.slate_log.specs.declared.advance_phase.AdvancePhase.{AdvancePhase}
 use Rattle.slate_log.specs.declared.advance_phase.AdvancePhase.TheVariants as advancing
 use Rattle.slate_log.specs.declared.log_kind.LogKind.TheVariants.{Manifest as ManifestLog}
-use Rattle.slate_gc.specs.Filter.{lies_at}
+use Rattle.slate_events.specs.Filter.{lies_at}
 use Rattle.slate_protocol.specs.Alone.{without}
 use Rattle.slate_laws.proofs.Ordered.{IsAbove, IsOrdered}
 use Rattle.slate_laws.proofs.Stores.{IsTidy, test_is, bytes_same, same_bytes, same_found}

@@ -28,8 +28,8 @@ mod Beginnings
 mod OpeningRecords
 mod OpeningTables
 mod Opening
-mod Deletes
 mod Exact
+mod ManifestPicks
 mod Safety
 mod Rising
 mod EveryRun

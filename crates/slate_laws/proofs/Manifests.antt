@@ -1,13 +1,11 @@
 -- The two logs: what their codecs and their rules give, and what is committed of a change.
-use Rattle.std.proofs.Common.{◌≡◌, ℕ, ◌+◌, ◌==◌, ◌≤◌, Bool, true, false, List, Option, Some, None, Result, Ok, Err, refl, ap, ◌∙◌}
+use Rattle.std.proofs.Common.{◌≡◌, ℕ, ◌+◌, ◌==◌, Bool, true, false, List, Option, Some, None, Result, Ok, Err, refl, ap, ◌∙◌}
 use Rattle.std.specs.Prelude.{if◌then◌else◌}
 use Rattle.slate_ids.specs.Limits.{last_number}
 use Rattle.slate_ids.specs.declared.error.SlateDBError.{SlateDBError}
 use Rattle.slate_ids.specs.declared.error.SlateDBError.TheVariants.{Exhausted}
 use Rattle.slate_layout.specs.laws.Codecs.{codec_round_trip, record_codec_trip}
-use Rattle.slate_updates.specs.Rules.{manifest_refusal}
-use Rattle.slate_updates.proofs.Lawful.{nothing_falls, names_stay}
-use Rattle.slate_model.specs.declared.manifest.Manifest.{Manifest}
+use Rattle.slate_updates.proofs.Lawful.{names_stay}
 use Rattle.slate_log.specs.CommitPhase.{prepared, checked_commit, encoded_commit}
 use Rattle.slate_log.specs.declared.commit_phase.CommitPhase.{CommitPhase}
 use Rattle.slate_log.specs.declared.commit_phase.CommitPhase.TheVariants.{Putting}

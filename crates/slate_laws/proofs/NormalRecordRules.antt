@@ -1,7 +1,7 @@
 -- The rules look at nothing that a record's bytes drop but outputs that are let go: what is read back of a record that they let pass passes too.
 use Rattle.std.proofs.Common.{◌≡◌, ℕ, suc, Bool, true, false, List, [], ◌∷◌, length, map, Option, Some, None, refl, ap, ◌∙◌}
 use Rattle.std.specs.Prelude.{is_none, not, ◌&&◌, ◌||◌, ◌==◌, if◌then◌else◌}
-use Rattle.std.specs.List.{find, list_any}
+use Rattle.std.specs.List.{list_any}
 use Rattle.std.specs.Option.{option_or}
 use Rattle.slate_ids.specs.Ulids.{same_id}
 use Rattle.slate_ids.specs.declared.error.SlateDBError.{SlateDBError}
@@ -11,7 +11,7 @@ use Rattle.slate_tables.specs.declared.ss_table_handle.SsTableHandle.{SsTableHan
 use Rattle.slate_records.specs.Records.{Record, entry_of}
 use Rattle.slate_records.specs.declared.compaction.Compaction.{Compaction}
 use Rattle.slate_record_bytes.specs.RecordNormal.{normal_compaction, normal_record}
-use Rattle.slate_record_bytes.specs.Records.{has_outputs, kept_outputs}
+use Rattle.slate_record_bytes.specs.Records.{has_outputs}
 use Rattle.slate_record_updates.specs.RecordRules.{first_refusal, rule_refusal, epoch_falls, entry_refusal, table_refusal, outputs_refusal, is_emptied, is_lost, may_remove, clocks_refusal, removal_refusal, record_refusal_of}
 
 -- ---- a refusal, or else another

@@ -13,7 +13,6 @@ use Rattle.slate_events.specs.declared.db_spec.DbSpec.{DbSpec}
 use Rattle.slate_events.specs.declared.event.Event.{Event}
 use Rattle.slate_events.specs.declared.event.Event.TheVariants.{Open, Start, Step, Stop}
 use Rattle.slate_events.specs.declared.party_kind.PartyKind.{PartyKind}
-use Rattle.slate_events.specs.declared.party_kind.PartyKind.TheVariants.{Compactor}
 use Rattle.slate_ids.specs.declared.error.SlateDBError.{SlateDBError}
 use Rattle.slate_log.specs.declared.log_kind.LogKind.{LogKind}
 use Rattle.slate_log.specs.declared.log_kind.LogKind.TheVariants as logs

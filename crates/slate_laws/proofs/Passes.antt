@@ -1,10 +1,11 @@
 -- One step of a pass over the manifests: what it leaves of the log, and what it goes on with.
-use Rattle.std.proofs.Common.{◌≡◌, ℕ, ℤ, ◌<◌, ◌≤◌, ◌^◌, max, nat_le, nat_lt, Bool, true, false, List, [], ◌∷◌, map, filter, length, Option, Some, None, IfSome, Result, Ok, Err, refl, sym, ap, ◌∙◌, subst, arith, cond}
+use Rattle.std.proofs.Common.{◌≡◌, ℕ, ℤ, ◌<◌, ◌≤◌, ◌^◌, max, nat_le, nat_lt, Bool, true, false, List, [], ◌∷◌, map, filter, Option, Some, None, IfSome, Result, Ok, Err, refl, sym, ap, ◌∙◌, subst, arith, cond}
 use Rattle.std.proofs.lemmas.Bool.Decides.{nat_tests}
-use Rattle.std.specs.Prelude.{if◌then◌else◌, ◌&&◌, not, bytes_eq}
+use Rattle.std.specs.Prelude.{if◌then◌else◌, ◌&&◌, not}
 use Rattle.slate_ids.specs.Ids.{is_db_path}
 use Rattle.slate_ids.specs.declared.error.SlateDBError.{SlateDBError}
 use Rattle.slate_ids.specs.declared.error.SlateDBError.TheVariants.{ManifestMissing}
+use Rattle.slate_ids.specs.declared.gc_message.GcMessage.TheVariants as of
 use Rattle.slate_ids.specs.declared.object_path.ObjectPath.{ObjectPath}
 use Rattle.slate_ids.specs.declared.object_path.ObjectPath.TheVariants as paths
 use Rattle.slate_updates.specs.Checkpoints.{is_named}
@@ -25,20 +26,22 @@ use Rattle.slate_log.specs.AdvancePhase.{AdvanceGoes, advance_asks, advance_goes
 use Rattle.slate_log.specs.Boundary.{greater, greatest_from, greatest}
 use Rattle.slate_log.specs.LogPaths.{version_path, number_of, folder}
 use Rattle.slate_log.specs.declared.log_kind.LogKind.TheVariants.{Manifest as ManifestLog}
-use Rattle.slate_gc.specs.Deletes.{counts_of}
-use Rattle.slate_gc.specs.Filter.{lies_at, allowed}
-use Rattle.slate_gc.specs.Pass.{pass_asks, pass_goes, listed_goes, got_goes, decoded_goes, bounded_goes, bounded_next, moves_to, deletes_next, advanced_goes}
-use Rattle.slate_gc.specs.Picks.{is_unneeded, unneeded, is_aged, aged, picks}
-use Rattle.slate_gc.specs.declared.filter_word.FilterWord.{FilterWord}
-use Rattle.slate_gc.specs.declared.filter_word.FilterWord.TheVariants.{All, Nothing, Paths}
-use Rattle.slate_gc.specs.declared.pass_counts.PassCounts.{PassCounts}
-use Rattle.slate_gc.specs.declared.pass_options.PassOptions.{PassOptions}
-use Rattle.slate_gc.specs.declared.pass_phase.PassPhase.{PassPhase}
-use Rattle.slate_gc.specs.declared.pass_phase.PassPhase.TheVariants.{Listing, Getting, Bounding, Advancing, Deleting, Over}
+use Rattle.slate_events.specs.Filter.{returned_by}
+use Rattle.slate_events.specs.declared.filter_word.FilterWord.{FilterWord}
+use Rattle.slate_passes.specs.Pass.{pass_asks, pass_goes, manifests_goes, got_goes, decoded_goes, bounded_goes, chosen_goes, advance_to, deletes_next, advanced_goes}
+use Rattle.slate_passes.specs.declared.directory_options.GarbageCollectorDirectoryOptions.{GarbageCollectorDirectoryOptions}
+use Rattle.slate_passes.specs.declared.pass_counts.PassCounts.{PassCounts}
+use Rattle.slate_passes.specs.declared.pass_phase.PassPhase.{PassPhase}
+use Rattle.slate_passes.specs.declared.pass_phase.PassPhase.TheVariants.{ReadingRecord, ReadingManifest, Fetching, Listing, Getting, Bounding, Advancing, Deleting, Over}
+use Rattle.slate_passes.specs.declared.pass_settings.PassSettings.{PassSettings}
+use Rattle.slate_picks.specs.Ages.{is_aged}
+use Rattle.slate_picks.specs.Filter.{is_one_of, picks}
+use Rattle.slate_picks.specs.Versions.{is_unneeded, unneeded}
 use Rattle.slate_protocol.specs.Chains.{top, bound_in}
 use Rattle.slate_protocol.specs.Holding.{Each, IsManifestThat}
 use Rattle.slate_protocol.specs.Logs.{Author, Chain, manifests}
 use Rattle.slate_protocol.specs.Reach.{IsSpare}
+use Rattle.slate_protocol.specs.Works.{pass_ways}
 use Rattle.slate_laws.proofs.Stores.{IsTidy, decides}
 use Rattle.slate_laws.proofs.Lists.{EachNumber, greatest_has, listed_small}
 use Rattle.slate_laws.proofs.Links.{at_most}
@@ -122,7 +125,7 @@ module _ (db : List ℕ) (n : ℕ) (cs : List Checkpoint) where
       record { number = w.number; is = w.is; has = (less w.number n (first_of (nat_lt w.number n) (not (is_named w.number cs)) at), second_of (nat_lt w.number n) (is_named w.number cs) at) }
 
   -- a candidate is below the greatest listed number, and no checkpoint names it
-  pub unneeded_below : (found : List ObjectMetadata) → EachIs db (λ k. Unit {0}) found → EachIs db (λ k. (k < n) × (is_named k cs ≡ false)) (unneeded n cs found)
+  pub unneeded_below : (found : List ObjectMetadata) → EachIs db (λ k. Unit {0}) found → EachIs db (λ k. (k < n) × (is_named k cs ≡ false)) (unneeded ManifestLog n cs found)
   unneeded_below found h = each_tested (IsManifestThat db (λ k. Unit {0})) (IsManifestThat db (λ k. (k < n) × (is_named k cs ≡ false))) (λ m. is_unneeded n cs (number_of ManifestLog m.location)) unneeded_is found h
 
 -- the numbers of manifests
@@ -149,18 +152,34 @@ with_most db P k (m ∷ ms) h e =
     let le : h.0.number ≤ k = subst (λ p. IfSome (number_of ManifestLog p) (λ j. j ≤ k)) h.0.is e.0 in
     (record { number = h.0.number; is = h.0.is; has = (le, h.0.has) }, with_most db P k ms h.1 e.1)
 
--- what is picked is among the candidates
-pub picks_have : (P : ObjectMetadata → Type 0) (options : PassOptions) (ms : List ObjectMetadata) → Each P ms → Each P (picks options ms)
-picks_have P options ms h = test options.dry_run (by_word options.filter)
+-- without a greatest number there is none
+some_from : (k : ℕ) (ms : List ObjectMetadata) → greatest_from ManifestLog (Some k) ms ≡ None → ⊥
+some_from k [] h = absurd cc
+some_from k (m ∷ ms) h = step (number_of ManifestLog m.location) (λ j. some_from j ms) h
   where
-    by_word : (word : FilterWord) → Each P (allowed word ms)
-    by_word All = h
-    by_word Nothing = tt
-    by_word (Paths ps) = each_kept P (lies_at ps) ms h
+    step : (o : Option ℕ) → ((j : ℕ) → greatest_from ManifestLog (Some j) ms ≡ None → ⊥) → greatest_from ManifestLog (greater (Some k) o) ms ≡ None → ⊥
+    step None f h = f k h
+    step (Some j) f h = f (max k j) h
 
-    test : (b : Bool) → Each P (allowed options.filter ms) → Each P (if b then [] else allowed options.filter ms)
-    test true w = tt
-    test false w = w
+none_there : (db : List ℕ) (P : ℕ → Type 0) (ms : List ObjectMetadata) → EachIs db P ms → greatest ManifestLog ms ≡ None → ms ≡ []
+none_there db P [] h e = refl
+none_there db P (m ∷ ms) h e = absurd (some_from h.0.number ms (sym (ap (λ p. greatest_from ManifestLog (greater None (number_of ManifestLog p)) ms) h.0.is) ∙ e))
+
+-- ---- what is picked
+
+-- the settings of a pass over the manifests that keeps the boundary
+abbrev pub manifest_pass : GarbageCollectorDirectoryOptions → PassSettings
+manifest_pass options = record { pass = of.Manifest; options = options; boundary_files_enabled = true }
+
+-- what is picked is among the candidates
+pub picks_have : (P : ObjectMetadata → Type 0) (word : FilterWord) (dry_run : Bool) (ms : List ObjectMetadata) → Each P ms → Each P (picks (pass_ways word).allows dry_run ms)
+picks_have P word true ms h = tt
+picks_have P word false ms h = each_kept P (is_one_of (returned_by word ms)) ms h
+
+-- of no candidates none is picked
+pub none_picked : (word : FilterWord) (dry_run : Bool) → picks (pass_ways word).allows dry_run [] ≡ []
+none_picked word true = refl
+none_picked word false = refl
 
 -- ---- what a pass knows
 
@@ -170,12 +189,16 @@ pub record IsRead (s : Store) (c : ManifestChain) (db : List ℕ) (n : ℕ) (can
   pub holds : Holds manifests db s c n value
   pub below : EachIs db (λ k. (k < n) × (is_named k value.core.checkpoints ≡ false)) candidates
 
--- what a pass knows in each phase: what it picked is spare, and what is left to be deleted is at or below the boundary
+-- what a pass over the manifests knows in each phase: it reads nothing before its list, what it picked is spare, and what is left to be deleted
+-- is at or below the boundary
 abbrev pub PassKnows : Store → ManifestChain → List ℕ → PassPhase → Type 0
-PassKnows s c db Listing = Unit {0}
-PassKnows s c db (Getting n found) = (n < 2 ^ 64) × EachIs db (λ k. Unit {0}) found
-PassKnows s c db (Bounding n candidates) = IsRead s c db n candidates
-PassKnows s c db (Advancing phase picked) = AdvanceKnows manifests db s c phase × EachIs db (λ k. (k ≤ target phase) × IsSpare manifests c k) picked
+PassKnows s c db (ReadingRecord phase) = ⊥
+PassKnows s c db (ReadingManifest least phase) = ⊥
+PassKnows s c db (Fetching heads phase) = ⊥
+PassKnows s c db (Listing heads versions) = Unit {0}
+PassKnows s c db (Getting n listed found) = (n < 2 ^ 64) × EachIs db (λ k. Unit {0}) found
+PassKnows s c db (Bounding n listed candidates) = IsRead s c db n candidates
+PassKnows s c db (Advancing phase left counts) = AdvanceKnows manifests db s c phase × EachIs db (λ k. (k ≤ target phase) × IsSpare manifests c k) left
 PassKnows s c db (Deleting left counts) = EachIs db (λ k. IsReached manifests db s k × IsSpare manifests c k) left
 PassKnows s c db Over = ⊥
 
@@ -185,53 +208,65 @@ PassBrings s c db (Stay phase) = PassKnows s c db phase
 PassBrings s c db (End phase r) = Unit {0}
 
 pub kept_pass : (s : Store) (c : ManifestChain) (s' : Store) (c' : ManifestChain) (db : List ℕ) → Grows manifests db s c s' c' → (phase : PassPhase) → PassKnows s c db phase → PassKnows s' c' db phase
-kept_pass s c s' c' db g Listing h = h
-kept_pass s c s' c' db g (Getting n found) h = h
-kept_pass s c s' c' db g (Bounding n candidates) h = record { value = h.value; holds = kept_holds manifests db s c s' c' g n h.value h.holds; below = h.below }
-kept_pass s c s' c' db g (Advancing phase picked) h = (
+kept_pass s c s' c' db g (ReadingRecord phase) h = h
+kept_pass s c s' c' db g (ReadingManifest least phase) h = h
+kept_pass s c s' c' db g (Fetching heads phase) h = h
+kept_pass s c s' c' db g (Listing heads versions) h = h
+kept_pass s c s' c' db g (Getting n listed found) h = h
+kept_pass s c s' c' db g (Bounding n listed candidates) h = record { value = h.value; holds = kept_holds manifests db s c s' c' g n h.value h.holds; below = h.below }
+kept_pass s c s' c' db g (Advancing phase left counts) h = (
   kept_advance manifests db s c s' c' g phase h.0,
-  each_is db (λ k. (k ≤ target phase) × IsSpare manifests c k) (λ k. (k ≤ target phase) × IsSpare manifests c' k) (λ k w. (w.0, g.spares k w.1)) picked h.1,
+  each_is db (λ k. (k ≤ target phase) × IsSpare manifests c k) (λ k. (k ≤ target phase) × IsSpare manifests c' k) (λ k w. (w.0, g.spares k w.1)) left h.1,
 )
 kept_pass s c s' c' db g (Deleting left counts) h =
     each_is db (λ k. IsReached manifests db s k × IsSpare manifests c k) (λ k. IsReached manifests db s' k × IsSpare manifests c' k) (λ k w. (kept_reached manifests db s c s' c' g k w.0, g.spares k w.1)) left h
 kept_pass s c s' c' db g Over h = h
 
-module _ (db : List ℕ) (named : is_db_path db ≡ true) (author : Author) (options : PassOptions) (s : Store) (c : ManifestChain) (i : IsSound manifests db s c) (tidy : IsTidy s.objects) where
-  -- what a step of a pass leaves and brings
-  pub record AfterPass (phase : PassPhase) (moment : ℤ) (o : Outcome) : Type 0 where
+module _ (db : List ℕ) (named : is_db_path db ≡ true) (author : Author) (options : GarbageCollectorDirectoryOptions) (word : FilterWord) (now : ℤ) (s : Store) (c : ManifestChain) (i : IsSound manifests db s c) (tidy : IsTidy s.objects) where
+  abbrev allows : List ObjectMetadata → List ObjectMetadata
+  allows = (pass_ways word).allows
+
+  -- what a step of a pass, which has this moment, leaves and brings
+  pub record AfterPass (phase : PassPhase) (o : Outcome) : Type 0 where
     pub leaves : Leaves manifests db author s c o.store c
-    pub brings : PassBrings o.store c db (pass_goes decoded_manifest options moment phase o.answer)
+    pub brings : PassBrings o.store c db (pass_goes (pass_ways word) (manifest_pass options) now phase o.answer)
 
-  quiet : (phase : PassPhase) (moment : ℤ) (answer : StoreAnswer) → PassBrings s c db (pass_goes decoded_manifest options moment phase answer) → AfterPass phase moment (record { store = s; answer = answer })
-  quiet phase moment answer b = record { leaves = leaves_not manifests db author s c i; brings = b }
+  quiet : (phase : PassPhase) (answer : StoreAnswer) → PassBrings s c db (pass_goes (pass_ways word) (manifest_pass options) now phase answer) → AfterPass phase (record { store = s; answer = answer })
+  quiet phase answer b = record { leaves = leaves_not manifests db author s c i; brings = b }
 
-  listed_brings : (now : ℤ) (found : List ObjectMetadata) (n : Option ℕ) → EachIs db (λ k. Unit {0}) found → IfSome n (λ k. k < 2 ^ 64) → PassBrings s c db (listed_goes options.min_age now found n)
-  listed_brings now found None each h = tt
-  listed_brings now found (Some n) each h = (h, each_kept (IsManifestThat db (λ k. Unit {0})) (λ m. is_aged options.min_age now m.last_modified) found each)
+  listed_brings : (found : List ObjectMetadata) (n : Option ℕ) → EachIs db (λ k. Unit {0}) found → IfSome n (λ k. k < 2 ^ 64) → PassBrings s c db (manifests_goes options.min_age now found n)
+  listed_brings found None each h = tt
+  listed_brings found (Some n) each h = (h, each_kept (IsManifestThat db (λ k. Unit {0})) (λ m. is_aged options.min_age now m.last_modified) found each)
 
-  decoded_brings : (n : ℕ) (found : List ObjectMetadata) (object : StoredObject) (r : Result Manifest SlateDBError) → (n < 2 ^ 64) × EachIs db (λ k. Unit {0}) found → object_at (version_path ManifestLog db n) s ≡ Some object → decoded_manifest object.bytes ≡ r
-      → PassBrings s c db (decoded_goes n found r)
-  decoded_brings n found object (Ok m) h at is = record {
+  decoded_brings : (n listed_objects : ℕ) (found : List ObjectMetadata) (object : StoredObject) (r : Result Manifest SlateDBError) → (n < 2 ^ 64) × EachIs db (λ k. Unit {0}) found → object_at (version_path ManifestLog db n) s ≡ Some object → decoded_manifest object.bytes ≡ r
+      → PassBrings s c db (decoded_goes n listed_objects found r)
+  decoded_brings n listed_objects found object (Ok m) h at is = record {
     value = m;
     holds = got_holds manifests manifests_log db s c i n object m h.0 at is;
     below = unneeded_below db n m.core.checkpoints found h.1;
   }
-  decoded_brings n found object (Err e) h at is = tt
+  decoded_brings n listed_objects found object (Err e) h at is = tt
 
-  got_brings : (n : ℕ) (found : List ObjectMetadata) (o : Option StoredObject) → (n < 2 ^ 64) × EachIs db (λ k. Unit {0}) found → object_at (version_path ManifestLog db n) s ≡ o → PassBrings s c db (got_goes decoded_manifest n found o)
-  got_brings n found None h at = tt
-  got_brings n found (Some object) h at = decoded_brings n found object (decoded_manifest object.bytes) h at refl
+  got_brings : (n listed_objects : ℕ) (found : List ObjectMetadata) (o : Option StoredObject) → (n < 2 ^ 64) × EachIs db (λ k. Unit {0}) found → object_at (version_path ManifestLog db n) s ≡ o → PassBrings s c db (got_goes decoded_manifest n listed_objects found o)
+  got_brings n listed_objects found None h at = tt
+  got_brings n listed_objects found (Some object) h at = decoded_brings n listed_objects found object (decoded_manifest object.bytes) h at refl
 
   below_greatest : (n k : ℕ) (ms : List ObjectMetadata) → EachIs db (λ j. j < n) ms → greatest ManifestLog ms ≡ Some k → k < n
   below_greatest n k ms h e = subst (λ o. IfSome o (λ j. j < n)) e (greatest_has (λ j. j < n) ManifestLog ms (each_number db (λ j. j < n) ms h))
 
+  -- of no objects none is deleted
+  none_brings : (left : List ObjectMetadata) (counts : PassCounts) → left ≡ [] → PassBrings s c db (deletes_next left counts)
+  none_brings left counts is = subst (λ (ms : List ObjectMetadata). PassBrings s c db (deletes_next ms counts)) (sym is) tt
+
   -- the greatest candidate is below the greatest committed number
-  next_brings : (n : ℕ) (candidates : List ObjectMetadata) (k : Option ℕ) → greatest ManifestLog candidates ≡ k → n ≤ top c → EachIs db (λ j. j < n) candidates → EachIs db (λ j. IsSpare manifests c j) candidates → PassBrings s c db (moves_to (picks options candidates) k)
-  next_brings n candidates None e le below spare = tt
-  next_brings n candidates (Some k) e le below spare =
+  next_brings : (n : ℕ) (candidates : List ObjectMetadata) (counts : PassCounts) (k : Option ℕ) → greatest ManifestLog candidates ≡ k → n ≤ top c → EachIs db (λ j. j < n) candidates → EachIs db (λ j. IsSpare manifests c j) candidates
+      → PassBrings s c db (advance_to k (picks allows options.dry_run candidates) counts)
+  next_brings n candidates counts None e le below spare =
+      none_brings (picks allows options.dry_run candidates) counts (ap (picks allows options.dry_run) (none_there db (λ j. j < n) candidates below e) ∙ none_picked word options.dry_run)
+  next_brings n candidates counts (Some k) e le below spare =
       let lt = below_greatest n k candidates below e in (
         omega arith,
-        picks_have (IsManifestThat db (λ j. (j ≤ k) × IsSpare manifests c j)) options candidates (with_most db (λ j. IsSpare manifests c j) k candidates spare (from_most k None candidates e).1),
+        picks_have (IsManifestThat db (λ j. (j ≤ k) × IsSpare manifests c j)) word options.dry_run candidates (with_most db (λ j. IsSpare manifests c j) k candidates spare (from_most k None candidates e).1),
       )
 
   -- what the version that was read doesn't name is spare, where it is committed
@@ -239,17 +274,17 @@ module _ (db : List ℕ) (named : is_db_path db ≡ true) (author : Author) (opt
   all_spare n m candidates v h = each_is db (λ k. (k < n) × (is_named k m.core.checkpoints ≡ false)) (λ j. IsSpare manifests c j)
       (λ k w. spare_below manifests manifests_log c n k v.link i.chain v.at w.0 (ap (λ (x : Manifest). is_named k x.core.checkpoints) v.value ∙ w.1)) candidates h
 
-  test_brings : (n : ℕ) (candidates : List ObjectMetadata) (b : ℕ) (t : Bool) → nat_le n b ≡ t → bound_in manifests db s ≡ Some b → IsRead s c db n candidates
-      → PassBrings s c db (if t then End Over (Err (ManifestMissing n)) else bounded_next options candidates)
-  test_brings n candidates b true is read h = tt
-  test_brings n candidates b false is read h =
+  test_brings : (n listed_objects : ℕ) (candidates : List ObjectMetadata) (b : ℕ) (t : Bool) → nat_le n b ≡ t → bound_in manifests db s ≡ Some b → IsRead s c db n candidates
+      → PassBrings s c db (if t then End Over (Err (ManifestMissing n)) else chosen_goes allows (manifest_pass options) listed_objects candidates)
+  test_brings n listed_objects candidates b true is read h = tt
+  test_brings n listed_objects candidates b false is read h =
       let value = h.holds.same b read (above_test n b is) in
-      next_brings n candidates (greatest ManifestLog candidates) refl (at_most manifests n value.link c i.chain value.at)
+      next_brings n candidates _ (greatest ManifestLog candidates) refl (at_most manifests n value.link c i.chain value.at)
       (each_is db (λ k. (k < n) × (is_named k h.value.core.checkpoints ≡ false)) (λ k. k < n) (λ k w. w.0) candidates h.below) (all_spare n h.value candidates value h.below)
 
-  bound_brings : (n : ℕ) (candidates : List ObjectMetadata) (b : Option ℕ) → bound_in manifests db s ≡ b → IsRead s c db n candidates → PassBrings s c db (bounded_goes options n candidates b)
-  bound_brings n candidates None read h = tt
-  bound_brings n candidates (Some b) read h = test_brings n candidates b (nat_le n b) refl read h
+  bound_brings : (n listed_objects : ℕ) (candidates : List ObjectMetadata) (b : Option ℕ) → bound_in manifests db s ≡ b → IsRead s c db n candidates → PassBrings s c db (bounded_goes allows (manifest_pass options) n listed_objects candidates b)
+  bound_brings n listed_objects candidates None read h = tt
+  bound_brings n listed_objects candidates (Some b) read h = test_brings n listed_objects candidates b (nat_le n b) refl read h
 
   -- ---- deletes, in the store as it is then
 
@@ -261,10 +296,10 @@ module _ (db : List ℕ) (named : is_db_path db ≡ true) (author : Author) (opt
   all_reached s' n picked r h = each_is db (λ k. (k ≤ n) × IsSpare manifests c k) (λ k. IsReached manifests db s' k × IsSpare manifests c k)
       (λ k w. let le = w.0 in (record { reached = λ b read. let up = r.reached b read in omega arith }, w.1)) picked h
 
-  advanced_brings : (s' : Store) (n : ℕ) (picked : List ObjectMetadata) (g : AdvanceGoes) → AdvanceBrings manifests db s' c n g → EachIs db (λ k. (k ≤ n) × IsSpare manifests c k) picked → PassBrings s' c db (advanced_goes picked g)
-  advanced_brings s' n picked (Stay phase) b h = (b.1, subst (λ j. EachIs db (λ k. (k ≤ j) × IsSpare manifests c k) picked) (sym b.0) h)
-  advanced_brings s' n picked (End phase (Ok u)) b h = deletes_bring s' picked _ (all_reached s' n picked b h)
-  advanced_brings s' n picked (End phase (Err e)) b h = tt
+  advanced_brings : (s' : Store) (n : ℕ) (picked : List ObjectMetadata) (counts : PassCounts) (g : AdvanceGoes) → AdvanceBrings manifests db s' c n g → EachIs db (λ k. (k ≤ n) × IsSpare manifests c k) picked → PassBrings s' c db (advanced_goes picked counts g)
+  advanced_brings s' n picked counts (Stay phase) b h = (b.1, subst (λ j. EachIs db (λ k. (k ≤ j) × IsSpare manifests c k) picked) (sym b.0) h)
+  advanced_brings s' n picked counts (End phase (Ok u)) b h = deletes_bring s' picked counts (all_reached s' n picked b h)
+  advanced_brings s' n picked counts (End phase (Err e)) b h = tt
 
   module _ (m : ObjectMetadata) (n : ℕ) (is : m.location ≡ version_path ManifestLog db n) (left : List ObjectMetadata) (counts : PassCounts) (h : IsReached manifests db s n) (spare : IsSpare manifests c n)
       (rest : EachIs db (λ k. IsReached manifests db s k × IsSpare manifests c k) left) where
@@ -284,32 +319,37 @@ module _ (db : List ℕ) (named : is_db_path db ≡ true) (author : Author) (opt
     rest_reached = each_is db (λ k. IsReached manifests db s k × IsSpare manifests c k) (λ k. IsReached manifests db gone k × IsSpare manifests c k) (λ k w. (kept_reached manifests db s c gone c gone_leaves.grows k w.0, w.1)) left rest
 
     abbrev OfDelete : ObjectPath → Mark → ℤ → Type 0
-    OfDelete p mark moment = AfterPass (Deleting (m ∷ left) counts) moment (effect mark (Delete p) moment s)
+    OfDelete p mark moment = AfterPass (Deleting (m ∷ left) counts) (effect mark (Delete p) moment s)
 
     delete_at : (mark : Mark) (moment : ℤ) → OfDelete (version_path ManifestLog db n) mark moment
     delete_at Good moment = record { leaves = gone_leaves; brings = deletes_bring gone left _ rest_reached }
-    delete_at Fail moment = quiet (Deleting (m ∷ left) counts) moment _ (deletes_bring s left _ rest)
+    delete_at Fail moment = quiet (Deleting (m ∷ left) counts) _ (deletes_bring s left _ rest)
     delete_at Lost moment = record { leaves = gone_leaves; brings = deletes_bring gone left _ rest_reached }
 
-    pub delete_step : (mark : Mark) (moment : ℤ) → AfterPass (Deleting (m ∷ left) counts) moment (effect mark (pass_asks db (Deleting (m ∷ left) counts)) moment s)
+    pub delete_step : (mark : Mark) (moment : ℤ) → AfterPass (Deleting (m ∷ left) counts) (effect mark (pass_asks db of.Manifest (Deleting (m ∷ left) counts)) moment s)
     delete_step mark moment = subst (λ p. OfDelete p mark moment) (sym is) (delete_at mark moment)
 
-  pub pass_step : (phase : PassPhase) (mark : Mark) (moment : ℤ) → PassKnows s c db phase → AfterPass phase moment (effect mark (pass_asks db phase) moment s)
-  pass_step Listing Good moment h = quiet Listing moment _ (listed_brings moment (listed (folder ManifestLog db) s) (greatest ManifestLog (listed (folder ManifestLog db) s)) (found_manifests db s.objects) (listed_small ManifestLog (folder ManifestLog db) s tidy))
-  pass_step Listing Fail moment h = quiet Listing moment _ tt
-  pass_step Listing Lost moment h = quiet Listing moment _ tt
-  pass_step (Getting n found) Good moment h = quiet (Getting n found) moment _ (got_brings n found (object_at (version_path ManifestLog db n) s) h refl)
-  pass_step (Getting n found) Fail moment h = quiet (Getting n found) moment _ tt
-  pass_step (Getting n found) Lost moment h = quiet (Getting n found) moment _ tt
-  pass_step (Bounding n candidates) Good moment h = quiet (Bounding n candidates) moment _ (bound_brings n candidates (bound_in manifests db s) refl h)
-  pass_step (Bounding n candidates) Fail moment h = quiet (Bounding n candidates) moment _ tt
-  pass_step (Bounding n candidates) Lost moment h = quiet (Bounding n candidates) moment _ tt
-  pass_step (Advancing phase picked) mark moment h =
+  pub pass_step : (phase : PassPhase) (mark : Mark) (moment : ℤ) → PassKnows s c db phase → AfterPass phase (effect mark (pass_asks db of.Manifest phase) moment s)
+  pass_step (ReadingRecord phase) mark moment h = absurd h
+  pass_step (ReadingManifest least phase) mark moment h = absurd h
+  pass_step (Fetching heads phase) mark moment h = absurd h
+  pass_step (Listing heads versions) Good moment h =
+      let found = listed (folder ManifestLog db) s in
+      quiet (Listing heads versions) _ (listed_brings found (greatest ManifestLog found) (found_manifests db s.objects) (listed_small ManifestLog (folder ManifestLog db) s tidy))
+  pass_step (Listing heads versions) Fail moment h = quiet (Listing heads versions) _ tt
+  pass_step (Listing heads versions) Lost moment h = quiet (Listing heads versions) _ tt
+  pass_step (Getting n listed found) Good moment h = quiet (Getting n listed found) _ (got_brings n listed found (object_at (version_path ManifestLog db n) s) h refl)
+  pass_step (Getting n listed found) Fail moment h = quiet (Getting n listed found) _ tt
+  pass_step (Getting n listed found) Lost moment h = quiet (Getting n listed found) _ tt
+  pass_step (Bounding n listed candidates) Good moment h = quiet (Bounding n listed candidates) _ (bound_brings n listed candidates (bound_in manifests db s) refl h)
+  pass_step (Bounding n listed candidates) Fail moment h = quiet (Bounding n listed candidates) _ tt
+  pass_step (Bounding n listed candidates) Lost moment h = quiet (Bounding n listed candidates) _ tt
+  pass_step (Advancing phase left counts) mark moment h =
       let o = effect mark (advance_asks db ManifestLog phase) moment s in
       let a = advance_step manifests db named author s c i phase mark moment h.0 in
-      record { leaves = a.leaves; brings = advanced_brings o.store (target phase) picked (advance_goes phase o.answer) a.brings h.1 }
-  pass_step (Deleting [] counts) Good moment h = quiet (Deleting [] counts) moment _ tt
-  pass_step (Deleting [] counts) Fail moment h = quiet (Deleting [] counts) moment _ tt
-  pass_step (Deleting [] counts) Lost moment h = quiet (Deleting [] counts) moment _ tt
+      record { leaves = a.leaves; brings = advanced_brings o.store (target phase) left counts (advance_goes phase o.answer) a.brings h.1 }
+  pass_step (Deleting [] counts) Good moment h = quiet (Deleting [] counts) _ tt
+  pass_step (Deleting [] counts) Fail moment h = quiet (Deleting [] counts) _ tt
+  pass_step (Deleting [] counts) Lost moment h = quiet (Deleting [] counts) _ tt
   pass_step (Deleting (m ∷ left) counts) mark moment h = delete_step m h.0.number h.0.is left counts h.0.has.0 h.0.has.1 h.1 mark moment
   pass_step Over mark moment h = absurd h

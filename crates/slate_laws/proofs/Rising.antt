@@ -1,5 +1,5 @@
 -- Along a chain nothing falls, and each manifest names what the one before names.
-use Rattle.std.proofs.Common.{◌≡◌, ◌≢◌, ℕ, ◌≤◌, List, [], ◌∷◌, None, arith}
+use Rattle.std.proofs.Common.{◌≡◌, ◌≢◌, ℕ, List, [], ◌∷◌, None, arith}
 use Rattle.slate_log.specs.declared.log_kind.LogKind.TheVariants as logs
 use Rattle.slate_log.specs.declared.right.Right.{Right}
 use Rattle.slate_model.specs.declared.manifest.Manifest.{Manifest}
@@ -7,7 +7,7 @@ use Rattle.slate_records.specs.Records.{Record}
 use Rattle.slate_record_updates.specs.RecordRules.{KeepsLeast, record_refusal_of}
 use Rattle.slate_updates.specs.RuleLaws.{NothingFalls}
 use Rattle.slate_updates.proofs.Lawful.{nothing_falls, names_stay}
-use Rattle.slate_protocol.specs.Chains.{Link, Log, Follows, IsChain}
+use Rattle.slate_protocol.specs.Chains.{Link, Log, IsChain}
 use Rattle.slate_protocol.specs.Logs.{Author, Chain, manifests, records}
 use Rattle.slate_protocol.specs.Rising.{AboveAll, NeverFalls, RecordRises, NameKnown}
 use Rattle.slate_laws.proofs.Epochs.{record_epoch_rises}

@@ -18,7 +18,7 @@ use Rattle.slate_events.specs.declared.event.Event.TheVariants.{Open, Start, Ste
 use Rattle.slate_events.specs.declared.party_kind.PartyKind.{PartyKind}
 use Rattle.slate_protocol.specs.Chains.{Changed}
 use Rattle.slate_protocol.specs.Chains.Changed.{Stays}
-use Rattle.slate_protocol.specs.Logs.{Author, Held, log_of, Chain, Chains, Phrase, Reads, Commits, Uploads, Collects, phrase_of, put_by, chains_put, chains_stepped, chains_state, chains_at, chains_after, world_after, chains_of}
+use Rattle.slate_protocol.specs.Logs.{Author, log_of, Chain, Chains, Phrase, Reads, Commits, Uploads, Collects, phrase_of, put_by, chains_put, chains_stepped, chains_state, chains_at, chains_after, world_after, chains_of}
 use Rattle.slate_protocol.specs.Rows.{Standing, begin, follow}
 use Rattle.slate_protocol.specs.Works.{db_of, asks, goes, is_due}
 use Rattle.slate_protocol.specs.World.{World, Transition, party_of, with_party, tally_of, tallied, wrote, noted, newcomer, settled, stepped, step_state, start_state, halted, stop_state, carrying, may_start, open_at, start_at, step_at, stop_at, happens, HasDb}
@@ -40,7 +40,7 @@ use Rattle.slate_laws.proofs.Paths.{IsOwn, IsElsewhere, AreApart, own_elsewhere,
 use Rattle.slate_laws.proofs.Moves.{gone_grows, gone_sound}
 use Rattle.slate_laws.proofs.Passes.{kept_pass}
 use Rattle.slate_laws.proofs.Puts.{grows_not, elsewhere_grows, elsewhere_sound}
-use Rattle.slate_laws.proofs.Steps.{log_in, db_in, phrase_asks, work_asks, work_db, author_of, author_in, PhraseKnows, PhraseBrings, AfterPhrase, none_put, put_of, other_put, phrase_step}
+use Rattle.slate_laws.proofs.Steps.{log_in, db_in, phrase_asks, work_asks, work_db, author_of, author_in, PhraseKnows, PhraseBrings, none_put, other_put, phrase_step}
 use Rattle.slate_laws.proofs.Calls.{WorkKnows, NextKnows, Reaches, follow_reaches, begin_reaches}
 use Rattle.slate_laws.proofs.Tallies.{StoreAfter, store_after, tidy_after, same_kind, its_kind, Told, TalliesAfter, tallies_after}
 use Rattle.slate_laws.proofs.Tallies.StoreAfter.{Same, Wrote, Gone, WroteElse}
@@ -74,7 +74,7 @@ phrase_kept : (s : Store) (chains : Chains) (s' : Store) (chains' : Chains) (n :
 phrase_kept s chains s' chains' n facts call (Reads k db phase) g h = kept_read (log_of k) db s (chains k db) s' (chains' k db) g phase h
 phrase_kept s chains s' chains' n facts call (Commits k db purpose now phase) g h = kept_commit (log_of k) db s (chains k db) s' (chains' k db) g (author_of n facts call purpose now) phase h
 phrase_kept s chains s' chains' n facts call (Uploads db table bytes) g h = h
-phrase_kept s chains s' chains' n facts call (Collects db phase) g h = kept_pass s (chains logs.Manifest db) s' (chains' logs.Manifest db) db g phase h
+phrase_kept s chains s' chains' n facts call (Collects db pass phase) g h = (h.0, kept_pass s (chains logs.Manifest db) s' (chains' logs.Manifest db) db g phase h.1)
 
 module _ (Has Has' : List ℕ → Type 0) (s : Store) (chains : Chains) (s' : Store) (chains' : Chains) (still : (d : List ℕ) → Has d → Has' d) (grows : (k : LogKind) (d : List ℕ) → Has d → LogGrows s chains s' chains' k d) where
   work_kept : (n : ℕ) (facts : Facts) (call : Call) (work : Work) → WorkKnows Has s chains n facts call work → WorkKnows Has' s' chains' n facts call work
@@ -163,7 +163,7 @@ same_place j d k db =
 other_chain : (b : Bool) (n : ℕ) (facts : Facts) (call : Call) (phrase : Phrase) (chains : Chains) (j : LogKind) (d : List ℕ) → AreApart j d (log_in phrase) (db_in phrase) → chains_put b (put_by n facts call phrase) chains j d ≡ chains j d
 other_chain b n facts call (Reads k db phase) chains j d apart = none_put b chains j d
 other_chain b n facts call (Uploads db table bytes) chains j d apart = none_put b chains j d
-other_chain b n facts call (Collects db phase) chains j d apart = none_put b chains j d
+other_chain b n facts call (Collects db pass phase) chains j d apart = none_put b chains j d
 other_chain b n facts call (Commits k db purpose now (committing.Putting m bytes v)) chains j d apart =
     other_put b k db (record { number = m; bytes = bytes; value = (log_of k).normal v; by = Some (author_of n facts call purpose now) }) chains j d apart
 other_chain b n facts call (Commits k db purpose now (committing.Bounding m v)) chains j d apart = none_put b chains j d

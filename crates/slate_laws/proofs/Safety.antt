@@ -20,10 +20,11 @@ use Rattle.slate_log.specs.declared.log_kind.LogKind.{LogKind}
 use Rattle.slate_log.specs.declared.log_kind.LogKind.TheVariants as logs
 use Rattle.slate_log.specs.declared.read_phase.ReadPhase.{ReadPhase}
 use Rattle.slate_log.specs.declared.read_phase.ReadPhase.TheVariants as reading
-use Rattle.slate_gc.specs.Pass.{pass_asks}
-use Rattle.slate_gc.specs.declared.gc_pass.GcPass.TheVariants as gc
-use Rattle.slate_gc.specs.declared.pass_phase.PassPhase.{PassPhase}
-use Rattle.slate_gc.specs.declared.pass_phase.PassPhase.TheVariants as passing
+use Rattle.slate_ids.specs.declared.gc_message.GcMessage.{GcMessage}
+use Rattle.slate_passes.specs.Pass.{pass_asks}
+use Rattle.slate_passes.specs.declared.gc_phase.GcPhase.TheVariants as gc
+use Rattle.slate_passes.specs.declared.pass_phase.PassPhase.{PassPhase}
+use Rattle.slate_passes.specs.declared.pass_phase.PassPhase.TheVariants as passing
 use Rattle.slate_protocol.specs.ByRows.{AllTold, all_told_after, entry_store}
 use Rattle.slate_protocol.specs.Chains.{bound_in}
 use Rattle.slate_protocol.specs.Holding.{IsManifestThat}
@@ -157,17 +158,20 @@ module _ (w : World) (chains : Chains) (v : World) (chains' : Chains) (a : Event
   delete_gone db m true has h = (stays_gone m.location (record { log = logs.Manifest; db = db; number = h.number; is = h.is; has = has; spare = h.has.1; bounded = h.has.0.reached }), tt)
   delete_gone db m false has h = tt
 
-  collect_gone : (db : List ℕ) (phase : PassPhase) (s : Store) → HasDb w db → PassKnows w.store (chains logs.Manifest db) db phase → AllCollected v chains' (removed_by_call (pass_asks db phase) w.store s)
-  collect_gone db passing.Listing s has k = tt
-  collect_gone db (passing.Getting n found) s has k = tt
-  collect_gone db (passing.Bounding n candidates) s has k = tt
-  collect_gone db (passing.Advancing (advancing.Bounding n) picked) s has k = tt
-  collect_gone db (passing.Advancing (advancing.Creating n) picked) s has k = tt
-  collect_gone db (passing.Advancing (advancing.Replacing n tag) picked) s has k = tt
-  collect_gone db (passing.Advancing advancing.Over picked) s has k = tt
-  collect_gone db (passing.Deleting [] counts) s has k = tt
-  collect_gone db (passing.Deleting (m ∷ ms) counts) s has k = delete_gone db m (took_away m.location w.store s) has k.0
-  collect_gone db passing.Over s has k = absurd k
+  collect_gone : (db : List ℕ) (pass : GcMessage) (phase : PassPhase) (s : Store) → HasDb w db → PassKnows w.store (chains logs.Manifest db) db phase → AllCollected v chains' (removed_by_call (pass_asks db pass phase) w.store s)
+  collect_gone db pass (passing.ReadingRecord phase) s has k = absurd k
+  collect_gone db pass (passing.ReadingManifest least phase) s has k = absurd k
+  collect_gone db pass (passing.Fetching heads phase) s has k = absurd k
+  collect_gone db pass (passing.Listing heads versions) s has k = tt
+  collect_gone db pass (passing.Getting n listed found) s has k = tt
+  collect_gone db pass (passing.Bounding n listed candidates) s has k = tt
+  collect_gone db pass (passing.Advancing (advancing.Bounding n) left counts) s has k = tt
+  collect_gone db pass (passing.Advancing (advancing.Creating n) left counts) s has k = tt
+  collect_gone db pass (passing.Advancing (advancing.Replacing n tag) left counts) s has k = tt
+  collect_gone db pass (passing.Advancing advancing.Over left counts) s has k = tt
+  collect_gone db pass (passing.Deleting [] counts) s has k = tt
+  collect_gone db pass (passing.Deleting (m ∷ ms) counts) s has k = delete_gone db m (took_away m.location w.store s) has k.0
+  collect_gone db pass passing.Over s has k = absurd k
 
   read_gone : {T : Type 0} (db : List ℕ) (k : LogKind) (phase : ReadPhase T) (s : Store) → AllCollected v chains' (removed_by_call (read_asks db k phase) w.store s)
   read_gone db k reading.Listing s = tt
@@ -186,9 +190,9 @@ module _ (w : World) (chains : Chains) (v : World) (chains' : Chains) (a : Event
   work_gone n facts call (ReadRecord purpose db phase) s has k = read_gone db logs.Compactions phase s
   work_gone n facts call (CommitRecord purpose now db phase) s has k = commit_gone db logs.Compactions phase s
   work_gone n facts call (PutTable db upload bytes) s has k = tt
-  work_gone n facts call (Pass db options (gc.Reading phase)) s has k = read_gone db logs.Manifest phase s
-  work_gone n facts call (Pass db options (gc.Committing now phase)) s has k = commit_gone db logs.Manifest phase s
-  work_gone n facts call (Pass db options (gc.Collecting phase)) s has k = collect_gone db phase s has k
+  work_gone n facts call (Pass db settings filter (gc.Reading phase)) s has k = read_gone db logs.Manifest phase s
+  work_gone n facts call (Pass db settings filter (gc.Committing now phase)) s has k = commit_gone db logs.Manifest phase s
+  work_gone n facts call (Pass db settings filter (gc.Collecting at phase)) s has k = collect_gone db settings.pass phase s has k.1
 
   -- what a step removed
   pub step_gone : (n : ℕ) (facts : Facts) (state : State) (moment : ℤ) (mark : Mark) → StateKnows (HasDb w) w.store chains n facts state → AllCollected v chains' (removed_by (step_state w n facts state moment mark).entry w.store)

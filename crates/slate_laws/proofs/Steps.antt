@@ -1,10 +1,11 @@
 -- One step of the phrase under way: what it leaves of its log, and what its answer brings.
-use Rattle.std.proofs.Common.{◌≡◌, ◌≢◌, ℕ, ℤ, pos, Bool, true, false, List, Option, Some, None, ◌⊎◌, inl, inr, refl, sym, ap, ◌∙◌, subst}
+use Rattle.std.proofs.Common.{◌≡◌, ◌≢◌, ℕ, ℤ, pos, Bool, true, false, List, Some, None, refl, sym, ap, ◌∙◌, subst}
 use Rattle.std.specs.Prelude.{if◌then◌else◌, bytes_eq}
 use Rattle.slate_ids.specs.Ids.{is_db_path}
+use Rattle.slate_ids.specs.declared.gc_message.GcMessage.{GcMessage}
+use Rattle.slate_ids.specs.declared.gc_message.GcMessage.TheVariants as of
 use Rattle.slate_ids.specs.Ulids.{is_id}
 use Rattle.slate_ids.specs.declared.object_path.ObjectPath.TheVariants as paths
-use Rattle.slate_manifest_parts.specs.Decoding.{decoded_manifest}
 use Rattle.slate_store.specs.Store.{Store, effect, taken}
 use Rattle.slate_store.specs.declared.mark.Mark.{Mark}
 use Rattle.slate_store.specs.declared.store_answer.StoreAnswer.{StoreAnswer}
@@ -16,14 +17,17 @@ use Rattle.slate_log.specs.declared.commit_phase.CommitPhase.{CommitPhase}
 use Rattle.slate_log.specs.declared.commit_phase.CommitPhase.TheVariants.{Putting, Bounding, Over}
 use Rattle.slate_log.specs.declared.log_kind.LogKind.{LogKind}
 use Rattle.slate_log.specs.declared.log_kind.LogKind.TheVariants as logs
-use Rattle.slate_gc.specs.Pass.{pass_asks, pass_goes}
-use Rattle.slate_gc.specs.declared.filter_word.FilterWord.TheVariants.{Nothing}
-use Rattle.slate_gc.specs.declared.gc_pass.GcPass.TheVariants as passing
-use Rattle.slate_gc.specs.declared.pass_options.PassOptions.{PassOptions}
+use Rattle.slate_passes.specs.Defaults.{default_options}
+use Rattle.slate_passes.specs.Pass.{pass_asks, pass_goes}
+use Rattle.slate_passes.specs.declared.directory_options.GarbageCollectorDirectoryOptions.{GarbageCollectorDirectoryOptions}
+use Rattle.slate_passes.specs.declared.gc_phase.GcPhase.TheVariants as passing
+use Rattle.slate_passes.specs.declared.pass_phase.PassPhase.{PassPhase}
+use Rattle.slate_events.specs.declared.filter_word.FilterWord.{FilterWord}
+use Rattle.slate_events.specs.declared.filter_word.FilterWord.TheVariants.{Nothing}
 use Rattle.slate_events.specs.declared.call.Call.{Call}
 use Rattle.slate_protocol.specs.Chains.{Link, with_link}
 use Rattle.slate_protocol.specs.Logs.{Author, Held, log_of, Chain, Chains, Phrase, Reads, Commits, Uploads, Collects, phrase_of, Put, put_by, chain_with, chains_put}
-use Rattle.slate_protocol.specs.Works.{db_of, asks}
+use Rattle.slate_protocol.specs.Works.{db_of, asks, pass_ways}
 use Rattle.slate_protocol.specs.World.{wrote}
 use Rattle.slate_protocol.specs.declared.party.Facts.{Facts}
 use Rattle.slate_protocol.specs.declared.work.Purpose.{Purpose}
@@ -36,7 +40,7 @@ use Rattle.slate_laws.proofs.Manifests.{log_laws}
 use Rattle.slate_laws.proofs.Paths.{AreApart, nobodys_elsewhere, table_nobodys}
 use Rattle.slate_laws.proofs.Puts.{Leaves, leaves_not, elsewhere_leaves}
 use Rattle.slate_laws.proofs.Turns.{chain_if, read_step, bound_step, put_step}
-use Rattle.slate_laws.proofs.Passes.{PassKnows, PassBrings, pass_step}
+use Rattle.slate_laws.proofs.Passes.{PassKnows, PassBrings, manifest_pass, pass_step}
 
 -- ---- phrases
 
@@ -45,20 +49,20 @@ abbrev pub log_in : Phrase → LogKind
 log_in (Reads k db phase) = k
 log_in (Commits k db purpose now phase) = k
 log_in (Uploads db table bytes) = logs.Manifest
-log_in (Collects db phase) = logs.Manifest
+log_in (Collects db pass phase) = logs.Manifest
 
 abbrev pub db_in : Phrase → List ℕ
 db_in (Reads k db phase) = db
 db_in (Commits k db purpose now phase) = db
 db_in (Uploads db table bytes) = db
-db_in (Collects db phase) = db
+db_in (Collects db pass phase) = db
 
 -- its store call
 abbrev pub phrase_asks : Phrase → StoreCall
 phrase_asks (Reads k db phase) = read_asks db (log_of k).kind phase
 phrase_asks (Commits k db purpose now phase) = commit_asks db (log_of k).kind phase
 phrase_asks (Uploads db table bytes) = store_call.Put (paths.Table db table) bytes
-phrase_asks (Collects db phase) = pass_asks db phase
+phrase_asks (Collects db pass phase) = pass_asks db pass phase
 
 -- they are those of the work
 pub work_asks : (work : Work) → asks work ≡ phrase_asks (phrase_of work)
@@ -67,9 +71,9 @@ work_asks (works.CommitManifest purpose now db phase) = refl
 work_asks (works.ReadRecord purpose db phase) = refl
 work_asks (works.CommitRecord purpose now db phase) = refl
 work_asks (works.PutTable db upload bytes) = refl
-work_asks (works.Pass db options (passing.Reading phase)) = refl
-work_asks (works.Pass db options (passing.Committing now phase)) = refl
-work_asks (works.Pass db options (passing.Collecting phase)) = refl
+work_asks (works.Pass db settings filter (passing.Reading phase)) = refl
+work_asks (works.Pass db settings filter (passing.Committing now phase)) = refl
+work_asks (works.Pass db settings filter (passing.Collecting at phase)) = refl
 
 pub work_db : (work : Work) → db_in (phrase_of work) ≡ db_of work
 work_db (works.ReadManifest purpose db phase) = refl
@@ -77,9 +81,9 @@ work_db (works.CommitManifest purpose now db phase) = refl
 work_db (works.ReadRecord purpose db phase) = refl
 work_db (works.CommitRecord purpose now db phase) = refl
 work_db (works.PutTable db upload bytes) = refl
-work_db (works.Pass db options (passing.Reading phase)) = refl
-work_db (works.Pass db options (passing.Committing now phase)) = refl
-work_db (works.Pass db options (passing.Collecting phase)) = refl
+work_db (works.Pass db settings filter (passing.Reading phase)) = refl
+work_db (works.Pass db settings filter (passing.Committing now phase)) = refl
+work_db (works.Pass db settings filter (passing.Collecting at phase)) = refl
 
 -- the author of what a party commits in a call for a purpose
 abbrev pub author_of : ℕ → Facts → Call → Purpose → ℤ → Author
@@ -90,27 +94,28 @@ abbrev pub author_in : ℕ → Facts → Call → Phrase → Author
 author_in n facts call (Reads k db phase) = author_of n facts call Once (pos 0)
 author_in n facts call (Commits k db purpose now phase) = author_of n facts call purpose now
 author_in n facts call (Uploads db table bytes) = author_of n facts call Once (pos 0)
-author_in n facts call (Collects db phase) = author_of n facts call Once (pos 0)
+author_in n facts call (Collects db pass phase) = author_of n facts call Once (pos 0)
 
 pub author_party : (n : ℕ) (facts : Facts) (call : Call) (phrase : Phrase) → (author_in n facts call phrase).party ≡ n
 author_party n facts call (Reads k db phase) = refl
 author_party n facts call (Commits k db purpose now phase) = refl
 author_party n facts call (Uploads db table bytes) = refl
-author_party n facts call (Collects db phase) = refl
+author_party n facts call (Collects db pass phase) = refl
 
 -- what a party knows while it is in a phrase
 abbrev pub PhraseKnows : Store → Chains → ℕ → Facts → Call → Phrase → Type 0
 PhraseKnows s chains n facts call (Reads k db phase) = ReadKnows (log_of k) db s (chains k db) phase
 PhraseKnows s chains n facts call (Commits k db purpose now phase) = CommitKnows (log_of k) db s (chains k db) (author_of n facts call purpose now) phase
 PhraseKnows s chains n facts call (Uploads db table bytes) = is_id table ≡ true
-PhraseKnows s chains n facts call (Collects db phase) = PassKnows s (chains logs.Manifest db) db phase
+PhraseKnows s chains n facts call (Collects db pass phase) = (pass ≡ of.Manifest) × PassKnows s (chains logs.Manifest db) db phase
 
 -- what a phrase's answer at a moment brings
 abbrev pub PhraseBrings : Store → Chains → ℕ → Facts → Call → Phrase → ℤ → StoreAnswer → Type 0
 PhraseBrings s chains n facts call (Reads k db phase) moment answer = ReadBrings (log_of k) db s (chains k db) (read_goes (log_of k).kind (log_of k).decoded phase answer)
 PhraseBrings s chains n facts call (Commits k db purpose now phase) moment answer = CommitBrings (log_of k) db s (chains k db) (author_of n facts call purpose now) (commit_goes phase answer)
 PhraseBrings s chains n facts call (Uploads db table bytes) moment answer = Unit {0}
-PhraseBrings s chains n facts call (Collects db phase) moment answer = (options : PassOptions) → PassBrings s (chains logs.Manifest db) db (pass_goes decoded_manifest options moment phase answer)
+PhraseBrings s chains n facts call (Collects db pass phase) moment answer =
+    (options : GarbageCollectorDirectoryOptions) (word : FilterWord) (now : ℤ) → PassBrings s (chains logs.Manifest db) db (pass_goes (pass_ways word) (manifest_pass options) now phase answer)
 
 -- ---- the chain of this log after a put, and those of the others
 
@@ -155,10 +160,6 @@ chains_next s chains n facts call phrase mark moment = chains_put (wrote s (Afte
 pub record AfterPhrase (s : Store) (chains : Chains) (n : ℕ) (facts : Facts) (call : Call) (phrase : Phrase) (mark : Mark) (moment : ℤ) : Type 0 where
   pub leaves : Leaves (log_of (log_in phrase)) (db_in phrase) (author_in n facts call phrase) s (chains (log_in phrase) (db_in phrase)) (AfterCall s phrase mark moment) (chains_next s chains n facts call phrase mark moment (log_in phrase) (db_in phrase))
   pub brings : PhraseBrings (AfterCall s phrase mark moment) (chains_next s chains n facts call phrase mark moment) n facts call phrase moment (effect mark (phrase_asks phrase) moment s).answer
-
--- what a pass leaves of its log doesn't hang on its options
-any_options : PassOptions
-any_options = record { min_age = 0; dry_run = true; filter = Nothing }
 
 module _ (s : Store) (chains : Chains) (n : ℕ) (facts : Facts) (call : Call) (tidy : IsTidy s.objects) (mark : Mark) (moment : ℤ) where
   module _ (k : LogKind) (db : List ℕ) (i : IsSound (log_of k) db s (chains k db)) where
@@ -216,21 +217,27 @@ module _ (s : Store) (chains : Chains) (n : ℕ) (facts : Facts) (call : Call) (
         brings = tt;
       }
 
-  -- a step of what a pass collects
-  collects : (db : List ℕ) (named : is_db_path db ≡ true) (i : IsSound (log_of logs.Manifest) db s (chains logs.Manifest db)) (phase : _) → PassKnows s (chains logs.Manifest db) db phase → AfterPhrase s chains n facts call (Collects db phase) mark moment
-  collects db named i phase h =
+  -- a step of what a pass over the manifests collects; what it leaves of its log doesn't hang on its options, its filter and its moment
+  manifests_collect : (db : List ℕ) (named : is_db_path db ≡ true) (i : IsSound (log_of logs.Manifest) db s (chains logs.Manifest db)) (phase : PassPhase) → PassKnows s (chains logs.Manifest db) db phase
+      → AfterPhrase s chains n facts call (Collects db of.Manifest phase) mark moment
+  manifests_collect db named i phase h =
       let author = author_of n facts call Once (pos 0) in
-      let o = effect mark (pass_asks db phase) moment s in
+      let o = effect mark (pass_asks db of.Manifest phase) moment s in
       let c = chains logs.Manifest db in
       let chain = none_put (wrote s o.store) chains logs.Manifest db in
-      let step = λ (options : PassOptions). pass_step db named author options s c i tidy phase mark moment h in
+      let step = λ (options : GarbageCollectorDirectoryOptions) (word : FilterWord) (now : ℤ). pass_step db named author options word now s c i tidy phase mark moment h in
       record {
-        leaves = subst (λ (d : Chain logs.Manifest). Leaves (log_of logs.Manifest) db author s c o.store d) (sym chain) (step any_options).leaves;
-        brings = λ options. subst (λ (d : Chain logs.Manifest). PassBrings o.store d db (pass_goes decoded_manifest options moment phase o.answer)) (sym chain) (step options).brings;
+        leaves = subst (λ (d : Chain logs.Manifest). Leaves (log_of logs.Manifest) db author s c o.store d) (sym chain) (step default_options Nothing moment).leaves;
+        brings = λ options word now. subst (λ (d : Chain logs.Manifest). PassBrings o.store d db (pass_goes (pass_ways word) (manifest_pass options) now phase o.answer)) (sym chain) (step options word now).brings;
       }
+
+  -- a step of what a pass collects
+  collects : (db : List ℕ) (pass : GcMessage) (named : is_db_path db ≡ true) (i : IsSound (log_of logs.Manifest) db s (chains logs.Manifest db)) (phase : PassPhase) → (pass ≡ of.Manifest) × PassKnows s (chains logs.Manifest db) db phase
+      → AfterPhrase s chains n facts call (Collects db pass phase) mark moment
+  collects db pass named i phase h = subst (λ (p : GcMessage). AfterPhrase s chains n facts call (Collects db p phase) mark moment) (sym h.0) (manifests_collect db named i phase h.1)
 
   pub phrase_step : (phrase : Phrase) → is_db_path (db_in phrase) ≡ true → IsSound (log_of (log_in phrase)) (db_in phrase) s (chains (log_in phrase) (db_in phrase)) → PhraseKnows s chains n facts call phrase → AfterPhrase s chains n facts call phrase mark moment
   phrase_step (Reads k db phase) named i h = reads k db i phase h
   phrase_step (Commits k db purpose now phase) named i h = commits k db i named purpose now phase h
   phrase_step (Uploads db table bytes) named i h = uploads db table bytes named i h
-  phrase_step (Collects db phase) named i h = collects db named i phase h
+  phrase_step (Collects db pass phase) named i h = collects db pass named i phase h

@@ -7,7 +7,6 @@ use Rattle.slate_ids.specs.declared.object_path.ObjectPath.TheVariants as paths
 use Rattle.slate_store.specs.Store.{Store, object_at, stored, removed, has_tag, put_new, replace, whole, under, taken, effect}
 use Rattle.slate_store.specs.declared.mark.Mark.{Mark}
 use Rattle.slate_store.specs.declared.mark.Mark.TheVariants.{Good, Fail, Lost}
-use Rattle.slate_store.specs.declared.object.ObjectMetadata.{ObjectMetadata}
 use Rattle.slate_store.specs.declared.object.StoredObject.{StoredObject}
 use Rattle.slate_store.specs.declared.store_answer.StoreAnswer.{StoreAnswer}
 use Rattle.slate_store.specs.declared.store_answer.StoreAnswer.TheVariants.{Deleted}
@@ -22,9 +21,12 @@ use Rattle.slate_log.specs.declared.log_kind.LogKind.{LogKind}
 use Rattle.slate_log.specs.declared.log_kind.LogKind.TheVariants as logs
 use Rattle.slate_log.specs.declared.read_phase.ReadPhase.{ReadPhase}
 use Rattle.slate_log.specs.declared.read_phase.ReadPhase.TheVariants as reading
-use Rattle.slate_gc.specs.Pass.{pass_asks}
-use Rattle.slate_gc.specs.declared.pass_phase.PassPhase.{PassPhase}
-use Rattle.slate_gc.specs.declared.pass_phase.PassPhase.TheVariants as passing
+use Rattle.slate_ids.specs.declared.gc_message.GcMessage.{GcMessage}
+use Rattle.slate_ids.specs.declared.gc_message.GcMessage.TheVariants as of
+use Rattle.slate_passes.specs.Pass.{pass_asks}
+use Rattle.slate_passes.specs.Rows.{log_of_pass, log_or_manifests}
+use Rattle.slate_passes.specs.declared.pass_phase.PassPhase.{PassPhase}
+use Rattle.slate_passes.specs.declared.pass_phase.PassPhase.TheVariants as passing
 use Rattle.slate_events.specs.declared.call.Call.{Call}
 use Rattle.slate_protocol.specs.Chains.{Link, link_at, top, if_new}
 use Rattle.slate_protocol.specs.Logs.{Author, Held, log_of, Chain, Chains, Phrase, Reads, Commits, Uploads, Collects, put_by, chains_put}
@@ -35,7 +37,7 @@ use Rattle.slate_laws.proofs.Stores.{IsTidy, tidy_put, tidy_left, put_object, sa
 use Rattle.slate_laws.proofs.Links.{at_most, next_number}
 use Rattle.slate_laws.proofs.Maps.{name_order, set_here, set_else}
 use Rattle.slate_laws.proofs.Facts.{IsSound, IsNext}
-use Rattle.slate_laws.proofs.Paths.{IsOwn, IsNobodys, AreApart, own_fine, table_nobodys}
+use Rattle.slate_laws.proofs.Paths.{IsOwn, IsNobodys, own_fine, table_nobodys}
 use Rattle.slate_laws.proofs.Paths.IsOwn.{OwnVersion, OwnBoundary}
 use Rattle.slate_laws.proofs.Passes.{PassKnows}
 use Rattle.slate_laws.proofs.Steps.{log_in, db_in, phrase_asks, author_of, PhraseKnows, put_of, own_put, other_put, none_put}
@@ -85,11 +87,14 @@ delete_after k db s p own Good = Gone p own refl
 delete_after k db s p own Fail = Same refl
 delete_after k db s p own Lost = Gone p own refl
 
-pass_after : (s : Store) (c : Chain logs.Manifest) (db : List ℕ) (mark : Mark) (moment : ℤ) → top c < 2 ^ 64 → (phase : PassPhase) → PassKnows s c db phase → StoreAfter logs.Manifest db s (effect mark (pass_asks db phase) moment s).store
-pass_after s c db mark moment small passing.Listing h = got_after logs.Manifest db s mark _
-pass_after s c db mark moment small (passing.Getting n found) h = got_after logs.Manifest db s mark _
-pass_after s c db mark moment small (passing.Bounding n candidates) h = got_after logs.Manifest db s mark _
-pass_after s c db mark moment small (passing.Advancing phase picked) h = advance_after logs.Manifest db s mark moment phase
+pass_after : (s : Store) (c : Chain logs.Manifest) (db : List ℕ) (mark : Mark) (moment : ℤ) → top c < 2 ^ 64 → (phase : PassPhase) → PassKnows s c db phase → StoreAfter logs.Manifest db s (effect mark (pass_asks db of.Manifest phase) moment s).store
+pass_after s c db mark moment small (passing.ReadingRecord phase) h = absurd h
+pass_after s c db mark moment small (passing.ReadingManifest least phase) h = absurd h
+pass_after s c db mark moment small (passing.Fetching heads phase) h = absurd h
+pass_after s c db mark moment small (passing.Listing heads versions) h = got_after logs.Manifest db s mark _
+pass_after s c db mark moment small (passing.Getting n listed found) h = got_after logs.Manifest db s mark _
+pass_after s c db mark moment small (passing.Bounding n listed candidates) h = got_after logs.Manifest db s mark _
+pass_after s c db mark moment small (passing.Advancing phase left counts) h = advance_after logs.Manifest db s mark moment phase
 pass_after s c db mark moment small (passing.Deleting [] counts) h = got_after logs.Manifest db s mark _
 pass_after s c db mark moment small (passing.Deleting (m ∷ left) counts) h =
     let lt = h.0.has.1.below in
@@ -128,7 +133,8 @@ store_after s chains n facts call mark moment (Reads k db phase) named i h = rea
 store_after s chains n facts call mark moment (Commits k db purpose now phase) named i h = commit_after k db s chains n facts call mark moment purpose now phase h
 store_after s chains n facts call mark moment (Uploads db table bytes) named i h =
     else_after logs.Manifest db (paths.Table db table) bytes moment s (table_nobodys db table named h) (taken mark (Put (paths.Table db table) bytes) s)
-store_after s chains n facts call mark moment (Collects db phase) named i h = pass_after s (chains logs.Manifest db) db mark moment i.small phase h
+store_after s chains n facts call mark moment (Collects db pass phase) named i h =
+    subst (λ (p : GcMessage). StoreAfter logs.Manifest db s (effect mark (pass_asks db p phase) moment s).store) (sym h.0) (pass_after s (chains logs.Manifest db) db mark moment i.small phase h.1)
 
 pub tidy_after : (k : LogKind) (db : List ℕ) (s s' : Store) → is_db_path db ≡ true → StoreAfter k db s s' → IsTidy s.objects → IsTidy s'.objects
 tidy_after k db s s' named (Same e) h = subst (λ (t : Store). IsTidy t.objects) (sym e) h
@@ -248,14 +254,17 @@ module _ (s : Store) (chains : Chains) (tallies : Tallies) (told : (k : LogKind)
   advance_tallies k db (advancing.Replacing n tag) b = refl
   advance_tallies k db advancing.Over b = refl
 
-  pass_tallies : (db : List ℕ) (phase : PassPhase) (b : Bool) → tallied (pass_asks db phase) b tallies ≡ tallies
-  pass_tallies db passing.Listing b = refl
-  pass_tallies db (passing.Getting n found) b = refl
-  pass_tallies db (passing.Bounding n candidates) b = refl
-  pass_tallies db (passing.Advancing phase picked) b = advance_tallies logs.Manifest db phase b
-  pass_tallies db (passing.Deleting [] counts) b = refl
-  pass_tallies db (passing.Deleting (m ∷ left) counts) b = refl
-  pass_tallies db passing.Over b = refl
+  pass_tallies : (db : List ℕ) (pass : GcMessage) (phase : PassPhase) (b : Bool) → PassKnows s (chains logs.Manifest db) db phase → tallied (pass_asks db pass phase) b tallies ≡ tallies
+  pass_tallies db pass (passing.ReadingRecord phase) b h = absurd h
+  pass_tallies db pass (passing.ReadingManifest least phase) b h = absurd h
+  pass_tallies db pass (passing.Fetching heads phase) b h = absurd h
+  pass_tallies db pass (passing.Listing heads versions) b h = refl
+  pass_tallies db pass (passing.Getting n listed found) b h = refl
+  pass_tallies db pass (passing.Bounding n listed candidates) b h = refl
+  pass_tallies db pass (passing.Advancing phase left counts) b h = advance_tallies (log_or_manifests (log_of_pass pass)) db phase b
+  pass_tallies db pass (passing.Deleting [] counts) b h = refl
+  pass_tallies db pass (passing.Deleting (m ∷ left) counts) b h = refl
+  pass_tallies db pass passing.Over b h = absurd h
 
   pub tallies_after : (n : ℕ) (facts : Facts) (call : Call) (phrase : Phrase) (b : Bool) → IsSound (log_of (log_in phrase)) (db_in phrase) s (chains (log_in phrase) (db_in phrase)) → PhraseKnows s chains n facts call phrase
       → TalliesAfter tallies (tallied (phrase_asks phrase) b tallies) (chains_put b (put_by n facts call phrase) chains)
@@ -267,5 +276,5 @@ module _ (s : Store) (chains : Chains) (tallies : Tallies) (told : (k : LogKind)
   tallies_after n facts call (Commits k db purpose now (committing.Bounding m v)) b i h = tallies_same tallies chains _ told (none_put b chains)
   tallies_after n facts call (Commits k db purpose now committing.Over) b i h = absurd h
   tallies_after n facts call (Uploads db table bytes) b i h = tallies_same tallies chains _ told (none_put b chains)
-  tallies_after n facts call (Collects db phase) b i h =
-      subst (λ (ts : Tallies). TalliesAfter tallies ts (chains_put b None chains)) (sym (pass_tallies db phase b)) (tallies_same tallies chains (chains_put b None chains) told (none_put b chains))
+  tallies_after n facts call (Collects db pass phase) b i h =
+      subst (λ (ts : Tallies). TalliesAfter tallies ts (chains_put b None chains)) (sym (pass_tallies db pass phase b h.1)) (tallies_same tallies chains (chains_put b None chains) told (none_put b chains))

@@ -20,10 +20,15 @@ use Rattle.slate_log.specs.declared.log_kind.LogKind.{LogKind}
 use Rattle.slate_log.specs.declared.log_kind.LogKind.TheVariants as logs
 use Rattle.slate_log.specs.declared.read_phase.ReadPhase.{ReadPhase}
 use Rattle.slate_log.specs.declared.read_phase.ReadPhase.TheVariants as reading
-use Rattle.slate_gc.specs.Pass.{pass_asks}
-use Rattle.slate_gc.specs.declared.gc_pass.GcPass.TheVariants as removing
-use Rattle.slate_gc.specs.declared.pass_phase.PassPhase.{PassPhase}
-use Rattle.slate_gc.specs.declared.pass_phase.PassPhase.TheVariants as passing
+use Rattle.slate_ids.specs.declared.gc_message.GcMessage.{GcMessage}
+use Rattle.slate_passes.specs.Pass.{pass_asks}
+use Rattle.slate_passes.specs.Rows.{log_of_pass, log_or_manifests}
+use Rattle.slate_passes.specs.declared.gc_phase.GcPhase.TheVariants as removing
+use Rattle.slate_passes.specs.declared.pass_phase.PassPhase.{PassPhase}
+use Rattle.slate_passes.specs.declared.pass_phase.PassPhase.TheVariants as passing
+use Rattle.slate_referenced.specs.Referenced.{referenced_asks}
+use Rattle.slate_referenced.specs.declared.referenced_phase.ReferencedPhase.{ReferencedPhase}
+use Rattle.slate_referenced.specs.declared.referenced_phase.ReferencedPhase.TheVariants as fetching
 use Rattle.slate_protocol.specs.ByRows.{AllTold, all_told_after, entry_store, trail_by}
 use Rattle.slate_protocol.specs.Chains.{Link, link_at, if_new, with_link}
 use Rattle.slate_protocol.specs.Logs.{Author, Chains, Held, log_of, phrase_of, put_in, put_by, chain_with, chains_put, chains_stepped, chains_state, chains_at, chains_after, chains_of}
@@ -103,14 +108,22 @@ module _ (firsts : Firsts) (chains : Chains) (h : Tells firsts chains) where
   commit_told log db author (committing.Bounding n v) = h
   commit_told log db author committing.Over = h
 
-  pass_told : (db : List ℕ) (phase : PassPhase) → Tells (call_told true (pass_asks db phase) firsts) chains
-  pass_told db passing.Listing = h
-  pass_told db (passing.Getting n found) = h
-  pass_told db (passing.Bounding n found) = h
-  pass_told db (passing.Advancing phase picked) = advance_told logs.Manifest db phase
-  pass_told db (passing.Deleting [] counts) = h
-  pass_told db (passing.Deleting (m ∷ left) counts) = h
-  pass_told db passing.Over = h
+  fetch_told : (db : List ℕ) (phase : ReferencedPhase) → Tells (call_told true (referenced_asks db phase) firsts) chains
+  fetch_told db (fetching.Getting [] found) = h
+  fetch_told db (fetching.Getting (n ∷ left) found) = h
+  fetch_told db fetching.Over = h
+
+  pass_told : (db : List ℕ) (pass : GcMessage) (phase : PassPhase) → Tells (call_told true (pass_asks db pass phase) firsts) chains
+  pass_told db pass (passing.ReadingRecord phase) = read_told logs.Compactions db phase
+  pass_told db pass (passing.ReadingManifest least phase) = read_told logs.Manifest db phase
+  pass_told db pass (passing.Fetching heads phase) = fetch_told db phase
+  pass_told db pass (passing.Listing heads versions) = h
+  pass_told db pass (passing.Getting n listed found) = h
+  pass_told db pass (passing.Bounding n listed candidates) = h
+  pass_told db pass (passing.Advancing phase left counts) = advance_told (log_or_manifests (log_of_pass pass)) db phase
+  pass_told db pass (passing.Deleting [] counts) = h
+  pass_told db pass (passing.Deleting (m ∷ left) counts) = h
+  pass_told db pass passing.Over = h
 
   work_told : (n : ℕ) (facts : Facts) (call : Call) (at : Work) (b : Bool) → Tells (call_told b (asks at) firsts) (chains_put b (put_by n facts call (phrase_of at)) chains)
   work_told n facts call at false = h
@@ -119,9 +132,9 @@ module _ (firsts : Firsts) (chains : Chains) (h : Tells firsts chains) where
   work_told n facts call (work.ReadRecord purpose db phase) true = read_told logs.Compactions db phase
   work_told n facts call (work.CommitRecord purpose now db phase) true = commit_told logs.Compactions db (record { party = n; facts = facts; call = call; purpose = purpose; now = now }) phase
   work_told n facts call (work.PutTable db upload bytes) true = h
-  work_told n facts call (work.Pass db options (removing.Reading phase)) true = read_told logs.Manifest db phase
-  work_told n facts call (work.Pass db options (removing.Committing now phase)) true = commit_told logs.Manifest db (record { party = n; facts = facts; call = call; purpose = Once; now = now }) phase
-  work_told n facts call (work.Pass db options (removing.Collecting phase)) true = pass_told db phase
+  work_told n facts call (work.Pass db settings filter (removing.Reading phase)) true = read_told logs.Manifest db phase
+  work_told n facts call (work.Pass db settings filter (removing.Committing now phase)) true = commit_told logs.Manifest db (record { party = n; facts = facts; call = call; purpose = Once; now = now }) phase
+  work_told n facts call (work.Pass db settings filter (removing.Collecting at phase)) true = pass_told db settings.pass phase
 
 -- ---- an event
 

@@ -27,10 +27,12 @@ use Rattle.slate_log.specs.declared.log_kind.LogKind.{LogKind}
 use Rattle.slate_log.specs.declared.log_kind.LogKind.TheVariants as logs
 use Rattle.slate_log.specs.declared.read_phase.ReadPhase.{ReadPhase}
 use Rattle.slate_log.specs.declared.read_phase.ReadPhase.TheVariants as reading
-use Rattle.slate_gc.specs.Pass.{pass_asks}
-use Rattle.slate_gc.specs.declared.gc_pass.GcPass.TheVariants as gc
-use Rattle.slate_gc.specs.declared.pass_phase.PassPhase.{PassPhase}
-use Rattle.slate_gc.specs.declared.pass_phase.PassPhase.TheVariants as passing
+use Rattle.slate_ids.specs.declared.gc_message.GcMessage.{GcMessage}
+use Rattle.slate_passes.specs.Pass.{pass_asks}
+use Rattle.slate_passes.specs.Rows.{log_of_pass, log_or_manifests}
+use Rattle.slate_passes.specs.declared.gc_phase.GcPhase.TheVariants as gc
+use Rattle.slate_passes.specs.declared.pass_phase.PassPhase.{PassPhase}
+use Rattle.slate_passes.specs.declared.pass_phase.PassPhase.TheVariants as passing
 use Rattle.slate_events.specs.declared.call.Call.{Call}
 use Rattle.slate_protocol.specs.Chains.{Link, Log}
 use Rattle.slate_protocol.specs.Logs.{Chains, Author, Held, log_of, phrase_of}
@@ -44,6 +46,7 @@ use Rattle.slate_protocol.specs.declared.work.Work.TheVariants.{ReadManifest, Co
 use Rattle.slate_laws.proofs.Facts.{IsMade, CommitKnows}
 use Rattle.slate_laws.proofs.Facts.IsMade.{OfVersion, OfNone}
 use Rattle.slate_laws.proofs.Paths.{version_fine, boundary_fine, version_owner, boundary_owner, table_nobodys}
+use Rattle.slate_laws.proofs.Passes.{PassKnows}
 use Rattle.slate_laws.proofs.Steps.{PhraseKnows}
 use Rattle.slate_laws.proofs.Stores.{at_else}
 
@@ -149,14 +152,17 @@ module _ (k : LogKind) (d : List ℕ) (named : is_db_path d ≡ true) where
   advance_else db j (advancing.Replacing n tag) own = boundary_else j db own
   advance_else db j advancing.Over own = tt
 
-  collect_else : (db : List ℕ) (phase : PassPhase) → is_db_path db ≡ true → WritesElse zero_path (pass_asks db phase)
-  collect_else db passing.Listing own = tt
-  collect_else db (passing.Getting n found) own = tt
-  collect_else db (passing.Bounding n candidates) own = tt
-  collect_else db (passing.Advancing phase picked) own = advance_else db logs.Manifest phase own
-  collect_else db (passing.Deleting [] counts) own = tt
-  collect_else db (passing.Deleting (m ∷ ms) counts) own = tt
-  collect_else db passing.Over own = tt
+  collect_else : (s : Store) (chains : Chains) (db : List ℕ) (pass : GcMessage) (phase : PassPhase) → is_db_path db ≡ true → PassKnows s (chains logs.Manifest db) db phase → WritesElse zero_path (pass_asks db pass phase)
+  collect_else s chains db pass (passing.ReadingRecord phase) own h = absurd h
+  collect_else s chains db pass (passing.ReadingManifest least phase) own h = absurd h
+  collect_else s chains db pass (passing.Fetching heads phase) own h = absurd h
+  collect_else s chains db pass (passing.Listing heads versions) own h = tt
+  collect_else s chains db pass (passing.Getting n listed found) own h = tt
+  collect_else s chains db pass (passing.Bounding n listed candidates) own h = tt
+  collect_else s chains db pass (passing.Advancing phase left counts) own h = advance_else db (log_or_manifests (log_of_pass pass)) phase own
+  collect_else s chains db pass (passing.Deleting [] counts) own h = tt
+  collect_else s chains db pass (passing.Deleting (m ∷ left) counts) own h = tt
+  collect_else s chains db pass passing.Over own h = tt
 
   work_else : (s : Store) (chains : Chains) (n : ℕ) (facts : Facts) (call : Call) (work : Work) → is_db_path (db_of work) ≡ true → PhraseKnows s chains n facts call (phrase_of work) → WritesElse zero_path (asks work)
   work_else s chains n facts call (ReadManifest purpose db phase) own h = read_else db logs.Manifest phase
@@ -164,9 +170,9 @@ module _ (k : LogKind) (d : List ℕ) (named : is_db_path d ≡ true) where
   work_else s chains n facts call (ReadRecord purpose db phase) own h = read_else db logs.Compactions phase
   work_else s chains n facts call (CommitRecord purpose now db phase) own h = commit_else s chains db logs.Compactions _ phase own h
   work_else s chains n facts call (PutTable db upload bytes) own h = table_else db upload.table own h
-  work_else s chains n facts call (Pass db options (gc.Reading phase)) own h = read_else db logs.Manifest phase
-  work_else s chains n facts call (Pass db options (gc.Committing now phase)) own h = commit_else s chains db logs.Manifest _ phase own h
-  work_else s chains n facts call (Pass db options (gc.Collecting phase)) own h = collect_else db phase own
+  work_else s chains n facts call (Pass db settings filter (gc.Reading phase)) own h = read_else db logs.Manifest phase
+  work_else s chains n facts call (Pass db settings filter (gc.Committing now phase)) own h = commit_else s chains db logs.Manifest _ phase own h
+  work_else s chains n facts call (Pass db settings filter (gc.Collecting at phase)) own h = collect_else s chains db settings.pass phase own h.1
 
   -- nothing stands there after a step where nothing stood there before
   pub zero_stays : (s : Store) (chains : Chains) (n : ℕ) (facts : Facts) (call : Call) (work : Work) (moment : ℤ) (mark : Mark) → is_db_path (db_of work) ≡ true → PhraseKnows s chains n facts call (phrase_of work) → object_at zero_path s ≡ None

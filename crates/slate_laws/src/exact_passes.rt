@@ -1,10 +1,11 @@
-//! Passes: the deletes that they make.
+//! Passes: what they pick, and the deletes that they make.
 ghost use Rattle.std.specs.Prelude.{◌≡◌, ℕ, Bool, List, [], true};
 ghost use Rattle.slate_ids.specs.declared.gc_message.GcMessage.{GcMessage};
+ghost use Rattle.slate_ids.specs.declared.gc_message.GcMessage.TheVariants as of;
 ghost use Rattle.slate_events.specs.declared.call.Call.TheVariants.{Pass};
-ghost use Rattle.slate_gc.specs.declared.filter_word.FilterWord.{FilterWord};
-ghost use Rattle.slate_protocol.specs.Calls.{pass_options};
-ghost use Rattle.slate_protocol.specs.Passes.{IsExact, deletes_made};
+ghost use Rattle.slate_events.specs.declared.filter_word.FilterWord.{FilterWord};
+ghost use Rattle.slate_protocol.specs.Calls.{pass_settings};
+ghost use Rattle.slate_protocol.specs.Passes.{IsExact, deletes_made, picked, picked_so_far};
 ghost use Rattle.slate_protocol.specs.Rows.{Answered};
 ghost use Rattle.slate_protocol.specs.declared.party.Facts.{Facts};
 
@@ -14,11 +15,19 @@ ghost use Rattle.slate_protocol.specs.declared.party.Facts.{Facts};
 pub fn exact_pass()
     ensures { (facts : Facts) (pass : GcMessage) (min_age : ℕ) (dry_run : Bool) (filter : FilterWord)
         (answers : List Answered)
-        → IsExact facts (Pass pass min_age dry_run filter) (pass_options min_age dry_run filter) answers }
+        → IsExact facts (Pass pass min_age dry_run filter) (pass_settings pass min_age dry_run) filter answers }
+{}
+
+/// What a pass over the manifests picks is what its answers to the list, to the get of the greatest version and to the get of the
+/// boundary give.
+pub fn manifest_picks()
+    ensures { (facts : Facts) (min_age : ℕ) (dry_run : Bool) (filter : FilterWord) (answers : List Answered)
+        → (picked_so_far (pass_settings of.Manifest min_age dry_run) filter answers).objects
+        ≡ picked facts (Pass of.Manifest min_age dry_run filter) (pass_settings of.Manifest min_age dry_run) filter answers }
 {}
 
 /// Along any answers, a dry run deletes nothing.
 pub fn dry_run()
-    ensures { (min_age : ℕ) (filter : FilterWord) (facts : Facts) (pass : GcMessage) (answers : List Answered)
+    ensures { (pass : GcMessage) (min_age : ℕ) (filter : FilterWord) (facts : Facts) (answers : List Answered)
         → deletes_made facts (Pass pass min_age true filter) answers ≡ [] }
 {}

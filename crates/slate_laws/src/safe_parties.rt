@@ -6,7 +6,8 @@ ghost use Rattle.slate_store.specs.Store.{effect};
 ghost use Rattle.slate_store.specs.declared.mark.Mark.{Mark};
 ghost use Rattle.slate_events.specs.declared.db_spec.DbSpec.{DbSpec};
 ghost use Rattle.slate_events.specs.declared.event.Event.{Event};
-ghost use Rattle.slate_gc.specs.declared.pass_phase.PassPhase.{PassPhase};
+ghost use Rattle.slate_ids.specs.declared.gc_message.GcMessage.{GcMessage};
+ghost use Rattle.slate_passes.specs.declared.pass_phase.PassPhase.{PassPhase};
 ghost use Rattle.slate_log.specs.LogPaths.{version_path};
 ghost use Rattle.slate_log.specs.ReadPhase.{read_asks, read_goes};
 ghost use Rattle.slate_log.specs.declared.commit_phase.CommitPhase.TheVariants.{Putting, Bounding};
@@ -61,18 +62,20 @@ pub fn reads_answer()
 /// What a pass picked, and what is left of it, are manifests below the greatest committed version, and that version names none of
 /// them.
 pub fn picks_spare()
-    ensures { (specs : List DbSpec) (events : List Event) (n : ℕ) (p : Party) (task : Task) (db : List ℕ) (phase : PassPhase)
+    ensures { (specs : List DbSpec) (events : List Event) (n : ℕ) (p : Party) (task : Task) (db : List ℕ)
+        (pass : GcMessage) (phase : PassPhase)
         → IsAccepted specs → party_of n (world_at_end specs events).parties ≡ Some p → p.state ≡ Busy task
-        → phrase_of task.work ≡ Collects db phase
+        → phrase_of task.work ≡ Collects db pass phase
         → Each (IsManifestThat db (IsSpare manifests (chains_at_end specs events logs.Manifest db))) (picks_in phase) }
 {}
 
 /// What is left of the picks of a pass is at or below the boundary.
 pub fn due_bounded()
-    ensures { (specs : List DbSpec) (events : List Event) (n : ℕ) (p : Party) (task : Task) (db : List ℕ) (phase : PassPhase)
+    ensures { (specs : List DbSpec) (events : List Event) (n : ℕ) (p : Party) (task : Task) (db : List ℕ)
+        (pass : GcMessage) (phase : PassPhase)
         (bound : ℕ)
         → IsAccepted specs → party_of n (world_at_end specs events).parties ≡ Some p → p.state ≡ Busy task
-        → phrase_of task.work ≡ Collects db phase
+        → phrase_of task.work ≡ Collects db pass phase
         → bound_in manifests db (world_at_end specs events).store ≡ Some bound
         → Each (IsManifestThat db (λ number. number ≤ bound)) (due_in phase) }
 {}

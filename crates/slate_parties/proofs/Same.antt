@@ -1,5 +1,5 @@
 -- A party in its own place.
-use Rattle.std.proofs.Common.{◌≡◌, ℕ, List, Option, Some, sym}
+use Rattle.std.proofs.Common.{◌≡◌, ℕ, List, Some}
 use Rattle.std.specs.Map.{lookup, set_value}
 use Rattle.std.specs.BTreeMap.{is_at}
 use Rattle.std.specs.Ordering.{nat_cmp}

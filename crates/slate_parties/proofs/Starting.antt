@@ -7,7 +7,7 @@ use Rattle.slate_events.specs.declared.reply.Reply.{Reply}
 use Rattle.slate_protocol.specs.Calls.{has_call}
 use Rattle.slate_protocol.specs.Ids.{is_stale, with_call}
 use Rattle.slate_protocol.specs.Rows.{begin}
-use Rattle.slate_protocol.specs.World.{World, Transition, party_of, with_party, settled, carrying, start_state, start_at, may_start, refuses_start}
+use Rattle.slate_protocol.specs.World.{World, Transition, party_of, with_party, settled, carrying, start_state, start_at, refuses_start}
 use Rattle.slate_protocol.specs.declared.party.Facts.{Facts}
 use Rattle.slate_protocol.specs.declared.party.Party.{Party}
 use Rattle.slate_protocol.specs.declared.party.State.{State}

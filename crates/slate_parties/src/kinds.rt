@@ -4,7 +4,6 @@ ghost use Rattle.slate_ids.specs.Ulids.{is_id as is_id_of};
 ghost use Rattle.slate_protocol.specs.Calls as has;
 
 use slate_events::{Call, PartyKind};
-use slate_gc::FilterWord;
 use slate_ids::{GcMessage, Ulid};
 
 // Whether the two numbers of an id are in their ranges, as those of each id are.
@@ -75,9 +74,8 @@ fn collector_has(call: &Call) -> bool
     match call {
         Call::Pass {
             pass: GcMessage::Manifest,
-            filter,
             ..
-        } => !matches!(filter, FilterWord::Paths(_)),
+        } => true,
         _ => false,
     }
 }

@@ -1,18 +1,18 @@
--- A pass that nobody disturbs: the objects that it leaves are those that its list found, less what it picks.
+-- A pass over the manifests that nobody disturbs: the manifests that it leaves are those that its list found, less what it picks.
 use Rattle.std.specs.Prelude.{◌≡◌, ℕ, ℤ, ◌==◌, ◌&&◌, not, Bool, true, false, List, [], ◌∷◌, ◌++◌, map, filter, length, min, Option, Some, None, is_none}
 use Rattle.std.specs.List.{list_all}
 use Rattle.slate_ids.specs.Limits.{last_number}
 use Rattle.slate_ids.specs.PathText.{path_text}
 use Rattle.slate_ids.specs.declared.error.SlateDBError.TheVariants.{Exhausted}
-use Rattle.slate_ids.specs.declared.gc_message.GcMessage.{GcMessage}
+use Rattle.slate_ids.specs.declared.gc_message.GcMessage.TheVariants as of
 use Rattle.slate_store.specs.Store.{Store, listed}
 use Rattle.slate_store.specs.declared.list_dir.ListDir.TheVariants.{Manifests}
 use Rattle.slate_store.specs.declared.object.ObjectMetadata.{ObjectMetadata}
 use Rattle.slate_store.specs.declared.store_answer.StoreAnswer.{StoreAnswer}
 use Rattle.slate_store.specs.declared.store_answer.StoreAnswer.TheVariants.{Found, Fault}
-use Rattle.slate_gc.specs.Filter.{lies_at}
-use Rattle.slate_gc.specs.declared.filter_word.FilterWord.{FilterWord}
-use Rattle.slate_gc.specs.declared.pass_options.PassOptions.{PassOptions}
+use Rattle.slate_passes.specs.declared.pass_settings.PassSettings.{PassSettings}
+use Rattle.slate_events.specs.Filter.{lies_at}
+use Rattle.slate_events.specs.declared.filter_word.FilterWord.{FilterWord}
 use Rattle.slate_events.specs.declared.call.Call.{Call}
 use Rattle.slate_events.specs.declared.call.Call.TheVariants.{Pass}
 use Rattle.slate_events.specs.declared.db_spec.DbSpec.{DbSpec}
@@ -23,7 +23,7 @@ use Rattle.slate_events.specs.declared.reply.Reply.{Reply}
 use Rattle.slate_events.specs.declared.reply.Reply.TheVariants.{Refused}
 use Rattle.slate_events.specs.declared.reply.Reply.TheVariants as reply
 use Rattle.slate_protocol.specs.ByRows.{Answers, AllTold, nobody, entry_by, party_in, all_told_after, entry_store}
-use Rattle.slate_protocol.specs.Calls.{pass_options}
+use Rattle.slate_protocol.specs.Calls.{pass_settings}
 use Rattle.slate_protocol.specs.Passes.{pass_answers, picked}
 use Rattle.slate_protocol.specs.Rows.{Answered, begin}
 use Rattle.slate_protocol.specs.Runs.{Course}
@@ -76,24 +76,24 @@ without picks found = filter (λ m. not (lies_at (map (λ p. path_text p.locatio
 
 -- the pass listed, and ended with the reply of a pass: all that it picked is deleted, and nothing failed. The manifests that are left at its
 -- database are those that it listed, less what it picked
-pub record HasCollected (facts : Facts) (call : Call) (options : PassOptions) (answers : List Answered) (r : Reply) (s : Store) : Type 0 where
+pub record HasCollected (facts : Facts) (call : Call) (settings : PassSettings) (filter : FilterWord) (answers : List Answered) (r : Reply) (s : Store) : Type 0 where
   pub found : List ObjectMetadata
   pub moment : ℤ
   pub later : List Answered
   pub lists : pass_answers call (begin facts call) answers ≡ (Found found, moment) ∷ later
-  pub replied : r ≡ reply.Pass (length (picked facts call options answers)) (min (length (picked facts call options answers)) last_number) 0
-  pub left : listed (Manifests facts.db) s ≡ without (picked facts call options answers) found
+  pub replied : r ≡ reply.Pass (length (picked facts call settings filter answers)) (min (length (picked facts call settings filter answers)) last_number) 0
+  pub left : listed (Manifests facts.db) s ≡ without (picked facts call settings filter answers) found
 
 -- what a pass that nobody disturbs leaves: it has collected; or the removal of expired checkpoints had no number left for its version, and
 -- ended the pass before its list
-pub data Leaves (facts : Facts) (call : Call) (options : PassOptions) (answers : List Answered) (r : Reply) (s : Store) : Type 0 where
-  Collects : HasCollected facts call options answers r s → Leaves facts call options answers r s
-  Exhausts : pass_answers call (begin facts call) answers ≡ [] → r ≡ Refused (Exhausted last_number) → Leaves facts call options answers r s
+pub data Leaves (facts : Facts) (call : Call) (settings : PassSettings) (filter : FilterWord) (answers : List Answered) (r : Reply) (s : Store) : Type 0 where
+  Collects : HasCollected facts call settings filter answers r s → Leaves facts call settings filter answers r s
+  Exhausts : pass_answers call (begin facts call) answers ≡ [] → r ≡ Refused (Exhausted last_number) → Leaves facts call settings filter answers r s
 
--- of each pass that nobody disturbs from the moment after a front of events, where the first course stands, to a later one
+-- of each pass over the manifests that nobody disturbs from the moment after a front of events, where the first course stands, to a later one
 abbrev pub PassesAlone : List DbSpec → List Event → Course → Course → Type 0
 PassesAlone specs front before after =
-    (n : ℕ) (facts : Facts) (pass : GcMessage) (min_age : ℕ) (dry_run : Bool) (filter : FilterWord) (between : List Entry) (last : Entry) (r : Reply)
+    (n : ℕ) (facts : Facts) (min_age : ℕ) (dry_run : Bool) (filter : FilterWord) (between : List Entry) (last : Entry) (r : Reply)
     → after.trail ≡ before.trail ++ (between ++ last ∷ [])
-    → IsUndisturbed specs front n facts (Pass pass min_age dry_run filter) between last r
-    → Leaves facts (Pass pass min_age dry_run filter) (pass_options min_age dry_run filter) (answers_in (between ++ last ∷ [])) r after.world.store
+    → IsUndisturbed specs front n facts (Pass of.Manifest min_age dry_run filter) between last r
+    → Leaves facts (Pass of.Manifest min_age dry_run filter) (pass_settings of.Manifest min_age dry_run) filter (answers_in (between ++ last ∷ [])) r after.world.store

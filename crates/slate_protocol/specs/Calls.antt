@@ -7,8 +7,8 @@ use Rattle.slate_ids.specs.declared.gc_message.GcMessage.TheVariants as of
 use Rattle.slate_ids.specs.declared.error.SlateDBError.{SlateDBError}
 use Rattle.slate_ids.specs.declared.error.SlateDBError.TheVariants.{CheckpointMissing, InvalidDBState}
 use Rattle.slate_ids.specs.declared.error.StateCause.TheVariants.{NotOpen, NotUploaded}
-use Rattle.slate_compactor.specs.Local.{opened, refreshed, scheduled, finished, failed, manifest_committed, record_committed, pending_outputs}
-use Rattle.slate_compactor.specs.Trees.{Trees, trees_of}
+use Rattle.slate_compactor.specs.Local.{refreshed, scheduled, finished, failed, manifest_committed, record_committed, pending_outputs}
+use Rattle.slate_compactor.specs.Trees.{trees_of}
 use Rattle.slate_compactor.specs.declared.local_state.LocalState.{LocalState}
 use Rattle.slate_compactor_changes.specs.declared.compactor_change.CompactorChange.TheVariants as compactor_change
 use Rattle.slate_encodable.specs.Normal.{normal_manifest}
@@ -32,11 +32,9 @@ use Rattle.slate_updates.specs.Checkpoints.{checkpoint_at}
 use Rattle.slate_updates.specs.declared.flush_batch.FlushBatch.{FlushBatch}
 use Rattle.slate_updates.specs.declared.flush_batch.FlushedTable.{FlushedTable}
 use Rattle.slate_updates.specs.declared.manifest_change.ManifestChange.TheVariants as change
-use Rattle.slate_gc.specs.declared.filter_word.FilterWord.{FilterWord}
-use Rattle.slate_gc.specs.declared.filter_word.FilterWord.TheVariants.{All, Nothing, Paths}
-use Rattle.slate_gc.specs.declared.gc_pass.GcPass.TheVariants as passing
-use Rattle.slate_gc.specs.declared.pass_options.PassOptions.{PassOptions}
-use Rattle.slate_gc.specs.declared.pass_phase.PassPhase.TheVariants as collecting
+use Rattle.slate_ids.specs.declared.gc_message.GcMessage.{GcMessage}
+use Rattle.slate_passes.specs.GcPhase.{gc_start}
+use Rattle.slate_passes.specs.declared.pass_settings.PassSettings.{PassSettings}
 use Rattle.slate_events.specs.declared.call.Call.{Call}
 use Rattle.slate_events.specs.declared.call.Call.TheVariants.{OpenWriter, Upload as UploadCall, Flush, OpenCompactor, Refresh, Schedule, Finish as FinishCall, Fail, WriteManifest, WriteRecord, WriteState, Claim, Report, WriteCheckpoint, ReplaceCheckpoint, RefreshCheckpoint, DeleteCheckpoint, Pass}
 use Rattle.slate_events.specs.declared.flush_table.FlushTable.{FlushTable}
@@ -95,15 +93,9 @@ holder_has (RefreshCheckpoint id lifetime) = is_some lifetime
 holder_has (DeleteCheckpoint id) = true
 holder_has _ = false
 
--- the filters that passes have so far: all or nothing
-abbrev pub is_all_or_nothing : FilterWord → Bool
-is_all_or_nothing All = true
-is_all_or_nothing Nothing = true
-is_all_or_nothing (Paths paths) = false
-
 -- the call of a collector: so far, the pass of manifests alone
 abbrev pub collector_has : Call → Bool
-collector_has (Pass of.Manifest min_age dry_run filter) = is_all_or_nothing filter
+collector_has (Pass of.Manifest min_age dry_run filter) = true
 collector_has _ = false
 
 -- whether a kind of party has a call
@@ -178,9 +170,9 @@ refusal_at_start facts (WriteState checkpoint) = unless_open facts.epoch
 refusal_at_start facts (Report id tables) = refusal_of_unknown (find (is_unknown facts.uploads) tables)
 refusal_at_start facts _ = None
 
--- the options of a pass
-abbrev pub pass_options : ℕ → Bool → FilterWord → PassOptions
-pass_options min_age dry_run filter = record { min_age = min_age; dry_run = dry_run; filter = filter }
+-- the settings of a pass: it keeps the boundaries of the logs
+abbrev pub pass_settings : GcMessage → ℕ → Bool → PassSettings
+pass_settings pass min_age dry_run = record { pass = pass; options = record { min_age = min_age; interval = None; dry_run = dry_run }; boundary_files_enabled = true }
 
 -- the upload of a table with these first and last keys
 abbrev pub upload_of : ℕ × ℕ → List ℕ → List ℕ → Upload
@@ -195,7 +187,7 @@ first_work facts (Schedule id) = work.ReadRecord Once facts.db reading.Listing
 first_work facts WriteRecord = work.ReadRecord Once facts.db reading.Listing
 first_work facts (Claim id) = work.ReadRecord Once facts.db reading.Listing
 first_work facts (Report id tables) = work.ReadRecord Once facts.db reading.Listing
-first_work facts (Pass pass min_age dry_run filter) = work.Pass facts.db (pass_options min_age dry_run filter) (passing.Reading reading.Listing)
+first_work facts (Pass pass min_age dry_run filter) = work.Pass facts.db (pass_settings pass min_age dry_run) filter gc_start
 first_work facts _ = work.ReadManifest Once facts.db reading.Listing
 
 -- ---- what it commits
@@ -351,7 +343,6 @@ done_once facts Refresh m = Finish (refresh_reply (refresh_of facts m))
 done_once facts (WriteCheckpoint id lifetime source name) m = Finish (checkpoint_reply id (checkpoint_at id m.core.checkpoints))
 done_once facts (ReplaceCheckpoint old id lifetime source name) m = Finish (checkpoint_reply id (checkpoint_at id m.core.checkpoints))
 done_once facts (RefreshCheckpoint id lifetime) m = Finish (checkpoint_reply id (checkpoint_at id m.core.checkpoints))
-done_once facts (Pass pass min_age dry_run filter) m = Go (work.Pass facts.db (pass_options min_age dry_run filter) (passing.Collecting collecting.Listing))
 done_once facts _ m = Finish Done
 
 -- the same of a compactor's trees: a whole state has its record written then

@@ -10,7 +10,6 @@ use Rattle.slate_log.specs.declared.log_kind.LogKind.TheVariants as logs
 use Rattle.slate_record_updates.specs.RecordEpochs.{record_epoch}
 use Rattle.slate_record_updates.specs.declared.record_change.RecordChange.{RecordChange}
 use Rattle.slate_record_updates.specs.declared.record_change.RecordChange.TheVariants.{GiveEpoch, Reset, Schedule, PutStatuses}
-use Rattle.slate_records.specs.Records.{Record}
 use Rattle.slate_updates.specs.Changes.{writer_epoch_in}
 use Rattle.slate_updates.specs.Writers.{epoch_of}
 use Rattle.slate_updates.specs.declared.epochs.ManifestEpochs.TheVariants.{Writer, Compactor}

@@ -8,8 +8,8 @@ use Rattle.slate_store.specs.declared.object.ObjectMetadata.{ObjectMetadata}
 use Rattle.slate_log.specs.LogPaths.{version_path}
 use Rattle.slate_log.specs.declared.log_kind.LogKind.{LogKind}
 use Rattle.slate_log.specs.declared.log_kind.LogKind.TheVariants as logs
-use Rattle.slate_gc.specs.declared.pass_phase.PassPhase.{PassPhase}
-use Rattle.slate_gc.specs.declared.pass_phase.PassPhase.TheVariants as passing
+use Rattle.slate_passes.specs.declared.pass_phase.PassPhase.{PassPhase}
+use Rattle.slate_passes.specs.declared.pass_phase.PassPhase.TheVariants as passing
 use Rattle.slate_protocol.specs.Calls.{Next, Finish}
 use Rattle.slate_protocol.specs.Chains.{Link, link_at}
 use Rattle.slate_protocol.specs.Logs.{Author, Held, Chain, Chains, log_of}
@@ -32,7 +32,7 @@ pub data IsMadeOf (k : LogKind) (c : Chain k) (author : Author) (n : ℕ) (v : H
 
 -- what a pass is about to delete once its reads have ended: its picks, and what is left of them
 abbrev pub picks_in : PassPhase → List ObjectMetadata
-picks_in (passing.Advancing advance picked) = picked
+picks_in (passing.Advancing advance left counts) = left
 picks_in (passing.Deleting left counts) = left
 picks_in _ = []
 

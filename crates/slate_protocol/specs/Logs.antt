@@ -1,5 +1,6 @@
 -- The two logs of a database, and what a run commits to them: kept beside the state, event by event.
-use Rattle.std.specs.Prelude.{ℕ, Bool, true, false, List, [], ◌∷◌, Option, Some, None, Result, Ok, ℤ, bytes_eq, if◌then◌else◌}
+use Rattle.std.specs.Prelude.{ℕ, Bool, true, false, List, [], ◌∷◌, Option, Some, None, Ok, ℤ, bytes_eq, if◌then◌else◌}
+use Rattle.slate_ids.specs.declared.gc_message.GcMessage.{GcMessage}
 use Rattle.slate_model.specs.declared.manifest.Manifest.{Manifest}
 use Rattle.slate_records.specs.Records.{Record}
 use Rattle.slate_updates.specs.Checkpoints.{is_named}
@@ -20,8 +21,8 @@ use Rattle.slate_log.specs.declared.commit_phase.CommitPhase.TheVariants.{Puttin
 use Rattle.slate_log.specs.declared.log_kind.LogKind.{LogKind}
 use Rattle.slate_log.specs.declared.log_kind.LogKind.TheVariants as logs
 use Rattle.slate_log.specs.declared.read_phase.ReadPhase.{ReadPhase}
-use Rattle.slate_gc.specs.declared.gc_pass.GcPass.TheVariants as passing
-use Rattle.slate_gc.specs.declared.pass_phase.PassPhase.{PassPhase}
+use Rattle.slate_passes.specs.declared.gc_phase.GcPhase.TheVariants as passing
+use Rattle.slate_passes.specs.declared.pass_phase.PassPhase.{PassPhase}
 use Rattle.slate_events.specs.declared.call.Call.{Call}
 use Rattle.slate_events.specs.declared.db_spec.DbSpec.{DbSpec}
 use Rattle.slate_events.specs.declared.event.Event.{Event}
@@ -125,7 +126,7 @@ pub data Phrase : Type 0 where
   -- the object of a table is put at a database
   Uploads : List ℕ → ℕ × ℕ → List ℕ → Phrase
   -- a pass collects at a database
-  Collects : List ℕ → PassPhase → Phrase
+  Collects : List ℕ → GcMessage → PassPhase → Phrase
 
 abbrev pub phrase_of : Work → Phrase
 phrase_of (ReadManifest purpose db phase) = Reads logs.Manifest db phase
@@ -133,9 +134,9 @@ phrase_of (CommitManifest purpose now db phase) = Commits logs.Manifest db purpo
 phrase_of (ReadRecord purpose db phase) = Reads logs.Compactions db phase
 phrase_of (CommitRecord purpose now db phase) = Commits logs.Compactions db purpose now phase
 phrase_of (PutTable db upload bytes) = Uploads db upload.table bytes
-phrase_of (Pass db options (passing.Reading phase)) = Reads logs.Manifest db phase
-phrase_of (Pass db options (passing.Committing now phase)) = Commits logs.Manifest db Once now phase
-phrase_of (Pass db options (passing.Collecting phase)) = Collects db phase
+phrase_of (Pass db settings filter (passing.Reading phase)) = Reads logs.Manifest db phase
+phrase_of (Pass db settings filter (passing.Committing now phase)) = Commits logs.Manifest db Once now phase
+phrase_of (Pass db settings filter (passing.Collecting at phase)) = Collects db settings.pass phase
 
 -- ---- what is put
 

@@ -1,5 +1,5 @@
 -- What a commit of a party puts of a manifest or of a record, where it puts a change at all.
-use Rattle.std.specs.Prelude.{ℕ, ℤ, List, Option, Some, None, Result, Ok}
+use Rattle.std.specs.Prelude.{ℕ, ℤ, Option, Some, None, Result, Ok}
 use Rattle.slate_compactor_changes.specs.CompactorChanges as compactor
 use Rattle.slate_ids.specs.declared.error.SlateDBError.{SlateDBError}
 use Rattle.slate_layout.specs.Codec.{encoded}

@@ -1,12 +1,13 @@
 -- What a pass picks of what it read, and the deletes that it makes: one for each pick, in their order.
-use Rattle.std.specs.Prelude.{◌≡◌, ℕ, ℤ, nat_le, Bool, true, false, List, [], ◌∷◌, ◌++◌, map, filter, length, Option, Some, None, Result, Ok, if◌then◌else◌}
+use Rattle.std.specs.Prelude.{◌≡◌, ℕ, ℤ, nat_le, Bool, true, false, List, [], ◌∷◌, ◌++◌, map, filter, Option, Some, None, Result, Ok, if◌then◌else◌}
 use Rattle.slate_ids.specs.declared.error.SlateDBError.{SlateDBError}
 use Rattle.slate_manifest_parts.specs.Decoding.{decoded_manifest}
 use Rattle.slate_model.specs.declared.manifest.Manifest.{Manifest}
+use Rattle.slate_store.specs.Machines.{Stay}
 use Rattle.slate_store.specs.declared.made.Made.{Made}
 use Rattle.slate_store.specs.declared.object.ObjectMetadata.{ObjectMetadata}
 use Rattle.slate_store.specs.declared.store_answer.StoreAnswer.{StoreAnswer}
-use Rattle.slate_store.specs.declared.store_answer.StoreAnswer.TheVariants.{Found, Got, Fault}
+use Rattle.slate_store.specs.declared.store_answer.StoreAnswer.TheVariants.{Found, Got}
 use Rattle.slate_store.specs.declared.store_call.StoreCall.{StoreCall}
 use Rattle.slate_store.specs.declared.store_call.StoreCall.TheVariants.{Delete}
 use Rattle.slate_events.specs.declared.call.Call.{Call}
@@ -14,54 +15,68 @@ use Rattle.slate_events.specs.declared.call.Call.TheVariants.{Pass}
 use Rattle.slate_events.specs.declared.event.Event.{Event}
 use Rattle.slate_events.specs.declared.entry.Entry.{Entry}
 use Rattle.slate_events.specs.declared.entry.Entry.TheVariants.{Called}
+use Rattle.slate_events.specs.declared.filter_word.FilterWord.{FilterWord}
+use Rattle.slate_events.specs.declared.reply.Reply.{Reply}
 use Rattle.slate_events.specs.declared.reply.Reply.TheVariants as reply
 use Rattle.slate_log.specs.Boundary.{boundary_got, greatest}
 use Rattle.slate_log.specs.declared.log_kind.LogKind.TheVariants.{Manifest as ManifestLog}
-use Rattle.slate_gc.specs.Deletes.{counts_of, one_deleted, one_failed}
-use Rattle.slate_gc.specs.Picks.{candidates, picks}
-use Rattle.slate_gc.specs.declared.gc_pass.GcPass.TheVariants.{Collecting}
-use Rattle.slate_gc.specs.declared.pass_counts.PassCounts.{PassCounts}
-use Rattle.slate_gc.specs.declared.pass_options.PassOptions.{PassOptions}
+use Rattle.slate_passes.specs.Exact.{Chosen, counts_before, or_nothing, picked_along, with_delete}
+use Rattle.slate_passes.specs.GcPhase.{gc_start}
+use Rattle.slate_passes.specs.declared.gc_phase.GcPhase.TheVariants.{Collecting}
+use Rattle.slate_passes.specs.declared.pass_counts.PassCounts.{PassCounts}
+use Rattle.slate_passes.specs.declared.pass_settings.PassSettings.{PassSettings}
+use Rattle.slate_picks.specs.Ages.{aged}
+use Rattle.slate_picks.specs.Filter.{picks}
+use Rattle.slate_picks.specs.Versions.{unneeded}
 use Rattle.slate_protocol.specs.ByRows.{Doing, Answers, Told, AllTold, entry_by, party_in, all_told_after, entry_store}
-use Rattle.slate_protocol.specs.Calls.{pass_options, Next, Go, Finish}
+use Rattle.slate_protocol.specs.Calls.{pass_settings, Next, Go, Finish}
 use Rattle.slate_protocol.specs.Rows.{Answered, Standing, answered, begin, stands_after}
-use Rattle.slate_protocol.specs.Works.{asks}
+use Rattle.slate_protocol.specs.Works.{asks, pass_ways}
 use Rattle.slate_protocol.specs.Specs.{listed_or_none}
 use Rattle.slate_protocol.specs.declared.party.Facts.{Facts}
-use Rattle.slate_protocol.specs.declared.work.Work.{Work}
 use Rattle.slate_protocol.specs.declared.work.Work.TheVariants as work
 use Rattle.slate_store.specs.Store.{Store}
 
 -- ---- what is picked of what was read
 
+-- what a pass with a filter has picked, by its answers so far: nothing, before it has read all
+abbrev pub picked_so_far : PassSettings → FilterWord → List Answered → Chosen
+picked_so_far settings filter answers = or_nothing (picked_along (pass_ways filter) settings (Stay gc_start) answers)
+
+-- ---- what a pass over the manifests picks, in its own words
+
+-- the picks among the objects that were listed at a moment, by the greatest version's number and its value
+abbrev pub manifest_picks : PassSettings → FilterWord → ℤ → List ObjectMetadata → ℕ → Manifest → List ObjectMetadata
+manifest_picks settings filter now found n m = picks (pass_ways filter).allows settings.options.dry_run (unneeded ManifestLog n m.core.checkpoints (aged settings.options.min_age now found))
+
 -- of a list at a moment, the value of the greatest number listed, and a boundary that is below that number
-abbrev pub picks_at : PassOptions → ℤ → List ObjectMetadata → Option ℕ → Result Manifest SlateDBError → Option ℕ → Option (List ObjectMetadata)
-picks_at options now found (Some n) (Ok m) (Some bound) = if nat_le n bound then None else Some (picks options (candidates options.min_age now n m.core.checkpoints found))
-picks_at options now found _ _ _ = None
+abbrev pub picks_at : PassSettings → FilterWord → ℤ → List ObjectMetadata → Option ℕ → Result Manifest SlateDBError → Option ℕ → Option (List ObjectMetadata)
+picks_at settings filter now found (Some n) (Ok m) (Some bound) = if nat_le n bound then None else Some (manifest_picks settings filter now found n m)
+picks_at settings filter now found _ _ _ = None
 
 -- of the answers to the list, to the get of the greatest, and to the get of the boundary
-abbrev pub picks_of : PassOptions → Answered → Answered → Answered → Option (List ObjectMetadata)
-picks_of options (Found found, now) (Got (Some object), at) (Got boundary, by) = picks_at options now found (greatest ManifestLog found) (decoded_manifest object.bytes) (boundary_got boundary)
-picks_of options _ _ _ = None
+abbrev pub picks_of : PassSettings → FilterWord → Answered → Answered → Answered → Option (List ObjectMetadata)
+picks_of settings filter (Found found, now) (Got (Some object), at) (Got boundary, by) = picks_at settings filter now found (greatest ManifestLog found) (decoded_manifest object.bytes) (boundary_got boundary)
+picks_of settings filter _ _ _ = None
 
 -- of the answers of a pass from its list on; nothing, before it has read all
-abbrev pub picks_read : PassOptions → List Answered → Option (List ObjectMetadata)
-picks_read options (list ∷ version ∷ boundary ∷ answers) = picks_of options list version boundary
-picks_read options _ = None
+abbrev pub picks_read : PassSettings → FilterWord → List Answered → Option (List ObjectMetadata)
+picks_read settings filter (list ∷ version ∷ boundary ∷ answers) = picks_of settings filter list version boundary
+picks_read settings filter _ = None
 
 -- whether a pass collects: the expired checkpoints are removed
 abbrev pub is_collecting : Next → Bool
-is_collecting (Go (work.Pass db options (Collecting phase))) = true
+is_collecting (Go (work.Pass db settings filter (Collecting at phase))) = true
 is_collecting _ = false
 
--- the answers of a call from the list of its pass on
+-- the answers of a call from the end of that removal on
 abbrev pub pass_answers : Call → Standing → List Answered → List Answered
 pass_answers call standing [] = []
 pass_answers call standing (a ∷ answers) = if is_collecting standing.next then a ∷ answers else pass_answers call (answered call standing.facts standing.next a) answers
 
--- what a pass picks, by its answers so far
-abbrev pub picked : Facts → Call → PassOptions → List Answered → List ObjectMetadata
-picked facts call options answers = listed_or_none (picks_read options (pass_answers call (begin facts call) answers))
+-- what a pass over the manifests picks, by its answers so far
+abbrev pub picked : Facts → Call → PassSettings → FilterWord → List Answered → List ObjectMetadata
+picked facts call settings filter answers = listed_or_none (picks_read settings filter (pass_answers call (begin facts call) answers))
 
 -- ---- what is deleted
 
@@ -95,29 +110,28 @@ deletes_of ms = map (λ m. Delete m.location) ms
 abbrev pub calls_of : List Made → List StoreCall
 calls_of ms = map (λ m. m.call) ms
 
--- one delete more: it failed where it faulted
-abbrev pub with_delete : StoreAnswer → PassCounts → PassCounts
-with_delete Fault counts = one_failed counts
-with_delete answer counts = one_deleted counts
-
 -- the counts after deletes
 abbrev pub with_deletes : PassCounts → List Made → PassCounts
 with_deletes counts [] = counts
 with_deletes counts (m ∷ ms) = with_deletes (with_delete m.answer counts) ms
 
+-- the reply of a pass with these counts
+abbrev pub reply_of : PassCounts → Reply
+reply_of counts = reply.Pass counts.picked counts.deleted counts.failed
+
 -- a pass has deleted a front of what it picks; where it ended without a refusal, all of it, deletes that faulted included, and
 -- its counts are those of its picks and its deletes
-pub record IsExact (facts : Facts) (call : Call) (options : PassOptions) (answers : List Answered) : Type 0 where
+pub record IsExact (facts : Facts) (call : Call) (settings : PassSettings) (filter : FilterWord) (answers : List Answered) : Type 0 where
   pub left : List ObjectMetadata
-  pub front : calls_of (deletes_made facts call answers) ++ deletes_of left ≡ deletes_of (picked facts call options answers)
-  pub whole : (counts : PassCounts) → (stands_after facts call answers).next ≡ Finish (reply.Pass counts.picked counts.deleted counts.failed)
-      → (left ≡ []) × (counts ≡ with_deletes (counts_of (length (picked facts call options answers))) (deletes_made facts call answers))
+  pub front : calls_of (deletes_made facts call answers) ++ deletes_of left ≡ deletes_of (picked_so_far settings filter answers).objects
+  pub whole : (counts : PassCounts) → (stands_after facts call answers).next ≡ Finish (reply_of counts)
+      → (left ≡ []) × (reply_of counts ≡ reply_of (with_deletes (counts_before settings (picked_so_far settings filter answers)) (deletes_made facts call answers)))
 
 -- ---- in a trail
 
 -- of a party that is in a pass with these answers
 abbrev pub ExactDoing : Facts → Doing → Answered → Type 0
-ExactDoing facts (Answers (Pass pass min_age dry_run filter) answers) a = IsExact facts (Pass pass min_age dry_run filter) (pass_options min_age dry_run filter) (answers ++ a ∷ [])
+ExactDoing facts (Answers (Pass pass min_age dry_run filter) answers) a = IsExact facts (Pass pass min_age dry_run filter) (pass_settings pass min_age dry_run) filter (answers ++ a ∷ [])
 ExactDoing facts _ a = Unit {0}
 
 -- of an entry, by what is said of its party before it

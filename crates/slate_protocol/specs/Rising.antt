@@ -1,9 +1,9 @@
 -- What never falls along a chain, and which numbers its manifests name.
-use Rattle.std.specs.Prelude.{◌≡◌, ◌≢◌, ℕ, ◌≤◌, List, [], ◌∷◌}
+use Rattle.std.specs.Prelude.{◌≢◌, ◌≤◌, List, [], ◌∷◌}
 use Rattle.slate_model.specs.declared.manifest.Manifest.{Manifest}
 use Rattle.slate_records.specs.Records.{Record}
 use Rattle.slate_record_updates.specs.RecordRules.{KeepsLeast}
-use Rattle.slate_updates.specs.RuleLaws.{NothingFalls, NamesKnown}
+use Rattle.slate_updates.specs.RuleLaws.{NamesKnown}
 use Rattle.slate_protocol.specs.Chains.{Link}
 use Rattle.slate_protocol.specs.Logs.{Author}
 

@@ -9,7 +9,7 @@ use Rattle.slate_encodable.specs.Normal.{normal_manifest}
 use Rattle.slate_record_bytes.specs.RecordNormal.{normal_record}
 use Rattle.slate_log.specs.CommitPhase.{encoded_commit}
 use Rattle.slate_log.specs.declared.commit_phase.CommitPhase.{CommitPhase}
-use Rattle.slate_store.specs.Machines.{Goes, Stay, End}
+use Rattle.slate_store.specs.Machines.{Stay, End}
 use Rattle.slate_store.specs.declared.store_answer.StoreAnswer.{StoreAnswer}
 use Rattle.slate_store.specs.declared.store_call.StoreCall.{StoreCall}
 use Rattle.slate_events.specs.declared.call.Call.{Call}
@@ -25,7 +25,6 @@ use Rattle.slate_protocol.specs.declared.work.Ended.{Ended}
 use Rattle.slate_protocol.specs.declared.work.Ended.TheVariants.{NoManifest, ManifestRead, ManifestCommitted, NoRecord, RecordRead, RecordCommitted, TablePut, Passed}
 use Rattle.slate_protocol.specs.declared.work.Purpose.{Purpose}
 use Rattle.slate_protocol.specs.declared.work.Purpose.TheVariants.{First}
-use Rattle.slate_protocol.specs.declared.work.Work.{Work}
 use Rattle.slate_protocol.specs.declared.work.Work.TheVariants.{CommitManifest, CommitRecord}
 
 -- where a call stands: what is known of its party, and how the call goes on

@@ -1,5 +1,5 @@
 -- The phrase under way: which store call is due, and how it goes on after the answer.
-use Rattle.std.specs.Prelude.{ℕ, ℤ, Bool, true, List, Option, Some, None, Result, Ok, Err}
+use Rattle.std.specs.Prelude.{ℕ, ℤ, Bool, true, List, Some, None, Result, Ok, Err}
 use Rattle.slate_ids.specs.declared.error.SlateDBError.{SlateDBError}
 use Rattle.slate_ids.specs.declared.error.SlateDBError.TheVariants.{StoreFault}
 use Rattle.slate_ids.specs.declared.object_path.ObjectPath.TheVariants as paths
@@ -17,8 +17,14 @@ use Rattle.slate_log.specs.ReadPhase.{read_asks, read_goes, read_due}
 use Rattle.slate_log.specs.CommitPhase.{CommitGoes, commit_asks, commit_goes, commit_due}
 use Rattle.slate_log.specs.ReadPhase.{Reply}
 use Rattle.slate_log.specs.declared.log_kind.LogKind.TheVariants.{Manifest as ManifestLog, Compactions as RecordLog}
-use Rattle.slate_gc.specs.GcPass.{GcGoes, gc_asks, gc_goes, gc_due}
-use Rattle.slate_gc.specs.declared.pass_options.PassOptions.{PassOptions}
+use Rattle.slate_events.specs.Filter.{returned_by}
+use Rattle.slate_events.specs.declared.filter_word.FilterWord.{FilterWord}
+use Rattle.slate_passes.specs.GcPhase.{GcGoes, gc_asks, gc_goes, gc_due}
+use Rattle.slate_passes.specs.Ways.{Ways, ways}
+use Rattle.slate_passes.specs.declared.pass_settings.PassSettings.{PassSettings}
+use Rattle.slate_picks.specs.Filter.{allowed}
+use Rattle.slate_picks.specs.WalFiles.{collected}
+use Rattle.slate_picks.specs.declared.wal_gc.WalGcMode.TheVariants.{Regular}
 use Rattle.slate_protocol.specs.declared.work.Purpose.{Purpose}
 use Rattle.slate_protocol.specs.declared.work.Work.{Work}
 use Rattle.slate_protocol.specs.declared.uploads.Upload.{Upload}
@@ -33,7 +39,7 @@ db_of (CommitManifest purpose now db phase) = db
 db_of (ReadRecord purpose db phase) = db
 db_of (CommitRecord purpose now db phase) = db
 db_of (PutTable db upload bytes) = db
-db_of (Pass db options phase) = db
+db_of (Pass db settings filter phase) = db
 
 -- the store call that is due
 abbrev pub asks : Work → StoreCall
@@ -42,7 +48,7 @@ asks (CommitManifest purpose now db phase) = commit_asks db ManifestLog phase
 asks (ReadRecord purpose db phase) = read_asks db RecordLog phase
 asks (CommitRecord purpose now db phase) = commit_asks db RecordLog phase
 asks (PutTable db upload bytes) = store.Put (paths.Table db upload.table) bytes
-asks (Pass db options phase) = gc_asks db phase
+asks (Pass db settings filter phase) = gc_asks db settings.pass phase
 
 -- whether a call is due
 abbrev pub is_due : Work → Bool
@@ -51,7 +57,7 @@ is_due (CommitManifest purpose now db phase) = commit_due phase
 is_due (ReadRecord purpose db phase) = read_due phase
 is_due (CommitRecord purpose now db phase) = commit_due phase
 is_due (PutTable db upload bytes) = true
-is_due (Pass db options phase) = gc_due phase
+is_due (Pass db settings filter phase) = gc_due phase
 
 -- how work goes on
 abbrev pub WorkGoes : Type 0
@@ -88,11 +94,15 @@ abbrev pub put_end : Upload → StoreAnswer → Result Ended SlateDBError
 put_end upload (Written tag) = Ok (TablePut upload)
 put_end upload _ = Err StoreFault
 
+-- what a pass with a filter goes by
+abbrev pub pass_ways : FilterWord → Ways
+pass_ways filter = ways decoded_manifest encoded decoded_record (allowed returned_by (Some filter)) (collected Regular)
+
 -- after a step of a pass
-abbrev pub pass_on : List ℕ → PassOptions → GcGoes → WorkGoes
-pass_on db options (Stay phase) = Stay (Pass db options phase)
-pass_on db options (End phase (Ok counts)) = End (Pass db options phase) (Ok (Passed counts))
-pass_on db options (End phase (Err e)) = End (Pass db options phase) (Err e)
+abbrev pub pass_on : List ℕ → PassSettings → FilterWord → GcGoes → WorkGoes
+pass_on db settings filter (Stay phase) = Stay (Pass db settings filter phase)
+pass_on db settings filter (End phase (Ok counts)) = End (Pass db settings filter phase) (Ok (Passed counts))
+pass_on db settings filter (End phase (Err e)) = End (Pass db settings filter phase) (Err e)
 
 -- how work goes on after the answer, which came at a moment
 abbrev pub goes : Work → ℤ → StoreAnswer → WorkGoes
@@ -101,4 +111,4 @@ goes (CommitManifest purpose made db phase) now answer = commit_on purpose made 
 goes (ReadRecord purpose db phase) now answer = record_read_on purpose db (read_goes RecordLog decoded_record phase answer)
 goes (CommitRecord purpose made db phase) now answer = record_commit_on purpose made db (commit_goes phase answer)
 goes (PutTable db upload bytes) now answer = End (PutTable db upload bytes) (put_end upload answer)
-goes (Pass db options phase) now answer = pass_on db options (gc_goes decoded_manifest encoded options now phase answer)
+goes (Pass db settings filter phase) now answer = pass_on db settings filter (gc_goes (pass_ways filter) settings now phase answer)

@@ -1,10 +1,11 @@
 //! What a call is at: the phrase under way.
 
 use crate::uploads::Upload;
-use slate_gc::{GcPass, PassCounts, PassOptions};
+use slate_events::FilterWord;
 use slate_ids::{ByteList, DbPath, Millis};
 use slate_log::{CommitPhase, ReadPhase};
 use slate_model::{Compactions, Manifest};
+use slate_passes::{GcPhase, PassCounts, PassSettings};
 
 /// Which read or commit of its log, in its call, this is.
 #[derive(Clone, Copy, Debug)]
@@ -32,8 +33,8 @@ pub enum Work {
     CommitRecord(Purpose, Millis, DbPath, CommitPhase<Compactions>),
     /// The object of a new table is put, with these bytes.
     PutTable(DbPath, Upload, ByteList),
-    /// A pass of the garbage collector, with these options.
-    Pass(DbPath, PassOptions, GcPass),
+    /// A pass of the garbage collector, with its settings and its filter.
+    Pass(DbPath, PassSettings, FilterWord, GcPhase),
 }
 
 /// What a phrase ends with.

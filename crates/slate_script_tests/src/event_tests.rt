@@ -2,7 +2,7 @@
 
 use crate::test_scripts::{push_ulid, refusal_of, refusal_within, script_of, text_of};
 use slate_ids::{CheckpointId, Text};
-use slate_script::{Call, Event, FlushTable, ScriptError, ScriptPlace};
+use slate_script::{Call, Event, FilterWord, FlushTable, ScriptError, ScriptPlace};
 use std::alloc::{AllocError, Global};
 use std::mem::size_of;
 use std::process::Abort;
@@ -42,13 +42,15 @@ const WHOLE: &str = r#"{"databases":[],
 {"start":5,"call":"pass","pass":"manifest"},
 {"start":5,"call":"pass","pass":"manifest","min_age":18446744073709551615,"dry_run":true,"filter":"none"},
 {"start":5,"call":"pass","pass":"manifest","min_age":0,"dry_run":false,"filter":"all"},
+{"start":5,"call":"pass","pass":"manifest","filter":[]},
+{"start":5,"filter":["a/manifest/00000000000000000001.manifest","","all","a\/b","all"],"call":"pass","pass":"manifest"},
 {"step":1,"at":-9223372036854775808},
 {"step":2,"at":6,"mark":"fail","times":2},
 {"step":3,"at":9223372036854775807,"mark":"lost","times":1},
 {"stop":2}]}"#;
 
 /// What its events are.
-const EVENTS: [&str; 36] = [
+const EVENTS: [&str; 38] = [
     "open 1 Writer a",
     "open 4294967295 Holder none",
     "start 1 open writer",
@@ -77,9 +79,11 @@ const EVENTS: [&str; 36] = [
     "start 2 refresh 9 Some(10)",
     "start 2 delete 0",
     "open 5 Collector a",
-    "start 5 pass Manifest 300000 false All",
-    "start 5 pass Manifest 18446744073709551615 true Nothing",
-    "start 5 pass Manifest 0 false All",
+    "start 5 pass Manifest 300000 false all",
+    "start 5 pass Manifest 18446744073709551615 true nothing",
+    "start 5 pass Manifest 0 false all",
+    "start 5 pass Manifest 300000 false paths",
+    "start 5 pass Manifest 300000 false paths \"a/manifest/00000000000000000001.manifest\" \"\" \"all\" \"a/b\" \"all\"",
     "step 1 -9223372036854775808 Good",
     "step 2 6 Fail",
     "step 2 6 Fail",
@@ -171,6 +175,21 @@ fn push_compactor_call(out: &mut String, call: &Call) -> Result<(), AllocError> 
     }
 }
 
+fn push_filter(out: &mut String, filter: &FilterWord) -> Result<(), AllocError> {
+    match filter {
+        FilterWord::All => out.push_str("all"),
+        FilterWord::Nothing => out.push_str("nothing"),
+        FilterWord::Paths(paths) => {
+            out.push_str("paths")?;
+            for path in paths.as_slice() {
+                let path = path.as_str();
+                write!(out, " {path:?}")?;
+            }
+            Ok(())
+        }
+    }
+}
+
 fn push_call(out: &mut String, call: &Call) -> Result<(), AllocError> {
     match call {
         Call::WriteCheckpoint {
@@ -203,7 +222,10 @@ fn push_call(out: &mut String, call: &Call) -> Result<(), AllocError> {
             min_age,
             dry_run,
             filter,
-        } => write!(out, "pass {pass:?} {min_age} {dry_run} {filter:?}"),
+        } => {
+            write!(out, "pass {pass:?} {min_age} {dry_run} ")?;
+            push_filter(out, filter)
+        }
         _ => push_writer_call(out, call),
     }
 }
@@ -405,7 +427,7 @@ fn calls_that_are_none(rt: HostRuntime) {
 const BEFORE_PASS: &str = r#"{"databases":[],"events":[{"stop":1},{"start":1,"call":"pass","#;
 
 /// Fields of passes that are none.
-const BAD_PASSES: [&str; 17] = [
+const BAD_PASSES: [&str; 28] = [
     r#""min_age":0"#,
     r#""pass":"wal""#,
     r#""pass":"Manifest""#,
@@ -417,9 +439,20 @@ const BAD_PASSES: [&str; 17] = [
     r#""pass":"manifest","dry_run":1"#,
     r#""pass":"manifest","dry_run":"true""#,
     r#""pass":"manifest","dry_run":null"#,
-    r#""pass":"manifest","filter":[]"#,
+    r#""pass":"manifest","filter":[1]"#,
+    r#""pass":"manifest","filter":["a",1]"#,
+    r#""pass":"manifest","filter":["a",null,"b"]"#,
+    r#""pass":"manifest","filter":[["a"]]"#,
+    r#""pass":"manifest","filter":[[]]"#,
+    r#""pass":"manifest","filter":{}"#,
+    r#""pass":"manifest","filter":{"paths":["a"]}"#,
+    r#""pass":"manifest","filter":1"#,
+    r#""pass":"manifest","filter":true"#,
+    r#""pass":"manifest","filter":"""#,
+    r#""pass":"manifest","filter":"All""#,
     r#""pass":"manifest","filter":"some""#,
     r#""pass":"manifest","filter":"nothing""#,
+    r#""pass":"manifest","filter":"a/manifest/00000000000000000001.manifest""#,
     r#""pass":"manifest","filter":null"#,
     r#""pass":"manifest","id":1"#,
     r#""pass":"manifest","at":0"#,

@@ -6,6 +6,8 @@ mod database_tests;
 #[cfg(test)]
 mod event_tests;
 #[cfg(test)]
+mod filter_tests;
+#[cfg(test)]
 mod line_tests;
 #[cfg(test)]
 mod record_tests;

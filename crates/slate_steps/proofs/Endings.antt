@@ -1,9 +1,9 @@
 -- How the end of a compaction begins, and what its party holds then.
-use Rattle.std.proofs.Common.{◌≡◌, true, false, true≢false, Option, Some, None, Result, Ok, Err, IfOk, refl, sym, ap, ◌∙◌, inl, inr}
+use Rattle.std.proofs.Common.{◌≡◌, true, false, true≢false, Option, Some, Result, Ok, Err, IfOk, sym, ap, ◌∙◌, inl, inr}
 use Rattle.slate_compactor.specs.declared.local_state.LocalState.{LocalState}
 use Rattle.slate_events.specs.declared.call.Call.{Call}
-use Rattle.slate_events.specs.declared.reply.Reply.TheVariants.{Done, Refused}
-use Rattle.slate_ids.specs.Answers.{is_memory, Gives}
+use Rattle.slate_events.specs.declared.reply.Reply.TheVariants.{Done}
+use Rattle.slate_ids.specs.Answers.{Gives}
 use Rattle.slate_ids.specs.declared.error.SlateDBError.{SlateDBError}
 use Rattle.slate_ids.specs.declared.out_of_memory.OutOfMemory.{OutOfMemory}
 use Rattle.slate_protocol.specs.Calls.{Next, Finish, with_held, end_of, made_or_none, refusal_of_end, refusal_in}

@@ -1,24 +1,22 @@
 -- What a step of a phrase leaves of its call, at its end and where memory ran out.
-use Rattle.std.proofs.Common.{◌≡◌, ℕ, ℤ, Bool, true, false, true≢false, List, Option, Some, None, Result, Ok, Err, IfOk, OnErr, refl, sym, ◌∙◌, ap, subst, inl, inr}
+use Rattle.std.proofs.Common.{◌≡◌, ℤ, true, false, true≢false, Option, Ok, Err, refl, sym, ◌∙◌, ap, inl, inr}
 use Rattle.slate_ids.specs.Answers.{is_memory, OrMemory}
 use Rattle.slate_ids.specs.declared.error.SlateDBError.{SlateDBError}
-use Rattle.slate_ids.specs.declared.out_of_memory.OutOfMemory.{OutOfMemory}
 use Rattle.slate_store.specs.Machines.{End}
 use Rattle.slate_store.specs.declared.step.Step.TheVariants.{Done}
 use Rattle.slate_store.specs.declared.store_answer.StoreAnswer.{StoreAnswer}
 use Rattle.slate_events.specs.declared.reply.Reply.{Reply}
-use Rattle.slate_events.specs.declared.reply.Reply.TheVariants.{Refused}
 use Rattle.slate_protocol.specs.Calls.{Next, facts_after}
-use Rattle.slate_protocol.specs.Rows.{Standing, after, follow}
-use Rattle.slate_protocol.specs.Works.{WorkGoes, goes}
+use Rattle.slate_protocol.specs.Rows.{Standing, after}
+use Rattle.slate_protocol.specs.Works.{goes}
 use Rattle.slate_protocol.specs.declared.party.Facts.{Facts}
 use Rattle.slate_protocol.specs.declared.party.Task.{Task}
 use Rattle.slate_protocol.specs.declared.work.Ended.{Ended}
 use Rattle.slate_protocol.specs.declared.work.Work.{Work}
 use Rattle.slate_steps.proofs.NeverMemory.{never_memory}
-use Rattle.slate_steps.specs.Followed.{next_by, standing, Ends, Follows, Kept}
+use Rattle.slate_steps.specs.Followed.{next_by, Ends, Kept}
 use Rattle.slate_steps.specs.Onward.{next_of}
-use Rattle.slate_steps.specs.WorkSteps.{AtEnd, OutReading}
+use Rattle.slate_steps.specs.WorkSteps.{OutReading}
 use Rattle.slate_steps.specs.declared.calls.Onward.{Onward}
 
 -- ---- the end of a phrase

@@ -1,11 +1,10 @@
 -- What follows is read off what a commit gives.
-use Rattle.std.proofs.Common.{◌≡◌, true≢false, Option, None, Result, Ok, Err, IfOk, sym, ◌∙◌, ap, inl, inr}
-use Rattle.slate_ids.specs.Answers.{is_memory, Gives}
+use Rattle.std.proofs.Common.{◌≡◌, true≢false, Result, Ok, Err, IfOk, sym, ◌∙◌, ap, inl, inr}
+use Rattle.slate_ids.specs.Answers.{Gives}
 use Rattle.slate_ids.specs.declared.error.SlateDBError.{SlateDBError}
 use Rattle.slate_ids.specs.declared.out_of_memory.OutOfMemory.{OutOfMemory}
 use Rattle.slate_events.specs.declared.reply.Reply.{Reply}
 use Rattle.slate_protocol.specs.Calls.{Next, Finish}
-use Rattle.slate_protocol.specs.Rows.{Standing}
 use Rattle.slate_events.specs.declared.reply.Reply.TheVariants.{Refused}
 use Rattle.slate_steps.specs.Followed.{Refuses}
 use Rattle.slate_steps.specs.Onward.{next_of}

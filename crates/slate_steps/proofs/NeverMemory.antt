@@ -1,13 +1,14 @@
 -- By its definition a phrase never ends because memory ran out: that is the code's own.
-use Rattle.std.proofs.Common.{◌≡◌, ℕ, ◌+◌, ℤ, ◌==◌, nat_le, Bool, true, false, true≢false, if◌then◌else◌, List, [], ◌∷◌, drop, Option, Some, None, Result, Ok, Err, refl, sym, ◌∙◌, ap, subst, inl, inr}
+use Rattle.std.proofs.Common.{◌≡◌, ℕ, ◌+◌, ℤ, ◌==◌, nat_le, Bool, true, false, if◌then◌else◌, List, [], ◌∷◌, drop, length, Option, Some, None, Result, Ok, Err, refl, subst}
 use Rattle.std.specs.Option.{ok_or}
 use Rattle.std.specs.List.{list_any}
 use Rattle.slate_ids.specs.Limits.{last_number}
-use Rattle.slate_ids.specs.Answers.{is_memory, OrMemory}
+use Rattle.slate_ids.specs.Answers.{is_memory}
 use Rattle.slate_ids.specs.declared.error.FieldName.{FieldName}
 use Rattle.slate_ids.specs.declared.error.FormatName.{FormatName}
 use Rattle.slate_ids.specs.declared.error.FormatName.TheVariants.{Manifest as ManifestFormat, Compactions as RecordFormat}
 use Rattle.slate_ids.specs.declared.error.SlateDBError.{SlateDBError}
+use Rattle.slate_ids.specs.declared.gc_message.GcMessage.{GcMessage}
 use Rattle.slate_ids.specs.declared.error.SlateDBError.TheVariants.{Corrupt, Exhausted, InvalidVersion, ManifestMissing, OutOfMemory, StoreFault}
 use Rattle.slate_model.specs.Trees.{views_of}
 use Rattle.slate_model.specs.declared.manifest.Manifest.{Manifest}
@@ -23,11 +24,11 @@ use Rattle.slate_manifest_parts.specs.TypedManifests.{is_manifest}
 use Rattle.slate_encodable.specs.Unencodable.{early_field, late_field}
 use Rattle.slate_manifest_encoding.specs.Encoding.{encoded_manifest, encoded_with, unless_early}
 use Rattle.slate_layout.specs.Codec.{encoded, if_typed}
-use Rattle.slate_store.specs.Calls.{Told}
-use Rattle.slate_store.specs.Machines.{Goes, Stay, End, Stepped, Held}
+use Rattle.slate_store.specs.Machines.{Goes, Stay, End}
 use Rattle.slate_store.specs.declared.store_answer.StoreAnswer.{StoreAnswer}
 use Rattle.slate_store.specs.declared.store_answer.StoreAnswer.TheVariants.{Found, Got, Created, Replaced, Written, Deleted, Fault}
 use Rattle.slate_store.specs.declared.object.ObjectMetadata.{ObjectMetadata}
+use Rattle.slate_store.specs.declared.object.StoredObject.{StoredObject}
 use Rattle.slate_log.specs.AdvancePhase.{AdvanceGoes, advance_goes, read_goes_to, written_goes}
 use Rattle.slate_log.specs.declared.advance_phase.AdvancePhase.{AdvancePhase}
 use Rattle.slate_log.specs.declared.advance_phase.AdvancePhase.TheVariants as advancing
@@ -49,19 +50,28 @@ use Rattle.slate_updates.specs.Rules.{manifest_refusal}
 use Rattle.slate_updates.specs.RuleLaws.{IsOfRules, is_of_rules}
 use Rattle.slate_updates.proofs.Lawful.{causes}
 use Rattle.slate_updates.specs.declared.manifest_change.ManifestChange.TheVariants.{DropExpired}
-use Rattle.slate_gc.specs.Deletes.{has_object}
-use Rattle.slate_gc.specs.GcPass as whole
-use Rattle.slate_gc.specs.GcPass.{GcGoes}
-use Rattle.slate_gc.specs.Pass as gc
-use Rattle.slate_gc.specs.Pass.{PassGoes}
-use Rattle.slate_gc.specs.Picks.{picks}
-use Rattle.slate_gc.specs.declared.gc_pass.GcPass.{GcPass}
-use Rattle.slate_gc.specs.declared.gc_pass.GcPass.TheVariants as stages
-use Rattle.slate_gc.specs.declared.pass_counts.PassCounts.{PassCounts}
-use Rattle.slate_gc.specs.declared.pass_options.PassOptions.{PassOptions}
-use Rattle.slate_gc.specs.declared.pass_phase.PassPhase.{PassPhase}
-use Rattle.slate_gc.specs.declared.pass_phase.PassPhase.TheVariants as passing
-use Rattle.slate_protocol.specs.Works.{WorkGoes, asks, goes, read_on, commit_on, record_read_on, record_commit_on, put_end, pass_on}
+use Rattle.slate_events.specs.declared.filter_word.FilterWord.{FilterWord}
+use Rattle.slate_log.specs.TryRead.{some_value, try_reply, value_got}
+use Rattle.slate_passes.specs.Candidates.{candidates, heads_at}
+use Rattle.slate_passes.specs.GcPhase as whole
+use Rattle.slate_passes.specs.GcPhase.{GcGoes, moment_of_pass}
+use Rattle.slate_passes.specs.Pass as gc
+use Rattle.slate_passes.specs.Pass.{PassGoes}
+use Rattle.slate_passes.specs.Rows.{reads_greatest, target}
+use Rattle.slate_passes.specs.declared.gc_phase.GcPhase.{GcPhase}
+use Rattle.slate_passes.specs.declared.gc_phase.GcPhase.TheVariants as stages
+use Rattle.slate_passes.specs.declared.heads.Heads.{Heads}
+use Rattle.slate_passes.specs.declared.pass_counts.PassCounts.{PassCounts}
+use Rattle.slate_passes.specs.declared.pass_phase.PassPhase.{PassPhase}
+use Rattle.slate_passes.specs.declared.pass_phase.PassPhase.TheVariants as passing
+use Rattle.slate_passes.specs.declared.pass_settings.PassSettings.{PassSettings}
+use Rattle.slate_picks.specs.Filter.{picks}
+use Rattle.slate_picks.specs.Queue.{has_object}
+use Rattle.slate_referenced.specs.Named.{named_numbers}
+use Rattle.slate_referenced.specs.Referenced.{Versions, ReferencedGoes, referenced_goes, rest_goes, number_goes, first_goes, first_number}
+use Rattle.slate_referenced.specs.declared.referenced_phase.ReferencedPhase.{ReferencedPhase}
+use Rattle.slate_referenced.specs.declared.referenced_phase.ReferencedPhase.TheVariants as fetching
+use Rattle.slate_protocol.specs.Works.{WorkGoes, goes, read_on, commit_on, record_read_on, record_commit_on, put_end, pass_on, pass_ways}
 use Rattle.slate_protocol.specs.declared.work.Purpose.{Purpose}
 use Rattle.slate_protocol.specs.declared.uploads.Upload.{Upload}
 use Rattle.slate_protocol.specs.declared.work.Work.{Work}
@@ -201,38 +211,64 @@ plain_removal now n m = plain_wanted m.core.floor n m _ Plain (list_any (is_expi
 
 -- ---- passes
 
-plain_pass_listed : (min_age : ℕ) (now : ℤ) (found : List ObjectMetadata) (n : Option ℕ) → IsPlain (gc.listed_goes min_age now found n)
-plain_pass_listed min_age now found None = refl
-plain_pass_listed min_age now found (Some n) = tt
+plain_version_got : (o : Option StoredObject) → IsPlainResult (value_got decoded_manifest o)
+plain_version_got None = tt
+plain_version_got (Some object) = around_some (decoded_manifest object.bytes) (plain_version (u16_in object.bytes))
+  where
+    around_some : (r : Result Manifest SlateDBError) → IsPlainResult r → IsPlainResult (some_value r)
+    around_some (Ok m) h = tt
+    around_some (Err e) h = h
 
-plain_pass_list : (min_age : ℕ) (now : ℤ) (a : StoreAnswer) → IsPlain (gc.list_goes min_age now a)
-plain_pass_list min_age now (Found found) = plain_pass_listed min_age now found (greatest ManifestLog found)
-plain_pass_list min_age now _ = refl
+plain_try : (a : StoreAnswer) → IsPlainResult (try_reply decoded_manifest a)
+plain_try (Got object) = plain_version_got object
+plain_try _ = refl
 
-plain_pass_decoded : (n : ℕ) (found : List ObjectMetadata) (r : Result Manifest SlateDBError) → IsPlainResult r → IsPlain (gc.decoded_goes n found r)
-plain_pass_decoded n found (Ok m) h = tt
-plain_pass_decoded n found (Err e) h = h
+plain_rest : (left : List ℕ) (found : Versions) → IsPlain (rest_goes left found)
+plain_rest [] found = tt
+plain_rest (n ∷ left) found = tt
 
-plain_pass_get : (n : ℕ) (found : List ObjectMetadata) (a : StoreAnswer) → IsPlain (gc.get_goes decoded_manifest n found a)
-plain_pass_get n found (Got None) = refl
-plain_pass_get n found (Got (Some o)) = plain_pass_decoded n found (decoded_manifest o.bytes) (plain_version (u16_in o.bytes))
-plain_pass_get n found _ = refl
+plain_number : (n : ℕ) (left : List ℕ) (found : Versions) (r : Result (Option Manifest) SlateDBError) → IsPlainResult r → IsPlain (number_goes n left found r)
+plain_number n left found (Ok (Some m)) h = plain_rest left _
+plain_number n left found (Ok None) h = refl
+plain_number n left found (Err e) h = h
 
-plain_pass_moves : (picked : List ObjectMetadata) (k : Option ℕ) → IsPlain (gc.moves_to picked k)
-plain_pass_moves picked None = tt
-plain_pass_moves picked (Some k) = tt
+plain_first : (o : Option ℕ) (left : List ℕ) (found : Versions) (r : Result (Option Manifest) SlateDBError) → IsPlainResult r → IsPlain (first_goes o left found r)
+plain_first (Some n) left found r h = plain_number n left found r h
+plain_first None left found r h = refl
 
-plain_pass_above : (options : PassOptions) (n : ℕ) (candidates : List ObjectMetadata) (b : Bool) → IsPlain (if b then End passing.Over (Err (ManifestMissing n)) else gc.bounded_next options candidates)
-plain_pass_above options n candidates true = refl
-plain_pass_above options n candidates false = plain_pass_moves (picks options candidates) (greatest ManifestLog candidates)
+plain_referenced : (phase : ReferencedPhase) (a : StoreAnswer) → IsPlain (referenced_goes decoded_manifest phase a)
+plain_referenced (fetching.Getting left found) a = plain_first (first_number left) (drop 1 left) found (try_reply decoded_manifest a) (plain_try a)
+plain_referenced fetching.Over a = refl
 
-plain_pass_bounded : (options : PassOptions) (n : ℕ) (candidates : List ObjectMetadata) (b : Option ℕ) → IsPlain (gc.bounded_goes options n candidates b)
-plain_pass_bounded options n candidates None = refl
-plain_pass_bounded options n candidates (Some b) = plain_pass_above options n candidates (nat_le n b)
+plain_fetched : (heads : Heads) (g : ReferencedGoes) → IsPlain g → IsPlain (gc.fetched_goes heads g)
+plain_fetched heads (Stay phase) h = tt
+plain_fetched heads (End phase (Ok versions)) h = tt
+plain_fetched heads (End phase (Err e)) h = h
 
-plain_pass_bound : (options : PassOptions) (n : ℕ) (candidates : List ObjectMetadata) (a : StoreAnswer) → IsPlain (gc.bound_goes options n candidates a)
-plain_pass_bound options n candidates (Got o) = plain_pass_bounded options n candidates (boundary_got o)
-plain_pass_bound options n candidates _ = refl
+plain_pass_manifest : (least : ℕ) (g : Reply Manifest) → IsPlain g → IsPlain (gc.manifest_goes least g)
+plain_pass_manifest least (Stay phase) h = tt
+plain_pass_manifest least (End phase (Ok None)) h = refl
+plain_pass_manifest least (End phase (Ok (Some version))) h = plain_fetched (heads_at least version.0 version.1) _ (plain_rest (named_numbers version.0 version.1.core.checkpoints) ((version.0, version.1) ∷ []))
+plain_pass_manifest least (End phase (Err e)) h = h
+
+plain_pass_record : (g : Reply Record) → IsPlain g → IsPlain (gc.record_goes g)
+plain_pass_record (Stay phase) h = tt
+plain_pass_record (End phase (Ok None)) h = tt
+plain_pass_record (End phase (Ok (Some version))) h = tt
+plain_pass_record (End phase (Err e)) h = h
+
+plain_pass_manifests : (min_age : ℕ) (now : ℤ) (found : List ObjectMetadata) (n : Option ℕ) → IsPlain (gc.manifests_goes min_age now found n)
+plain_pass_manifests min_age now found None = refl
+plain_pass_manifests min_age now found (Some n) = tt
+
+plain_pass_decoded : (n count : ℕ) (found : List ObjectMetadata) (r : Result Manifest SlateDBError) → IsPlainResult r → IsPlain (gc.decoded_goes n count found r)
+plain_pass_decoded n count found (Ok m) h = tt
+plain_pass_decoded n count found (Err e) h = h
+
+plain_pass_get : (n count : ℕ) (found : List ObjectMetadata) (a : StoreAnswer) → IsPlain (gc.get_goes decoded_manifest n count found a)
+plain_pass_get n count found (Got None) = refl
+plain_pass_get n count found (Got (Some o)) = plain_pass_decoded n count found (decoded_manifest o.bytes) (plain_version (u16_in o.bytes))
+plain_pass_get n count found _ = refl
 
 plain_pass_left : (left : List ObjectMetadata) (counts : PassCounts) (some : Bool) → IsPlain (if some then Stay (passing.Deleting left counts) else End passing.Over (Ok counts))
 plain_pass_left left counts true = tt
@@ -240,6 +276,10 @@ plain_pass_left left counts false = tt
 
 plain_pass_next : (left : List ObjectMetadata) (counts : PassCounts) → IsPlain (gc.deletes_next left counts)
 plain_pass_next left counts = plain_pass_left left counts (has_object left)
+
+plain_pass_moves : (k : Option ℕ) (left : List ObjectMetadata) (counts : PassCounts) → IsPlain (gc.advance_to k left counts)
+plain_pass_moves None left counts = plain_pass_next left counts
+plain_pass_moves (Some k) left counts = tt
 
 plain_advance_test : (n tag : ℕ) (b : Bool) → IsPlain {P = AdvancePhase} {R = Unit {0}} (if b then End advancing.Over (Ok tt) else Stay (advancing.Replacing n tag))
 plain_advance_test n tag true = tt
@@ -264,10 +304,10 @@ plain_advance (advancing.Creating n) (Created tag) = plain_advance_written n tag
 plain_advance (advancing.Replacing n old) (Replaced tag) = plain_advance_written n tag
 plain_advance _ _ = refl
 
-plain_pass_advanced : (picked : List ObjectMetadata) (g : AdvanceGoes) → IsPlain g → IsPlain (gc.advanced_goes picked g)
-plain_pass_advanced picked (Stay phase) h = tt
-plain_pass_advanced picked (End phase (Ok u)) h = plain_pass_next picked _
-plain_pass_advanced picked (End phase (Err e)) h = h
+plain_pass_advanced : (left : List ObjectMetadata) (counts : PassCounts) (g : AdvanceGoes) → IsPlain g → IsPlain (gc.advanced_goes left counts g)
+plain_pass_advanced left counts (Stay phase) h = tt
+plain_pass_advanced left counts (End phase (Ok u)) h = plain_pass_next left counts
+plain_pass_advanced left counts (End phase (Err e)) h = h
 
 plain_pass_deleted : (rest : List ObjectMetadata) (counts : PassCounts) (a : StoreAnswer) → IsPlain (gc.deleted_goes rest counts a)
 plain_pass_deleted rest counts Deleted = plain_pass_next rest _
@@ -278,39 +318,73 @@ plain_pass_deletes : (left : List ObjectMetadata) (counts : PassCounts) (a : Sto
 plain_pass_deletes left counts a true = plain_pass_deleted (drop 1 left) counts a
 plain_pass_deletes left counts a false = refl
 
-plain_pass : (options : PassOptions) (now : ℤ) (phase : PassPhase) (a : StoreAnswer) → IsPlain (gc.pass_goes decoded_manifest options now phase a)
-plain_pass options now passing.Listing a = plain_pass_list options.min_age now a
-plain_pass options now (passing.Getting n found) a = plain_pass_get n found a
-plain_pass options now (passing.Bounding n candidates) a = plain_pass_bound options n candidates a
-plain_pass options now (passing.Advancing phase picked) a = plain_pass_advanced picked (advance_goes phase a) (plain_advance phase a)
-plain_pass options now (passing.Deleting left counts) a = plain_pass_deletes left counts a (has_object left)
-plain_pass options now passing.Over a = refl
+module _ (filter : FilterWord) (settings : PassSettings) (now : ℤ) where
+  abbrev allows : List ObjectMetadata → List ObjectMetadata
+  allows = (pass_ways filter).allows
 
-plain_removes : (now : ℤ) (r : Result (Option (CommitPhase Manifest)) SlateDBError) → IsPlainResult r → IsPlain (whole.removal_goes now r)
-plain_removes now (Ok (Some commit)) h = tt
-plain_removes now (Ok None) h = tt
-plain_removes now (Err e) h = h
+  plain_pass_chosen : (count : ℕ) (found : List ObjectMetadata) → IsPlain (gc.chosen_goes allows settings count found)
+  plain_pass_chosen count found = plain_pass_moves (target settings found) (picks allows settings.options.dry_run found) _
 
-plain_whole_read : (now : ℤ) (g : Reply Manifest) → IsPlain g → IsPlain (whole.read_on encoded now g)
-plain_whole_read now (Stay p) h = tt
-plain_whole_read now (End p (Ok None)) h = refl
-plain_whole_read now (End p (Ok (Some version))) h = plain_removes now (commit_of encoded DropExpired now version.0 version.1) (plain_removal now version.0 version.1)
-plain_whole_read now (End p (Err e)) h = h
+  plain_pass_above : (n count : ℕ) (found : List ObjectMetadata) (b : Bool) → IsPlain (if b then End passing.Over (Err (ManifestMissing n)) else gc.chosen_goes allows settings count found)
+  plain_pass_above n count found true = refl
+  plain_pass_above n count found false = plain_pass_chosen count found
 
-plain_whole_commit : (made : ℤ) (g : CommitGoes Manifest) → IsPlain g → IsPlain (whole.commit_on made g)
-plain_whole_commit made (Stay p) h = tt
-plain_whole_commit made (End p (Ok version)) h = tt
-plain_whole_commit made (End p (Err e)) h = h
+  plain_pass_bounded : (n count : ℕ) (found : List ObjectMetadata) (b : Option ℕ) → IsPlain (gc.bounded_goes allows settings n count found b)
+  plain_pass_bounded n count found None = refl
+  plain_pass_bounded n count found (Some b) = plain_pass_above n count found (nat_le n b)
 
-plain_collect : (g : PassGoes) → IsPlain g → IsPlain (whole.collect_on g)
-plain_collect (Stay p) h = tt
-plain_collect (End p (Ok counts)) h = tt
-plain_collect (End p (Err e)) h = h
+  plain_pass_bound : (n count : ℕ) (found : List ObjectMetadata) (a : StoreAnswer) → IsPlain (gc.bound_goes allows settings n count found a)
+  plain_pass_bound n count found (Got o) = plain_pass_bounded n count found (boundary_got o)
+  plain_pass_bound n count found _ = refl
 
-plain_gc : (options : PassOptions) (now : ℤ) (pass : GcPass) (a : StoreAnswer) → IsPlain (whole.gc_goes decoded_manifest encoded options now pass a)
-plain_gc options now (stages.Reading phase) a = plain_whole_read now _ (plain_read phase a)
-plain_gc options now (stages.Committing made phase) a = plain_whole_commit made _ (plain_commit phase a)
-plain_gc options now (stages.Collecting phase) a = plain_collect _ (plain_pass options now phase a)
+  plain_pass_found : (heads : Heads) (versions : Versions) (found : List ObjectMetadata) → IsPlain (gc.found_goes allows (pass_ways filter).files settings now heads versions found)
+  plain_pass_found heads versions found = test (reads_greatest settings.pass)
+    where
+      test : (b : Bool) → IsPlain (if b then gc.manifests_goes settings.options.min_age now found (greatest ManifestLog found)
+          else gc.chosen_goes allows settings (length found) (candidates (pass_ways filter).files settings.options.min_age now heads versions found settings.pass))
+      test true = plain_pass_manifests settings.options.min_age now found (greatest ManifestLog found)
+      test false = plain_pass_chosen (length found) (candidates (pass_ways filter).files settings.options.min_age now heads versions found settings.pass)
+
+  plain_pass_list : (heads : Heads) (versions : Versions) (a : StoreAnswer) → IsPlain (gc.list_goes allows (pass_ways filter).files settings now heads versions a)
+  plain_pass_list heads versions (Found found) = plain_pass_found heads versions found
+  plain_pass_list heads versions _ = refl
+
+  plain_pass : (phase : PassPhase) (a : StoreAnswer) → IsPlain (gc.pass_goes (pass_ways filter) settings now phase a)
+  plain_pass (passing.ReadingRecord phase) a = plain_pass_record _ (plain_record_read phase a)
+  plain_pass (passing.ReadingManifest least phase) a = plain_pass_manifest least _ (plain_read phase a)
+  plain_pass (passing.Fetching heads phase) a = plain_fetched heads _ (plain_referenced phase a)
+  plain_pass (passing.Listing heads versions) a = plain_pass_list heads versions a
+  plain_pass (passing.Getting n count found) a = plain_pass_get n count found a
+  plain_pass (passing.Bounding n count found) a = plain_pass_bound n count found a
+  plain_pass (passing.Advancing phase left counts) a = plain_pass_advanced left counts (advance_goes phase a) (plain_advance phase a)
+  plain_pass (passing.Deleting left counts) a = plain_pass_deletes left counts a (has_object left)
+  plain_pass passing.Over a = refl
+
+plain_removes : (pass : GcMessage) (now : ℤ) (r : Result (Option (CommitPhase Manifest)) SlateDBError) → IsPlainResult r → IsPlain (whole.removal_goes pass now r)
+plain_removes pass now (Ok (Some commit)) h = tt
+plain_removes pass now (Ok None) h = tt
+plain_removes pass now (Err e) h = h
+
+plain_whole_read : (pass : GcMessage) (now : ℤ) (g : Reply Manifest) → IsPlain g → IsPlain (whole.read_on encoded pass now g)
+plain_whole_read pass now (Stay p) h = tt
+plain_whole_read pass now (End p (Ok None)) h = refl
+plain_whole_read pass now (End p (Ok (Some version))) h = plain_removes pass now (commit_of encoded DropExpired now version.0 version.1) (plain_removal now version.0 version.1)
+plain_whole_read pass now (End p (Err e)) h = h
+
+plain_whole_commit : (pass : GcMessage) (made : ℤ) (g : CommitGoes Manifest) → IsPlain g → IsPlain (whole.commit_on pass made g)
+plain_whole_commit pass made (Stay p) h = tt
+plain_whole_commit pass made (End p (Ok version)) h = tt
+plain_whole_commit pass made (End p (Err e)) h = h
+
+plain_collect : (at : Option ℤ) (now : ℤ) (g : PassGoes) → IsPlain g → IsPlain (whole.collect_on at now g)
+plain_collect at now (Stay p) h = tt
+plain_collect at now (End p (Ok counts)) h = tt
+plain_collect at now (End p (Err e)) h = h
+
+plain_gc : (filter : FilterWord) (settings : PassSettings) (now : ℤ) (phase : GcPhase) (a : StoreAnswer) → IsPlain (whole.gc_goes (pass_ways filter) settings now phase a)
+plain_gc filter settings now (stages.Reading phase) a = plain_whole_read settings.pass now _ (plain_read phase a)
+plain_gc filter settings now (stages.Committing made phase) a = plain_whole_commit settings.pass made _ (plain_commit phase a)
+plain_gc filter settings now (stages.Collecting at phase) a = plain_collect at (moment_of_pass at now) _ (plain_pass filter settings (moment_of_pass at now) phase a)
 
 -- ---- works
 
@@ -336,10 +410,10 @@ around_record_commit purpose made db (Stay p) h = tt
 around_record_commit purpose made db (End p (Ok v)) h = tt
 around_record_commit purpose made db (End p (Err e)) h = h
 
-around_pass : (db : List ℕ) (options : PassOptions) (g : GcGoes) → IsPlain g → IsPlain (pass_on db options g)
-around_pass db options (Stay p) h = tt
-around_pass db options (End p (Ok counts)) h = tt
-around_pass db options (End p (Err e)) h = h
+around_pass : (db : List ℕ) (settings : PassSettings) (filter : FilterWord) (g : GcGoes) → IsPlain g → IsPlain (pass_on db settings filter g)
+around_pass db settings filter (Stay p) h = tt
+around_pass db settings filter (End p (Ok counts)) h = tt
+around_pass db settings filter (End p (Err e)) h = h
 
 around_put : (db : List ℕ) (upload : Upload) (bytes : List ℕ) (a : StoreAnswer) → IsPlain {P = Work} {R = Ended} (End (PutTable db upload bytes) (put_end upload a))
 around_put db upload bytes (Written tag) = tt
@@ -351,7 +425,7 @@ plain_work (CommitManifest purpose made db phase) now a = around_commit purpose 
 plain_work (ReadRecord purpose db phase) now a = around_record_read purpose db _ (plain_record_read phase a)
 plain_work (CommitRecord purpose made db phase) now a = around_record_commit purpose made db _ (plain_commit phase a)
 plain_work (PutTable db upload bytes) now a = around_put db upload bytes a
-plain_work (Pass db options pass) now a = around_pass db options _ (plain_gc options now pass a)
+plain_work (Pass db settings filter phase) now a = around_pass db settings filter _ (plain_gc filter settings now phase a)
 
 pub never_memory : (from to : Work) (now : ℤ) (a : StoreAnswer) (e : SlateDBError) → goes from now a ≡ End to (Err e) → is_memory e ≡ false
 never_memory from to now a e h = subst (λ (g : WorkGoes). IsPlain g) h (plain_work from now a)

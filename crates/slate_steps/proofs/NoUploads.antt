@@ -5,10 +5,11 @@ use Rattle.slate_records.specs.Records.{Record}
 use Rattle.slate_store.specs.Machines.{Stay, End}
 use Rattle.slate_store.specs.declared.step.Step.TheVariants.{Done}
 use Rattle.slate_store.specs.declared.store_answer.StoreAnswer.{StoreAnswer}
-use Rattle.slate_log.specs.CommitPhase.{CommitGoes, commit_goes}
-use Rattle.slate_log.specs.ReadPhase.{Reply, read_goes}
-use Rattle.slate_gc.specs.GcPass.{GcGoes}
-use Rattle.slate_gc.specs.declared.pass_options.PassOptions.{PassOptions}
+use Rattle.slate_log.specs.CommitPhase.{CommitGoes}
+use Rattle.slate_log.specs.ReadPhase.{Reply}
+use Rattle.slate_events.specs.declared.filter_word.FilterWord.{FilterWord}
+use Rattle.slate_passes.specs.GcPhase.{GcGoes}
+use Rattle.slate_passes.specs.declared.pass_settings.PassSettings.{PassSettings}
 use Rattle.slate_protocol.specs.Works.{WorkGoes, goes, read_on, commit_on, record_read_on, record_commit_on, pass_on}
 use Rattle.slate_protocol.specs.declared.work.Ended.{Ended}
 use Rattle.slate_protocol.specs.declared.work.Purpose.{Purpose}
@@ -44,10 +45,10 @@ record_commit_else purpose made db (Stay p) = tt
 record_commit_else purpose made db (End p (Ok v)) = refl
 record_commit_else purpose made db (End p (Err e)) = tt
 
-pass_else : (db : List ℕ) (options : PassOptions) (g : GcGoes) → EndsElse (pass_on db options g)
-pass_else db options (Stay p) = tt
-pass_else db options (End p (Ok counts)) = refl
-pass_else db options (End p (Err e)) = tt
+pass_else : (db : List ℕ) (settings : PassSettings) (filter : FilterWord) (g : GcGoes) → EndsElse (pass_on db settings filter g)
+pass_else db settings filter (Stay p) = tt
+pass_else db settings filter (End p (Ok counts)) = refl
+pass_else db settings filter (End p (Err e)) = tt
 
 work_else : (work : Work) (now : ℤ) (a : StoreAnswer) → is_upload work ≡ false → EndsElse (goes work now a)
 work_else (ReadManifest purpose db phase) now a h = read_else purpose db _
@@ -55,7 +56,7 @@ work_else (CommitManifest purpose made db phase) now a h = commit_else purpose m
 work_else (ReadRecord purpose db phase) now a h = record_read_else purpose db _
 work_else (CommitRecord purpose made db phase) now a h = record_commit_else purpose made db _
 work_else (PutTable db upload bytes) now a h = absurd (true≢false h)
-work_else (Pass db options pass) now a h = pass_else db options _
+work_else (Pass db settings filter phase) now a h = pass_else db settings filter _
 
 pub no_upload : (from to : Work) (now : ℤ) (a : StoreAnswer) (end : Ended) → is_upload from ≡ false → WorkGoesOn from to now a (Done (Ok end)) → is_table_put end ≡ false
 no_upload from to now a end h (inl gives) = subst (λ (g : WorkGoes). EndsElse g) gives (work_else from now a h)

@@ -1,5 +1,5 @@
 -- A commit that gave a version was at its boundary: its last call was one that reads, and it can be put back.
-use Rattle.std.proofs.Common.{◌≡◌, ℕ, ℤ, nat_le, Bool, true, false, true≢false, if◌then◌else◌, List, Option, Some, None, Ok, Err, refl, sym, ◌∙◌, subst, inl, inr}
+use Rattle.std.proofs.Common.{◌≡◌, ℕ, ℤ, nat_le, Bool, true, false, true≢false, if◌then◌else◌, List, Option, Some, None, Ok, Err, refl, sym, subst, inl, inr}
 use Rattle.slate_ids.specs.declared.error.SlateDBError.{SlateDBError}
 use Rattle.slate_model.specs.declared.manifest.Manifest.{Manifest}
 use Rattle.slate_records.specs.Records.{Record}

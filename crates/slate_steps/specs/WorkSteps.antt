@@ -43,7 +43,7 @@ purpose_of (CommitManifest purpose now db phase) = purpose
 purpose_of (ReadRecord purpose db phase) = purpose
 purpose_of (CommitRecord purpose now db phase) = purpose
 purpose_of (PutTable db upload bytes) = Once
-purpose_of (Pass db options phase) = Once
+purpose_of (Pass db settings filter phase) = Once
 
 -- a read that gave this manifest, put back to its last phase; other work as it is
 abbrev pub read_again : ℕ → Manifest → Work → Work
@@ -52,7 +52,7 @@ read_again n m (CommitManifest purpose now db phase) = CommitManifest purpose no
 read_again n m (ReadRecord purpose db phase) = ReadRecord purpose db phase
 read_again n m (CommitRecord purpose now db phase) = CommitRecord purpose now db phase
 read_again n m (PutTable db upload bytes) = PutTable db upload bytes
-read_again n m (Pass db options phase) = Pass db options phase
+read_again n m (Pass db settings filter phase) = Pass db settings filter phase
 
 -- a commit that gave this manifest, put back to its last phase; other work as it is
 abbrev pub commit_again : ℕ → Manifest → Work → Work
@@ -61,7 +61,7 @@ commit_again n m (CommitManifest purpose now db phase) = CommitManifest purpose 
 commit_again n m (ReadRecord purpose db phase) = ReadRecord purpose db phase
 commit_again n m (CommitRecord purpose now db phase) = CommitRecord purpose now db phase
 commit_again n m (PutTable db upload bytes) = PutTable db upload bytes
-commit_again n m (Pass db options phase) = Pass db options phase
+commit_again n m (Pass db settings filter phase) = Pass db settings filter phase
 
 -- a read that gave this record, put back to its last phase; other work as it is
 abbrev pub record_read_again : ℕ → Record → Work → Work
@@ -70,7 +70,7 @@ record_read_again n r (CommitManifest purpose now db phase) = CommitManifest pur
 record_read_again n r (ReadRecord purpose db phase) = ReadRecord purpose db (reading.Bounding n r)
 record_read_again n r (CommitRecord purpose now db phase) = CommitRecord purpose now db phase
 record_read_again n r (PutTable db upload bytes) = PutTable db upload bytes
-record_read_again n r (Pass db options phase) = Pass db options phase
+record_read_again n r (Pass db settings filter phase) = Pass db settings filter phase
 
 -- a read that found no record, put back to its one phase; other work as it is
 abbrev pub record_list_again : Work → Work
@@ -79,7 +79,7 @@ record_list_again (CommitManifest purpose now db phase) = CommitManifest purpose
 record_list_again (ReadRecord purpose db phase) = ReadRecord purpose db reading.Listing
 record_list_again (CommitRecord purpose now db phase) = CommitRecord purpose now db phase
 record_list_again (PutTable db upload bytes) = PutTable db upload bytes
-record_list_again (Pass db options phase) = Pass db options phase
+record_list_again (Pass db settings filter phase) = Pass db settings filter phase
 
 -- a commit that gave this record, put back to its last phase; other work as it is
 abbrev pub record_commit_again : ℕ → Record → Work → Work
@@ -88,7 +88,7 @@ record_commit_again n r (CommitManifest purpose now db phase) = CommitManifest p
 record_commit_again n r (ReadRecord purpose db phase) = ReadRecord purpose db phase
 record_commit_again n r (CommitRecord purpose now db phase) = CommitRecord purpose now db (committing.Bounding n r)
 record_commit_again n r (PutTable db upload bytes) = PutTable db upload bytes
-record_commit_again n r (Pass db options phase) = Pass db options phase
+record_commit_again n r (Pass db settings filter phase) = Pass db settings filter phase
 
 -- work that ended with a version, or without a record, put back to its last phase
 abbrev pub rewound : Ended → Work → Work

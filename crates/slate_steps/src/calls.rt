@@ -15,11 +15,11 @@ ghost use Rattle.slate_steps.specs.Onward.{next_of, is_other_call, EndBegins};
 use bytes::Bytes;
 use slate_compactor::LocalState;
 use slate_events::{Call, FlushTable, Reply};
-use slate_gc::{FilterWord, GcPass, PassOptions};
-use slate_ids::{ByteList, OutOfMemory, SlateDBError, StateCause, Ulid};
+use slate_ids::{ByteList, GcMessage, OutOfMemory, SlateDBError, StateCause, Ulid};
 use slate_layout::encode_info;
 use slate_log::ReadPhase;
 use slate_model::{Plain, SsTableInfo};
+use slate_passes::{GarbageCollectorDirectoryOptions, GcPhase, PassSettings};
 use slate_protocol::{Facts, Purpose, Upload, Uploads, Work};
 use std::alloc::Global;
 
@@ -161,20 +161,19 @@ fn begin_upload(
     }
 }
 
-/// The options of a pass.
-pub(crate) fn pass_options(
-    alloc: Global,
-    min_age: u64,
-    dry_run: bool,
-    filter: &FilterWord,
-) -> Result<PassOptions, OutOfMemory>
-    ensures { IfOk result (λ o. o ≡ calls.pass_options min_age dry_run filter.now) }
+// The settings of a pass.
+fn pass_settings(pass: GcMessage, min_age: u64, dry_run: bool) -> PassSettings
+    ensures { result ≡ calls.pass_settings pass min_age dry_run }
 {
-    Ok(PassOptions {
-        min_age,
-        dry_run,
-        filter: filter.copy(alloc)?,
-    })
+    PassSettings {
+        pass,
+        options: GarbageCollectorDirectoryOptions {
+            min_age,
+            interval: None,
+            dry_run,
+        },
+        boundary_files_enabled: true,
+    }
 }
 
 // The first work of a call other than an upload and the end of a compaction.
@@ -192,13 +191,13 @@ fn first_work(alloc: Global, facts: &Facts, call: &Call) -> Result<Work, OutOfMe
             Ok(Work::ReadRecord(Purpose::Once, facts.db, ReadPhase::Listing))
         }
         Call::Pass {
+            pass,
             min_age,
             dry_run,
             filter,
-            ..
         } => {
-            let options = pass_options(alloc, *min_age, *dry_run, filter)?;
-            Ok(Work::Pass(facts.db, options, GcPass::Reading(ReadPhase::Listing)))
+            let settings = pass_settings(*pass, *min_age, *dry_run);
+            Ok(Work::Pass(facts.db, settings, filter.copy(alloc)?, GcPhase::start()))
         }
         _ => Ok(Work::ReadManifest(Purpose::Once, facts.db, ReadPhase::Listing)),
     }

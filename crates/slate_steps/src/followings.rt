@@ -9,11 +9,10 @@ ghost use Rattle.slate_protocol.specs.declared.work.Work.TheVariants as work;
 ghost use Rattle.slate_steps.specs.Onward.{next_of};
 ghost use Rattle.slate_updates.specs.Checkpoints.{checkpoint_at};
 
-use crate::calls::{Onward, pass_options, refuse};
+use crate::calls::{Onward, refuse};
 use slate_compactor::LocalState;
 use slate_compactor_changes::compactor_fence;
 use slate_events::{Call, Reply};
-use slate_gc::{GcPass, PassPhase};
 use slate_ids::{CheckpointId, DbPath, OutOfMemory, SlateDBError};
 use slate_log::ReadPhase;
 use slate_model::{Compactions, Manifest, ManifestCore};
@@ -100,15 +99,6 @@ fn done_once(
         Call::WriteCheckpoint { id, .. } => checkpoint_reply(*id, manifest),
         Call::ReplaceCheckpoint { id, .. } => checkpoint_reply(*id, manifest),
         Call::RefreshCheckpoint { id, .. } => checkpoint_reply(*id, manifest),
-        Call::Pass {
-            min_age,
-            dry_run,
-            filter,
-            ..
-        } => {
-            let options = pass_options(alloc, *min_age, *dry_run, filter)?;
-            Onward::Go(Work::Pass(facts.db, options, GcPass::Collecting(PassPhase::Listing)))
-        }
         _ => Onward::Finish(Reply::Done),
     })
 }

@@ -7,11 +7,13 @@ ghost use Rattle.slate_protocol.specs.declared.work.Work.TheVariants as work;
 ghost use Rattle.slate_steps.specs.WorkSteps.{WorkGoesOn, AtEnd, OutReading, purpose_of as purpose_at, is_upload as is_upload_work};
 ghost use Rattle.slate_steps.specs.WorkSteps as rewinding;
 
-use slate_gc::{GcPass, PassOptions};
+use slate_events::FilterWord;
 use slate_ids::{ByteList, DbPath, Millis, ObjectPath, OutOfMemory, Ulid};
 use slate_layout::{CompactionsCodec, ManifestCodec};
 use slate_log::{CommitPhase, LogKind, ReadPhase, Sequenced};
 use slate_model::{Compactions, Manifest};
+use slate_passes::{GcPhase, Logs, PassSettings};
+use slate_picks::PlainWalGc;
 use slate_protocol::{Ended, Purpose, Work};
 use slate_store::{Step, StoreAnswer, StoreCall};
 use std::alloc::Global;
@@ -54,7 +56,7 @@ pub(crate) fn asked(alloc: Global, work: &Work) -> Result<StoreCall, OutOfMemory
         Work::ReadRecord(_, db, phase) => Ok(phase.asks(&records(*db))),
         Work::CommitRecord(_, _, db, phase) => phase.asks(alloc, &records(*db)),
         Work::PutTable(db, upload, bytes) => put_call(alloc, *db, upload.table, bytes),
-        Work::Pass(db, _, phase) => phase.asks(alloc, &manifests(*db)),
+        Work::Pass(db, settings, _, phase) => phase.asks(alloc, *db, settings.pass),
     }
 }
 
@@ -144,16 +146,23 @@ fn record_commit_goes_on(
 fn pass_goes_on(
     alloc: Global,
     db: DbPath,
-    options: &PassOptions,
-    phase: &mut GcPass,
+    settings: &PassSettings,
+    filter: &FilterWord,
+    phase: &mut GcPhase,
     moment: Millis,
     answer: &StoreAnswer,
 ) -> Step<Ended>
-    ensures goes { WorkGoesOn (work.Pass db options.now phase.old) (work.Pass db options.now phase.new)
-        moment answer.now result }
-    ensures out { OutReading (work.Pass db options.now phase.old) result }
+    ensures goes { WorkGoesOn (work.Pass db settings.now filter.now phase.old)
+        (work.Pass db settings.now filter.now phase.new) moment answer.now result }
+    ensures out { OutReading (work.Pass db settings.now filter.now phase.old) result }
 {
-    match phase.goes_on(alloc, &manifests(db), options, moment, answer) {
+    let logs = Logs {
+        db,
+        manifests: ManifestCodec,
+        records: CompactionsCodec,
+    };
+    let wal: Option<&PlainWalGc> = None;
+    match phase.goes_on(alloc, &logs, Some(filter), wal, settings, moment, answer) {
         Step::Again => Step::Again,
         Step::Done(Ok(counts)) => Step::Done(Ok(Ended::Passed(counts))),
         Step::Done(Err(e)) => Step::Done(Err(e)),
@@ -170,7 +179,7 @@ pub fn is_due(work: &Work) -> bool
         Work::ReadRecord(_, _, phase) => phase.due(),
         Work::CommitRecord(_, _, _, phase) => phase.due(),
         Work::PutTable(_, _, _) => true,
-        Work::Pass(_, _, phase) => phase.due(),
+        Work::Pass(_, _, _, phase) => phase.due(),
     }
 }
 
@@ -183,7 +192,7 @@ fn purpose_of(work: &Work) -> Purpose
         Work::CommitManifest(purpose, _, _, _) => *purpose,
         Work::ReadRecord(purpose, _, _) => *purpose,
         Work::CommitRecord(purpose, _, _, _) => *purpose,
-        Work::PutTable(_, _, _) | Work::Pass(_, _, _) => Purpose::Once,
+        Work::PutTable(_, _, _) | Work::Pass(_, _, _, _) => Purpose::Once,
     }
 }
 
@@ -197,7 +206,7 @@ fn db_of(work: &Work) -> DbPath
         Work::ReadRecord(_, db, _) => *db,
         Work::CommitRecord(_, _, db, _) => *db,
         Work::PutTable(db, _, _) => *db,
-        Work::Pass(db, _, _) => *db,
+        Work::Pass(db, _, _, _) => *db,
     }
 }
 
@@ -229,7 +238,9 @@ pub(crate) fn goes_on(
         Work::ReadRecord(_, _, phase) => record_read_goes_on(alloc, purpose, db, phase, answer),
         Work::CommitRecord(_, _, _, phase) => record_commit_goes_on(purpose, db, phase, answer),
         Work::PutTable(_, _, _) => unreachable!(),
-        Work::Pass(_, options, phase) => { pass_goes_on(alloc, db, options, phase, moment, answer) }
+        Work::Pass(_, settings, filter, phase) => {
+            pass_goes_on(alloc, db, settings, filter, phase, moment, answer)
+        }
     }
 }
 

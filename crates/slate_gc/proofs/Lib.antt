@@ -1,4 +1,0 @@
-mod Kept
-mod Starts
-mod PassFaults
-mod GcFaults

@@ -1,8 +1,0 @@
-use Rattle.std.proofs.Common.{◌≡◌, ◌++◌, drop}
-use Rattle.slate_gc.specs.Picks.{unneeded}
-use Rattle.slate_gc.proofs.candidates.unneeded.Given as goal
-
--- what was kept so far, and what follows
-abbrev pub invariant-loop-object : goal.invariant-loop-object
-invariant-loop-object l =
-    l.objects ++ unneeded l.greatest l.checkpoints (drop l.object-index l.found) ≡ unneeded l.greatest l.checkpoints l.found
