@@ -1,0 +1,139 @@
+-- A pass as a plain call: it is driven to its end, and begins again after a conflict.
+use Rattle.std.specs.Prelude.{◌≡◌, ◌==◌, ◌&&◌, ◌||◌, nat_lt, ℕ, ℤ, Bool, true, false, List, Result, Ok, Err, if◌then◌else◌}
+use Rattle.slate_collector.specs.Ended.{Ended}
+use Rattle.slate_ids.specs.Answers.{OrMemory, is_conflict}
+use Rattle.slate_ids.specs.declared.error.SlateDBError.{SlateDBError}
+use Rattle.slate_ids.specs.declared.gc_message.GcMessage.{GcMessage}
+use Rattle.slate_log.specs.AdvancePhase.{is_bounding}
+use Rattle.slate_log.specs.ReadPhase.{is_listing}
+use Rattle.slate_passes.specs.GcPhase.{GcGoes, gc_asks, gc_goes, gc_start}
+use Rattle.slate_passes.specs.Ways.{Ways}
+use Rattle.slate_passes.specs.declared.gc_phase.GcPhase.{GcPhase}
+use Rattle.slate_passes.specs.declared.gc_phase.GcPhase.TheVariants.{Reading, Committing, Collecting}
+use Rattle.slate_passes.specs.declared.pass_counts.PassCounts.{PassCounts}
+use Rattle.slate_passes.specs.declared.pass_phase.PassPhase.{PassPhase}
+use Rattle.slate_passes.specs.declared.pass_phase.PassPhase.TheVariants.{ReadingRecord, ReadingManifest, Fetching, Listing, Getting, Bounding, Advancing, Deleting, Over}
+use Rattle.slate_passes.specs.declared.pass_settings.PassSettings.{PassSettings}
+use Rattle.slate_store.specs.Calls.{Told}
+use Rattle.slate_store.specs.Machines.{Goes, Stay, End}
+use Rattle.slate_store.specs.Runs.{Ran, Began}
+use Rattle.slate_store.specs.declared.store_answer.StoreAnswer.{StoreAnswer}
+use Rattle.slate_store.specs.declared.store_call.StoreCall.{StoreCall}
+
+-- ---- which steps use a turn
+
+-- how many of its stages a pass has left, this one included, once the expired checkpoints are removed
+abbrev pub stages_within : PassPhase → ℕ
+stages_within (ReadingRecord phase) = 8
+stages_within (ReadingManifest least phase) = 7
+stages_within (Fetching heads phase) = 6
+stages_within (Listing heads versions) = 5
+stages_within (Getting n listed found) = 4
+stages_within (Bounding n listed found) = 3
+stages_within (Advancing phase left counts) = 2
+stages_within (Deleting left counts) = 1
+stages_within Over = 0
+
+-- the same of a whole pass
+abbrev pub stages_left : GcPhase → ℕ
+stages_left (Reading phase) = 10
+stages_left (Committing now phase) = 9
+stages_left (Collecting at phase) = stages_within phase
+
+-- whether a stage that may start again is at its start: a read of the latest version, or the advance of the boundary
+abbrev pub begins_within : PassPhase → Bool
+begins_within (ReadingRecord phase) = is_listing phase
+begins_within (ReadingManifest least phase) = is_listing phase
+begins_within (Fetching heads phase) = false
+begins_within (Listing heads versions) = false
+begins_within (Getting n listed found) = false
+begins_within (Bounding n listed found) = false
+begins_within (Advancing phase left counts) = is_bounding phase
+begins_within (Deleting left counts) = false
+begins_within Over = false
+
+-- the same of a whole pass
+abbrev pub begins_stage : GcPhase → Bool
+begins_stage (Reading phase) = is_listing phase
+begins_stage (Committing now phase) = false
+begins_stage (Collecting at phase) = begins_within phase
+
+-- whether a pass that had so many stages left starts a stage again
+abbrev pub turned_from : ℕ → GcPhase → Bool
+turned_from stages to = (stages == stages_left to) && begins_stage to
+
+-- whether a step used a turn: a version was gone between list and read, or at or below the boundary, or a race on the boundary was lost,
+-- and the stage starts again
+abbrev pub uses_turn : GcPhase → GcPhase → Bool
+uses_turn from to = turned_from (stages_left from) to
+
+-- ---- the plain call
+
+-- a pass, and whether its last step used a turn
+abbrev pub Turn : Type 0
+Turn = GcPhase × Bool
+
+abbrev pub is_turned : Turn → Bool
+is_turned turn = turn.1
+
+-- a pass at its start
+abbrev pub first_turn : Turn
+first_turn = (gc_start, false)
+
+-- the one call of each phase
+abbrev pub turn_asks : List ℕ → GcMessage → Turn → StoreCall
+turn_asks db pass turn = gc_asks db pass turn.0
+
+-- how the plain call goes on
+abbrev pub TurnGoes : Type 0
+TurnGoes = Goes Turn PassCounts
+
+-- after a step of the pass: a conflict uses a turn, and leads back to the start
+abbrev pub turned_on : Turn → GcGoes → TurnGoes
+turned_on from (Stay to) = Stay (to, uses_turn from.0 to)
+turned_on from (End to (Ok counts)) = End (to, from.1) (Ok counts)
+turned_on from (End to (Err e)) = if is_conflict e then Stay (gc_start, true) else End (to, from.1) (Err e)
+
+-- all steps are at one moment
+abbrev pub turn_goes : Ways → PassSettings → ℤ → Turn → StoreAnswer → TurnGoes
+turn_goes ways settings moment from answer = turned_on from (gc_goes ways settings moment from.0 answer)
+
+-- whether a turn was used, or fewer stages are left than these
+abbrev pub is_through : ℕ → Turn → Bool
+is_through stages turn = is_turned turn || nat_lt (stages_left turn.0) stages
+
+-- ---- how a pass ended
+
+-- how many of its picks a pass has deleted, while it deletes
+abbrev pub deleted_within : PassPhase → ℕ
+deleted_within (ReadingRecord phase) = 0
+deleted_within (ReadingManifest least phase) = 0
+deleted_within (Fetching heads phase) = 0
+deleted_within (Listing heads versions) = 0
+deleted_within (Getting n listed found) = 0
+deleted_within (Bounding n listed found) = 0
+deleted_within (Advancing phase left counts) = 0
+deleted_within (Deleting left counts) = counts.deleted
+deleted_within Over = 0
+
+-- the same of a whole pass
+abbrev pub deleted_at : GcPhase → ℕ
+deleted_at (Reading phase) = 0
+deleted_at (Committing now phase) = 0
+deleted_at (Collecting at phase) = deleted_within phase
+
+-- how many it deleted where it ends: its counts say so; where memory ran out it stands at its deletes, and any other refusal comes before the first
+abbrev pub deleted_by : Result PassCounts SlateDBError → GcPhase → ℕ
+deleted_by (Ok counts) to = counts.deleted
+deleted_by (Err e) to = deleted_at to
+
+-- the pass ran to this phase with so many tries, or memory ran out there
+abbrev pub TurnsRan : Ways → List ℕ → PassSettings → ℤ → ℕ → Told → Told → Turn → Result PassCounts SlateDBError → Type 0
+TurnsRan ways db settings moment tries old new to result =
+    OrMemory result (Began is_turned (turn_asks db settings.pass) (turn_goes ways settings moment) moment tries old new first_turn to)
+    (Ran is_turned (turn_asks db settings.pass) (turn_goes ways settings moment) moment tries old new first_turn to result)
+
+-- a whole pass ran at one moment, with so many tries, and ended so
+abbrev pub PassRan : Ways → List ℕ → PassSettings → ℤ → ℕ → Told → Told → Ended → Type 0
+PassRan ways db settings moment tries old new ended =
+    (to : Turn) × TurnsRan ways db settings moment tries old new to ended.result × (ended.pass ≡ settings.pass) × (ended.deleted ≡ deleted_by ended.result to.0)

@@ -1,0 +1,36 @@
+-- A stage of a pass within its plain call.
+use Rattle.std.specs.Prelude.{◌≡◌, ◌⊎◌, ◌<◌, ◌-◌, ℕ, ℤ, Bool, true, false, Err}
+use Rattle.slate_collector.specs.PassTurns.{Turn, TurnGoes, is_turned, stages_left}
+use Rattle.slate_ids.specs.Answers.{OrMemory}
+use Rattle.slate_ids.specs.declared.error.SlateDBError.TheVariants.{Contended}
+use Rattle.slate_passes.specs.declared.pass_counts.PassCounts.{PassCounts}
+use Rattle.slate_store.specs.Calls.{Told}
+use Rattle.slate_store.specs.Runs.{Began, Ran, Running}
+use Rattle.slate_store.specs.declared.step.Step.{Step}
+use Rattle.slate_store.specs.declared.step.Step.TheVariants.{Again, Done}
+use Rattle.slate_store.specs.declared.store_answer.StoreAnswer.{StoreAnswer}
+use Rattle.slate_store.specs.declared.store_call.StoreCall.{StoreCall}
+
+-- a turn is used, where one is left besides; with the last one the call is over
+pub record UsesTurn (asks : Turn → StoreCall) (goes : Turn → StoreAnswer → TurnGoes) (moment : ℤ) (tries : ℕ) (first new : Told) (start to : Turn) (left : ℕ) : Type 0 where
+  pub again : 1 < left → Running is_turned asks goes moment tries first new start to (left - 1)
+  pub last : left ≡ 1 → Ran is_turned asks goes moment tries first new start to (Err Contended)
+
+-- the plain call goes on, and a turn is used or not
+abbrev pub GoesFurther : Bool → (Turn → StoreCall) → (Turn → StoreAnswer → TurnGoes) → ℤ → ℕ → Told → Told → Turn → Turn → ℕ → Type 0
+GoesFurther true asks goes moment tries first new start to left = UsesTurn asks goes moment tries first new start to left
+GoesFurther false asks goes moment tries first new start to left = Running is_turned asks goes moment tries first new start to left
+
+-- what becomes of a plain call that had so many tries left
+abbrev pub Becomes : (Turn → StoreCall) → (Turn → StoreAnswer → TurnGoes) → ℤ → ℕ → Told → Told → Turn → Turn → ℕ → Step PassCounts → Type 0
+Becomes asks goes moment tries first new start to left Again = GoesFurther (is_turned to) asks goes moment tries first new start to left
+Becomes asks goes moment tries first new start to left (Done r) = OrMemory r (Began is_turned asks goes moment tries first new start to) (Ran is_turned asks goes moment tries first new start to r)
+
+-- whatever plain call stands there, it goes on so
+abbrev pub Along : (Turn → StoreCall) → (Turn → StoreAnswer → TurnGoes) → ℤ → Told → Told → Turn → Turn → Step PassCounts → Type 0
+Along asks goes moment old new from to step =
+    (tries left : ℕ) (first : Told) (start : Turn) → Running is_turned asks goes moment tries first old start from left → Becomes asks goes moment tries first new start to left step
+
+-- a turn is used, or fewer stages are left
+abbrev pub Leaves : Turn → Turn → Type 0
+Leaves from to = (is_turned to ≡ true) ⊎ (stages_left to.0 < stages_left from.0)
