@@ -153,8 +153,13 @@ pub(crate) fn successor(alloc: Global, prefix: &[u8]) -> Result<Option<Vec<u8>>,
         return Ok(None);
     }
     let mut bytes = Vec::from_slice(alloc, &prefix[..used - 1])?;
-    bytes.push(prefix[used - 1] + 1)?;
-    Ok(Some(bytes))
+    match bytes.push(prefix[used - 1] + 1) {
+        Ok(()) => Ok(Some(bytes)),
+        Err(e) => {
+            drop(bytes);
+            Err(OutOfMemory::from(e))
+        }
+    }
 }
 
 /// The end before a key, and none without it.

@@ -66,10 +66,14 @@ impl BytesRange {
         ensures { IfOk result (λ r. r
             ≡ record { start = bound_map (λ s. s.now) start.entry; end = bound_map (λ s. s.now) end.entry }) }
     {
-        Ok(BytesRange {
-            start: copied(alloc, start)?,
-            end: copied(alloc, end)?,
-        })
+        let start = copied(alloc, start)?;
+        match copied(alloc, end) {
+            Ok(end) => Ok(BytesRange { start, end }),
+            Err(e) => {
+                drop(start);
+                Err(e)
+            }
+        }
     }
 
     /// The keys that begin with `prefix`: from the prefix to its successor, without an end where all its bytes are 255.
@@ -79,10 +83,14 @@ impl BytesRange {
         ensures keys { (key : List ℕ) → All (λ b. b < 2 ^ 8) key
             → has_key (prefix_range prefix.now) key ≡ keys.begins_with prefix.now key }
     {
-        Ok(BytesRange {
-            start: Bound::Included(Bytes::copy_from_slice(alloc, prefix)?),
-            end: end_before(successor(alloc, prefix)?)?,
-        })
+        let end = end_before(successor(alloc, prefix)?)?;
+        match copied(alloc, Bound::Included(prefix)) {
+            Ok(start) => Ok(BytesRange { start, end }),
+            Err(e) => {
+                drop(end);
+                Err(e)
+            }
+        }
     }
 
     // A range of other owners of these keys.
@@ -94,10 +102,14 @@ impl BytesRange {
         ensures { IfOk result
             (λ r. r ≡ record { start = pointed start.entry; end = pointed end.entry }) }
     {
-        Ok(BytesRange {
-            start: owned(start)?,
-            end: owned(end)?,
-        })
+        let start = owned(start)?;
+        match owned(end) {
+            Ok(end) => Ok(BytesRange { start, end }),
+            Err(e) => {
+                drop(start);
+                Err(e)
+            }
+        }
     }
 
     /// The same range, without keys of its own.

@@ -6,11 +6,12 @@ ghost use Rattle.slate_ids.specs.Codes.{code_of};
 
 use crate::checkpoint_id::CheckpointId;
 use crate::out_of_memory::OutOfMemory;
-use crate::plain::Plain;
+use crate::plain::{Plain, clone_both};
 use crate::text::Text;
 use crate::ulid::Ulid;
 use bytes::Bytes;
 use std::alloc::{AllocError, AllocFailed, Global};
+use std::fmt;
 use thiserror::Error;
 
 /// The update rule that a new version breaks. The others have refusals of their own.
@@ -79,94 +80,71 @@ pub enum StateCause {
 #[derive(Debug, Drop, Error)]
 pub enum SlateDBError {
     /// An object stood at the number (no boundary), or the boundary was at or above it.
-    #[error("TransactionalObjectVersionExists")]
     TransactionalObjectVersionExists {
         number: u64,
         boundary: Option<u64>,
     },
     /// The version read has the greater epoch `read`.
-    #[error("Fenced")]
     Fenced {
         own: u64,
         read: u64,
     },
     /// The log has no version.
-    #[error("Data error: failed to find latest transactional object (e.g. manifest) version")]
     LatestTransactionalObjectVersionMissing,
     /// This version wasn't there at its read.
-    #[error("ManifestMissing")]
     ManifestMissing(u64),
     /// The manifest lacks the id.
-    #[error("Data error: checkpoint missing. checkpoint_id=`{0}`")]
     CheckpointMissing(CheckpointId),
     /// An id is older than what stands.
-    #[error("InvalidClockTick")]
     InvalidClockTick {
         last_tick: i64,
         next_tick: i64,
     },
     /// The new version breaks this rule.
-    #[error("UpdateRefused")]
     UpdateRefused(UpdateRule),
     /// The state doesn't allow the call.
-    #[error("Data error: invalid DB state error")]
     InvalidDBState(StateCause),
     /// A checked delete of a number that is still needed.
-    #[error("InvalidDeletion")]
     InvalidDeletion(u64),
     /// Fewer than two bytes of a manifest.
-    #[error("EmptyManifest")]
     EmptyManifest,
     /// Fewer than two bytes of a record.
-    #[error("InvalidCompaction")]
     InvalidCompaction,
     /// Version bytes that no layout has.
-    #[error("InvalidVersion")]
     InvalidVersion {
         format: FormatName,
         actual: u16,
     },
     /// Bytes outside the layout.
-    #[error("Corrupt")]
     Corrupt(FormatName),
     /// A value that has no bytes.
-    #[error("Unencodable")]
     Unencodable(FieldName),
     /// The compactor's segment of this prefix holds data and the writer has no such segment.
-    #[error("SegmentWithoutWriter")]
     SegmentWithoutWriter(Bytes),
     /// Two prefixes of segments nest.
-    #[error("InvalidSegmentPrefix")]
     InvalidSegmentPrefix {
         prefix: Bytes,
         conflict: Bytes,
     },
     /// The extractor of segments is another than the one that the manifest names.
-    #[error("SegmentExtractorMismatch")]
     SegmentExtractorMismatch {
         persisted: Option<Text>,
         configured: Option<Text>,
     },
     /// The extractor doesn't know a prefix of the manifest.
-    #[error("SegmentPrefixNotRecognized")]
     SegmentPrefixNotRecognized {
         prefix: Bytes,
         extractor: Text,
     },
     /// The WAL store of the manifest is another than the configured one.
-    #[error("WalStoreReconfigurationError")]
     WalStoreReconfigurationError,
     /// A store call failed. It had no effect or its whole effect.
-    #[error("StoreFault")]
     StoreFault,
     /// All tries were used.
-    #[error("Contended")]
     Contended,
     /// This number or epoch is the last, and the next is needed.
-    #[error("Exhausted")]
     Exhausted(u64),
     /// Memory ran out.
-    #[error("OutOfMemory")]
     OutOfMemory,
 }
 
@@ -189,7 +167,8 @@ impl From<OutOfMemory> for SlateDBError {
 impl<T: Drop> From<AllocFailed<T>> for SlateDBError {
     ghost from_gives = { λ _ e. e ≡ OutOfMemoryRefusal };
 
-    fn from(_e: AllocFailed<T>) -> SlateDBError {
+    fn from(e: AllocFailed<T>) -> SlateDBError {
+        drop(e);
         SlateDBError::OutOfMemory
     }
 }
@@ -223,6 +202,37 @@ impl SlateDBError {
             SlateDBError::Contended => 21,
             SlateDBError::Exhausted(_) => 22,
             SlateDBError::OutOfMemory => 23,
+        }
+    }
+
+    // What the refusal says. That of a missing checkpoint says the id too.
+    fn text(&self) -> &'static str {
+        match self {
+            SlateDBError::TransactionalObjectVersionExists { .. } =>
+                "TransactionalObjectVersionExists",
+            SlateDBError::Fenced { .. } => "Fenced",
+            SlateDBError::LatestTransactionalObjectVersionMissing =>
+                "Data error: failed to find latest transactional object (e.g. manifest) version",
+            SlateDBError::ManifestMissing(_) => "ManifestMissing",
+            SlateDBError::CheckpointMissing(_) => "Data error: checkpoint missing",
+            SlateDBError::InvalidClockTick { .. } => "InvalidClockTick",
+            SlateDBError::UpdateRefused(_) => "UpdateRefused",
+            SlateDBError::InvalidDBState(_) => "Data error: invalid DB state error",
+            SlateDBError::InvalidDeletion(_) => "InvalidDeletion",
+            SlateDBError::EmptyManifest => "EmptyManifest",
+            SlateDBError::InvalidCompaction => "InvalidCompaction",
+            SlateDBError::InvalidVersion { .. } => "InvalidVersion",
+            SlateDBError::Corrupt(_) => "Corrupt",
+            SlateDBError::Unencodable(_) => "Unencodable",
+            SlateDBError::SegmentWithoutWriter(_) => "SegmentWithoutWriter",
+            SlateDBError::InvalidSegmentPrefix { .. } => "InvalidSegmentPrefix",
+            SlateDBError::SegmentExtractorMismatch { .. } => "SegmentExtractorMismatch",
+            SlateDBError::SegmentPrefixNotRecognized { .. } => "SegmentPrefixNotRecognized",
+            SlateDBError::WalStoreReconfigurationError => "WalStoreReconfigurationError",
+            SlateDBError::StoreFault => "StoreFault",
+            SlateDBError::Contended => "Contended",
+            SlateDBError::Exhausted(_) => "Exhausted",
+            SlateDBError::OutOfMemory => "OutOfMemory",
         }
     }
 
@@ -265,23 +275,22 @@ impl SlateDBError {
                 Self::SegmentWithoutWriter(Plain::clone(prefix, alloc)?)
             }
             Self::InvalidSegmentPrefix { prefix, conflict } => {
-                Self::InvalidSegmentPrefix {
-                    prefix: Plain::clone(prefix, alloc)?,
-                    conflict: Plain::clone(conflict, alloc)?,
-                }
+                let (prefix, conflict) = clone_both(alloc, prefix, conflict)?;
+                Self::InvalidSegmentPrefix { prefix, conflict }
             }
             Self::SegmentExtractorMismatch {
                 persisted,
                 configured,
-            } => Self::SegmentExtractorMismatch {
-                persisted: Plain::clone(persisted, alloc)?,
-                configured: Plain::clone(configured, alloc)?,
-            },
-            Self::SegmentPrefixNotRecognized { prefix, extractor } => {
-                Self::SegmentPrefixNotRecognized {
-                    prefix: Plain::clone(prefix, alloc)?,
-                    extractor: extractor.copy(alloc)?,
+            } => {
+                let (persisted, configured) = clone_both(alloc, persisted, configured)?;
+                Self::SegmentExtractorMismatch {
+                    persisted,
+                    configured,
                 }
+            }
+            Self::SegmentPrefixNotRecognized { prefix, extractor } => {
+                let (prefix, extractor) = clone_both(alloc, prefix, extractor)?;
+                Self::SegmentPrefixNotRecognized { prefix, extractor }
             }
             Self::WalStoreReconfigurationError => { Self::WalStoreReconfigurationError }
             Self::StoreFault => Self::StoreFault,
@@ -303,5 +312,15 @@ impl SlateDBError {
         ensures { result ≡ is_conflict self.now }
     {
         matches!(self, SlateDBError::TransactionalObjectVersionExists { .. })
+    }
+}
+
+impl fmt::Display for SlateDBError {
+    fn fmt<W: fmt::Write>(&self, f: &mut fmt::Formatter<W>) -> fmt::Result {
+        let text = self.text();
+        match self {
+            SlateDBError::CheckpointMissing(id) => write!(f, "{text}. checkpoint_id=`{id}`"),
+            _ => f.write_str(text),
+        }
     }
 }

@@ -47,7 +47,7 @@ pub use number_range::NumberRange;
 pub use object_path::ObjectPath;
 pub use out_of_memory::OutOfMemory;
 pub use path_rest::PathRest;
-pub use plain::{Plain, are_same, copies};
+pub use plain::{Plain, are_same, clone_both, copies};
 pub use text::Text;
 pub use ulid::Ulid;
 pub use walk::Walk;

@@ -13,7 +13,8 @@ impl From<AllocError> for OutOfMemory {
 }
 
 impl<T: Drop> From<AllocFailed<T>> for OutOfMemory {
-    fn from(_e: AllocFailed<T>) -> OutOfMemory {
+    fn from(e: AllocFailed<T>) -> OutOfMemory {
+        drop(e);
         OutOfMemory
     }
 }

@@ -15,7 +15,7 @@ use std::cmp::Ordering;
 use std::fmt;
 
 /// The digits of a path's number or id.
-#[derive(Drop)]
+#[derive(Clone, Copy)]
 pub(crate) enum Name {
     Number([u8; 20]),
     Id([u8; 26]),
@@ -23,7 +23,7 @@ pub(crate) enum Name {
 }
 
 /// A path's text: its database, and after a `/` what stands before its name, its name and what ends it.
-#[derive(Drop)]
+#[derive(Clone, Copy)]
 pub(crate) struct Pieces<'a> {
     db: &'a str,
     front: &'a str,

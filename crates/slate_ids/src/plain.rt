@@ -1,5 +1,5 @@
 //! Values that are copied and compared whole.
-ghost use Rattle.std.specs.Prelude.{◌≡◌, IfOk, IsTrue, ◌↔◌};
+ghost use Rattle.std.specs.Prelude.{◌≡◌, ◌∷◌, [], ◌++◌, IfOk, OnOk, IsTrue, ◌↔◌};
 
 use crate::bytes_range::BytesRange;
 use crate::checkpoint_id::CheckpointId;
@@ -100,6 +100,50 @@ impl<T: Plain + Drop> Plain for Option<T> {
     }
 }
 
+/// Equal values of two.
+pub fn clone_both<A: Plain + Drop, B: Plain + Drop>(
+    alloc: Global,
+    one: &A,
+    other: &B,
+) -> Result<(A, B), OutOfMemory>
+    ensures { IfOk result (λ copied. copied ≡ (one.now, other.now)) }
+{
+    let one = one.clone(alloc)?;
+    match other.clone(alloc) {
+        Ok(other) => Ok((one, other)),
+        Err(e) => {
+            drop(one);
+            Err(e)
+        }
+    }
+}
+
+// Adds an equal value at the end of a list.
+fn add_copy<T: Plain + Drop>(
+    alloc: Global,
+    copied: &mut Vec<T>,
+    item: &T,
+) -> Result<(), OutOfMemory>
+    ensures { OnOk result (copied.new.items ≡ copied.old.items ++ item.now ∷ []) }
+{
+    copied.push(item.clone(alloc)?)?;
+    Ok(())
+}
+
+// Adds values equal to those of a walk at the end of a list.
+fn add_copies<'a, T: Plain + Drop + 'a, W: Walk<'a, T>>(
+    alloc: Global,
+    copied: &mut Vec<T>,
+    walk: &mut W,
+) -> Result<(), OutOfMemory>
+    ensures { OnOk result (copied.new.items ≡ copied.old.items ++ W.left walk.old) }
+{
+    while let Some(item) = walk.step() {
+        add_copy(alloc, copied, item)?;
+    }
+    Ok(())
+}
+
 /// A list of values equal to those of a walk.
 pub fn copies<'a, T: Plain + Drop + 'a, W: Walk<'a, T> + Drop>(
     alloc: Global,
@@ -109,18 +153,21 @@ pub fn copies<'a, T: Plain + Drop + 'a, W: Walk<'a, T> + Drop>(
 {
     let mut copied = Vec::new(alloc);
     let mut walk = walk;
-    while let Some(item) = walk.step() {
-        copied.push(item.clone(alloc)?)?;
+    let added = add_copies(alloc, &mut copied, &mut walk);
+    drop(walk);
+    match added {
+        Ok(()) => Ok(copied),
+        Err(e) => {
+            drop(copied);
+            Err(e)
+        }
     }
-    Ok(copied)
 }
 
-/// Whether two walks have the same values, one by one. Takes no memory.
-pub fn are_same<'a, T: Plain + 'a, W: Walk<'a, T> + Drop>(a: W, b: W) -> bool
-    ensures { IsTrue result ↔ W.left a ≡ W.left b }
+// Whether what is left of two walks has the same values, one by one.
+fn go_alike<'a, T: Plain + 'a, W: Walk<'a, T>>(walk: &mut W, others: &mut W) -> bool
+    ensures { IsTrue result ↔ W.left walk.old ≡ W.left others.old }
 {
-    let mut walk = a;
-    let mut others = b;
     while let Some(item) = walk.step() {
         match others.step() {
             Some(other) => {
@@ -132,6 +179,18 @@ pub fn are_same<'a, T: Plain + 'a, W: Walk<'a, T> + Drop>(a: W, b: W) -> bool
         }
     }
     others.step().is_none()
+}
+
+/// Whether two walks have the same values, one by one. Takes no memory.
+pub fn are_same<'a, T: Plain + 'a, W: Walk<'a, T> + Drop>(a: W, b: W) -> bool
+    ensures { IsTrue result ↔ W.left a ≡ W.left b }
+{
+    let mut walk = a;
+    let mut others = b;
+    let same = go_alike(&mut walk, &mut others);
+    drop(walk);
+    drop(others);
+    same
 }
 
 impl<T: Plain + Drop> Plain for Listed<T> {

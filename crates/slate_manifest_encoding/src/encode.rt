@@ -1,6 +1,8 @@
 //! The bytes of a manifest.
-ghost use Rattle.std.specs.Prelude.{◌≡◌, ◌++◌, ◌&&◌, true, Some, Ok, OnOk, IfOk};
+ghost use Rattle.std.specs.Prelude.{◌≡◌, ◌++◌, ◌∷◌, [], ◌&&◌, map, true, Some, Ok, OnOk, IfOk};
 ghost use Rattle.slate_ids.specs.Answers.{GivesList};
+ghost use Rattle.slate_parts.specs.Bytes.{list_bytes};
+ghost use Rattle.slate_parts.specs.InfoParts.{handle_bytes};
 ghost use Rattle.slate_manifest_parts.specs.ManifestParts as parts;
 ghost use Rattle.slate_manifest_parts.specs.Decoding.{decoded_manifest};
 ghost use Rattle.slate_encodable.specs.Normal.{normal_manifest};
@@ -75,6 +77,17 @@ fn write_body(manifest: &Manifest, out: &mut Vec<u8>) -> Result<(), OutOfMemory>
     write_tail(manifest, out)
 }
 
+// Adds the version and the bytes of a manifest with these tables at the end.
+fn write_whole(tables: &Gathered, manifest: &Manifest, out: &mut Vec<u8>) -> Result<(), OutOfMemory>
+    ensures bytes { OnOk result (out.new.items ≡ ((out.old.items ++ 0 ∷ 2 ∷ [])
+        ++ list_bytes handle_bytes (map (λ e. e.1) tables.now)) ++ parts.body_bytes (parts.body_of manifest.now)) }
+    ensures typed { OnOk result ((typed.is_body manifest.now && typed.are_tables (Some tables.now)) ≡ true) }
+{
+    out.extend_from_slice(&[0, 2])?;
+    tables.write(out)?;
+    write_body(manifest, out)
+}
+
 // The bytes of a manifest with these tables.
 fn encode_with(
     alloc: Global,
@@ -88,10 +101,13 @@ fn encode_with(
         return Err(SlateDBError::Unencodable(field));
     }
     let mut out = Vec::new(alloc);
-    out.extend_from_slice(&[0, 2])?;
-    tables.write(&mut out)?;
-    write_body(manifest, &mut out)?;
-    Ok(out)
+    match write_whole(tables, manifest, &mut out) {
+        Ok(()) => Ok(out),
+        Err(e) => {
+            drop(out);
+            Err(SlateDBError::from(e))
+        }
+    }
 }
 
 // The bytes of a manifest, or the first field that has none.
@@ -103,7 +119,11 @@ fn encode(alloc: Global, manifest: &Manifest) -> Result<Vec<u8>, SlateDBError>
         return Err(SlateDBError::Unencodable(field));
     }
     match Gathered::of_core(alloc, &manifest.core)? {
-        Some(tables) => encode_with(alloc, &tables, manifest),
+        Some(tables) => {
+            let bytes = encode_with(alloc, &tables, manifest);
+            drop(tables);
+            bytes
+        }
         None => Err(SlateDBError::Unencodable(FieldName::Handles)),
     }
 }

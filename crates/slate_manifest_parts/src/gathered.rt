@@ -113,7 +113,7 @@ impl Gathered {
         if let Some(table) = self.tables.get(&id) {
             return Ok(same_handle(table, &view.sst));
         }
-        self.tables.insert(id, view.sst.clone(alloc)?)?;
+        drop(self.tables.insert(id, view.sst.clone(alloc)?)?);
         Ok(true)
     }
 
@@ -123,8 +123,16 @@ impl Gathered {
     {
         let mut tables = Gathered::new(alloc);
         for view in core.views() {
-            if !tables.add_view(alloc, view)? {
-                return Ok(None);
+            match tables.add_view(alloc, view) {
+                Ok(true) => {}
+                Ok(false) => {
+                    drop(tables);
+                    return Ok(None);
+                }
+                Err(e) => {
+                    drop(tables);
+                    return Err(e);
+                }
             }
         }
         Ok(Some(tables))

@@ -50,14 +50,19 @@ fn checkpoint_of(read: CheckpointParts) -> Option<Checkpoint>
     ensures { result ≡ parts.checkpoint_of read }
 {
     let (id, (manifest_id, (expiry, (creation, name)))) = read;
-    let expire_time = expiry_of(expiry)?;
-    Some(Checkpoint {
-        id,
-        manifest_id,
-        expire_time,
-        create_time: creation as i64 * 1000,
-        name,
-    })
+    match expiry_of(expiry) {
+        Some(expire_time) => Some(Checkpoint {
+            id,
+            manifest_id,
+            expire_time,
+            create_time: creation as i64 * 1000,
+            name,
+        }),
+        None => {
+            drop(name);
+            None
+        }
+    }
 }
 
 /// The form of checkpoints.

@@ -108,9 +108,16 @@ impl Form<Segment> for SegmentForm {
         let Some((prefix, from)) = Bytes::read(alloc, tables, from)? else {
             return Ok(None);
         };
-        match TreeForm::read(alloc, tables, from)? {
-            Some((tree, from)) => Ok(Some((Segment::new(prefix, tree), from))),
-            None => Ok(None),
+        match TreeForm::read(alloc, tables, from) {
+            Ok(Some((tree, from))) => Ok(Some((Segment::new(prefix, tree), from))),
+            Ok(None) => {
+                drop(prefix);
+                Ok(None)
+            }
+            Err(e) => {
+                drop(prefix);
+                Err(e)
+            }
         }
     }
 }

@@ -21,7 +21,13 @@ fn used_by(alloc: Global, core: &ManifestCore) -> Result<Ids, OutOfMemory>
 {
     let mut ids = BTreeSet::new(alloc);
     for view in core.views() {
-        ids.insert(parts_of(table_id(view.sst.id)))?;
+        match ids.insert(parts_of(table_id(view.sst.id))) {
+            Ok(_) => {}
+            Err(e) => {
+                drop(ids);
+                return Err(OutOfMemory::from(e));
+            }
+        }
     }
     Ok(ids)
 }
@@ -47,5 +53,7 @@ pub fn are_all_used(
     ensures { IfOk result (λ all. all ≡ all_used handles.now manifest.now) }
 {
     let ids = used_by(alloc, &manifest.core)?;
-    Ok(are_among(handles, &ids))
+    let all = are_among(handles, &ids);
+    drop(ids);
+    Ok(all)
 }

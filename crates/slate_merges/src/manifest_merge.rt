@@ -1,31 +1,84 @@
 //! A writer's core merged with a manifest that was read.
 ghost use Rattle.std.specs.Prelude.{◌≡◌, IfOk, IfErr, true};
 ghost use Rattle.slate_ids.specs.Answers.{is_memory};
-ghost use Rattle.slate_model.specs.Cores.{new_core};
+ghost use Rattle.slate_model.specs.Segments.{IsAscending};
+ghost use Rattle.slate_merges.specs.Merging.{merged};
 ghost use Rattle.slate_merges.specs.ManifestMerging as merging;
 
 use crate::segment_merges::merge_segments_from_compactor;
 use crate::tree_merge::merge_writer_and_compactor;
-use slate_ids::{OutOfMemory, SlateDBError};
-use slate_model::{Manifest, ManifestCore, Plain};
+use slate_ids::{Listed, OutOfMemory, SlateDBError, Text, clone_both};
+use slate_model::{Checkpoint, Manifest, ManifestCore, Plain, Segment, SequenceTracker};
 use std::alloc::Global;
 
-// What is no tree, segment or checkpoint of a core: all of it is equal in a core without tables and checkpoints.
-fn without_tables(alloc: Global, core: &ManifestCore) -> Result<ManifestCore, OutOfMemory>
-    ensures { IfOk result (λ bare. bare ≡ merging.without_tables core.now) }
+// Equal names of a core.
+fn names_of(alloc: Global, core: &ManifestCore) -> Result<(Option<Text>, Option<Text>), OutOfMemory>
+    ensures { IfOk result (λ names. names ≡ (core.now.segment_extractor_name, core.now.wal_object_store_uri)) }
 {
-    let mut bare = ManifestCore::new(alloc);
-    bare.initialized = core.initialized;
-    bare.segment_extractor_name = Plain::clone(&core.segment_extractor_name, alloc)?;
-    bare.wal_object_store_uri = Plain::clone(&core.wal_object_store_uri, alloc)?;
-    bare.next_wal_sst_id = core.next_wal_sst_id;
-    bare.replay_after_wal_id = core.replay_after_wal_id;
-    bare.last_l0_seq = core.last_l0_seq;
-    bare.recent_snapshot_min_seq = core.recent_snapshot_min_seq;
-    bare.floor = core.floor;
-    bare.last_l0_clock_tick = core.last_l0_clock_tick;
-    bare.sequence_tracker = Plain::clone(&core.sequence_tracker, alloc)?;
-    Ok(bare)
+    clone_both(
+        alloc,
+        &core.segment_extractor_name,
+        &core.wal_object_store_uri,
+    )
+}
+
+// Equal names of a writer's core, its tracker, and the checkpoints of another.
+fn rest_of(
+    alloc: Global,
+    local: &ManifestCore,
+    remote: &ManifestCore,
+) -> Result<
+    (
+        (Option<Text>, Option<Text>),
+        (SequenceTracker, Listed<Checkpoint>),
+    ),
+    OutOfMemory,
+>
+    ensures { IfOk result (λ rest. rest
+        ≡ (
+          (local.now.segment_extractor_name, local.now.wal_object_store_uri),
+          (local.now.sequence_tracker, remote.now.checkpoints),
+        )) }
+{
+    let names = names_of(alloc, local)?;
+    match clone_both(alloc, &local.sequence_tracker, &remote.checkpoints) {
+        Ok(lists) => Ok((names, lists)),
+        Err(e) => {
+            drop(names);
+            Err(e)
+        }
+    }
+}
+
+// The merged root tree, and the rest.
+fn merge_rest(
+    alloc: Global,
+    local: &ManifestCore,
+    remote: &ManifestCore,
+    segments: Vec<Segment>,
+) -> Result<ManifestCore, OutOfMemory>
+    requires ascending { IsAscending segments.items }
+    ensures { IfOk result (λ core. core
+        ≡ record local.now {
+          tree = merged local.now.tree remote.now.tree;
+          segments = segments.items;
+          checkpoints = remote.now.checkpoints;
+        }) }
+{
+    match merge_writer_and_compactor(alloc, &local.tree, &remote.tree) {
+        Ok(tree) => match rest_of(alloc, local, remote) {
+            Ok((names, lists)) => Ok(local.with_parts(tree, segments, names, lists)),
+            Err(e) => {
+                drop(tree);
+                drop(segments);
+                Err(e)
+            }
+        },
+        Err(e) => {
+            drop(segments);
+            Err(e)
+        }
+    }
 }
 
 // A writer's core with its trees merged from another, and with that one's checkpoints.
@@ -38,11 +91,7 @@ fn merge_core(
     ensures memory { IfErr result (λ e. is_memory e ≡ true) }
 {
     let segments = merge_segments_from_compactor(alloc, local.segments(), remote.segments())?;
-    let mut merged = without_tables(alloc, local)?;
-    merged.tree = merge_writer_and_compactor(alloc, &local.tree, &remote.tree)?;
-    merged.set_segments(segments);
-    merged.checkpoints = Plain::clone(&remote.checkpoints, alloc)?;
-    Ok(merged)
+    Ok(merge_rest(alloc, local, remote, segments)?)
 }
 
 /// A writer's core (`local`) merged with the manifest that was read (`remote`): trees and segments as a writer merges a compactor's;
@@ -56,12 +105,21 @@ pub fn merge_remote_manifest(
     ensures ok { IfOk result (λ manifest. manifest ≡ merging.merged_manifest local.now remote.now) }
     ensures memory { IfErr result (λ e. is_memory e ≡ true) }
 {
-    let mut merged = Manifest {
-        external_dbs: Plain::clone(&remote.external_dbs, alloc)?,
-        core: merge_core(alloc, local, &remote.core)?,
-        writer_epoch: remote.writer_epoch,
-        compactor_epoch: remote.compactor_epoch,
-    };
-    merged.prune_external_sst_ids();
-    Ok(merged)
+    let external_dbs = Plain::clone(&remote.external_dbs, alloc)?;
+    match merge_core(alloc, local, &remote.core) {
+        Ok(core) => {
+            let mut merged = Manifest {
+                external_dbs,
+                core,
+                writer_epoch: remote.writer_epoch,
+                compactor_epoch: remote.compactor_epoch,
+            };
+            merged.prune_external_sst_ids();
+            Ok(merged)
+        }
+        Err(e) => {
+            drop(external_dbs);
+            Err(e)
+        }
+    }
 }

@@ -35,6 +35,7 @@ fn push_kept(segments: &mut Vec<Segment>, segment: Segment) -> Result<(), OutOfM
     if holds_tables(segment.tree()) {
         Ok(segments.push(segment)?)
     } else {
+        drop(segment);
         Ok(())
     }
 }

@@ -11,7 +11,7 @@ use std::alloc::Global;
 use std::cmp::Ordering;
 
 /// The next segments of a walk: of one side alone, or of both where their prefixes are one.
-#[derive(Clone, Copy, Debug)]
+#[derive(Clone, Copy)]
 pub(crate) enum Turn<'a> {
     Writer(&'a Segment),
     Compactor(&'a Segment),
@@ -19,7 +19,7 @@ pub(crate) enum Turn<'a> {
 }
 
 /// The segments that are left of either side.
-#[derive(Clone, Copy, Debug)]
+#[derive(Clone, Copy)]
 pub(crate) struct SideBySide<'a> {
     pub(crate) writer: &'a [Segment],
     pub(crate) compactor: &'a [Segment],
@@ -81,7 +81,13 @@ fn merge_at(
     ensures { IfOk result (λ s. s ≡ record { prefix = prefix.now; tree = merged writer.now compactor.now }) }
 {
     let tree = merge_writer_and_compactor(alloc, writer, compactor)?;
-    Ok(Segment::new(Plain::clone(prefix, alloc)?, tree))
+    match Plain::clone(prefix, alloc) {
+        Ok(prefix) => Ok(Segment::new(prefix, tree)),
+        Err(e) => {
+            drop(tree);
+            Err(e)
+        }
+    }
 }
 
 impl<'a> Turn<'a> {
@@ -90,10 +96,12 @@ impl<'a> Turn<'a> {
         ensures { IfOk result (λ s. s ≡ turn_merged self.now) }
     {
         let empty = LsmTreeState::new(alloc);
-        match self {
+        let merged = match self {
             Turn::Writer(s) => merge_at(alloc, s.prefix(), s.tree(), &empty),
             Turn::Compactor(s) => merge_at(alloc, s.prefix(), &empty, s.tree()),
             Turn::Both(s, t) => merge_at(alloc, s.prefix(), s.tree(), t.tree()),
-        }
+        };
+        drop(empty);
+        merged
     }
 }

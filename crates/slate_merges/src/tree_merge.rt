@@ -1,5 +1,5 @@
 //! A writer's tree and a compactor's, merged.
-ghost use Rattle.std.specs.Prelude.{◌≡◌, IfOk};
+ghost use Rattle.std.specs.Prelude.{◌≡◌, ◌++◌, ◌∷◌, [], IfOk, OnOk};
 ghost use Rattle.slate_merges.specs.Merging as merging;
 ghost use Rattle.slate_merges.specs.Merging.{IsFront, merged};
 
@@ -35,6 +35,14 @@ fn is_at_marker(compactor: &LsmTreeState, view: &SsTableView) -> bool
         || marks_table(compactor.last_compacted_l0_sst_id, &view.sst.id)
 }
 
+// Adds an equal view at the end.
+fn keep(alloc: Global, kept: &mut Queue<SsTableView>, view: &SsTableView) -> Result<(), OutOfMemory>
+    ensures { OnOk result (kept.new ≡ kept.old ++ view.now ∷ []) }
+{
+    let view = Plain::clone(view, alloc)?;
+    kept.push_back(view)
+}
+
 // Equal views, up to the first that is at a compactor's marker.
 fn front(
     alloc: Global,
@@ -48,7 +56,13 @@ fn front(
         if is_at_marker(compactor, view) {
             return Ok(kept);
         }
-        kept.push_back(Plain::clone(view, alloc)?)?;
+        match keep(alloc, &mut kept, view) {
+            Ok(()) => {}
+            Err(e) => {
+                drop(kept);
+                return Err(e);
+            }
+        }
     }
     Ok(kept)
 }
@@ -64,12 +78,19 @@ pub fn merge_writer_and_compactor(
     ensures tree { IfOk result (λ tree. tree ≡ merged writer.now compactor.now) }
     ensures front { IfOk result (λ tree. IsFront compactor.now writer.now.l0 tree.l0) }
 {
-    Ok(LsmTreeState {
-        last_compacted_l0_sst_view_id: compactor.last_compacted_l0_sst_view_id,
-        last_compacted_l0_sst_id: compactor.last_compacted_l0_sst_id,
-        l0: front(alloc, compactor, &writer.l0)?,
-        compacted: Plain::clone(&compactor.compacted, alloc)?,
-    })
+    let l0 = front(alloc, compactor, &writer.l0)?;
+    match Plain::clone(&compactor.compacted, alloc) {
+        Ok(compacted) => Ok(LsmTreeState {
+            last_compacted_l0_sst_view_id: compactor.last_compacted_l0_sst_view_id,
+            last_compacted_l0_sst_id: compactor.last_compacted_l0_sst_id,
+            l0,
+            compacted,
+        }),
+        Err(e) => {
+            drop(l0);
+            Err(e)
+        }
+    }
 }
 
 /// The merge as a method of either side. Both directions give the same tree.

@@ -2,7 +2,7 @@
 ghost use Rattle.std.specs.Prelude.{◌≡◌, IfOk};
 ghost use Rattle.slate_model.specs.Cores.{empty_tree};
 
-use slate_ids::{Listed, OutOfMemory, Ulid};
+use slate_ids::{Listed, OutOfMemory, Ulid, clone_both};
 use slate_tables::{Plain, Queue, SortedRun, SsTableView};
 use std::alloc::Global;
 
@@ -36,11 +36,12 @@ impl LsmTreeState {
     pub fn clone(&self, alloc: Global) -> Result<LsmTreeState, OutOfMemory>
         ensures { IfOk result (λ copied. copied ≡ self.now) }
     {
+        let (l0, compacted) = clone_both(alloc, &self.l0, &self.compacted)?;
         Ok(LsmTreeState {
             last_compacted_l0_sst_view_id: self.last_compacted_l0_sst_view_id,
             last_compacted_l0_sst_id: self.last_compacted_l0_sst_id,
-            l0: self.l0.clone(alloc)?,
-            compacted: self.compacted.clone(alloc)?,
+            l0,
+            compacted,
         })
     }
 }

@@ -4,7 +4,7 @@ ghost use Rattle.slate_model.specs.Manifests.{initial_manifest};
 
 use crate::external_db::ExternalDb;
 use crate::manifest_core::ManifestCore;
-use slate_ids::{Listed, OutOfMemory};
+use slate_ids::{Listed, OutOfMemory, clone_both};
 use slate_tables::Plain;
 use std::alloc::Global;
 
@@ -38,9 +38,10 @@ impl Manifest {
     pub fn clone(&self, alloc: Global) -> Result<Manifest, OutOfMemory>
         ensures { IfOk result (λ copied. copied ≡ self.now) }
     {
+        let (external_dbs, core) = clone_both(alloc, &self.external_dbs, &self.core)?;
         Ok(Manifest {
-            external_dbs: self.external_dbs.clone(alloc)?,
-            core: self.core.clone(alloc)?,
+            external_dbs,
+            core,
             writer_epoch: self.writer_epoch,
             compactor_epoch: self.compactor_epoch,
         })

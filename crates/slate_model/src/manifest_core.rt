@@ -8,10 +8,20 @@ use crate::lsm_tree_state::LsmTreeState;
 use crate::segment::Segment;
 use crate::segments::Segments;
 use crate::sequence_tracker::SequenceTracker;
-use slate_ids::{Listed, OutOfMemory, Text};
+use slate_ids::{Listed, OutOfMemory, Text, clone_both};
 use slate_tables::Plain;
 use std::alloc::Global;
 use std::marker::Model;
+use std::mem;
+
+// The trees of a manifest: of the keys in no segment, and of the segments.
+type BothTrees = (LsmTreeState, Segments);
+
+// The names of a manifest: of the extractor, and of the store of the write-ahead log.
+type Names = (Option<Text>, Option<Text>);
+
+// The lists of a manifest: of moments, and of checkpoints.
+type Lists = (SequenceTracker, Listed<Checkpoint>);
 
 /// What a manifest says of its database. The prefixes of its segments ascend strictly, and none is empty.
 #[derive(Debug, Drop)]
@@ -116,28 +126,98 @@ impl ManifestCore {
         requires ascending { IsAscending segments.items }
         ensures { self.new ≡ record self.old { segments = segments.items } }
     {
-        self.segments = Segments::from_vec(segments);
+        drop(mem::replace(&mut self.segments, Segments::from_vec(segments)));
     }
 
     /// An equal value. It shares the keys.
     pub fn clone(&self, alloc: Global) -> Result<ManifestCore, OutOfMemory>
         ensures { IfOk result (λ copied. copied ≡ self.now) }
     {
-        Ok(ManifestCore {
+        let trees = clone_both(alloc, &self.tree, &self.segments)?;
+        match self.clone_rest(alloc) {
+            Ok((names, lists)) => Ok(self.of_parts(trees, names, lists)),
+            Err(e) => {
+                drop(trees);
+                Err(e)
+            }
+        }
+    }
+
+    /// The same numbers with another root tree, other segments, other names (of the extractor, and of the store of the write-ahead log)
+    /// and other lists (the tracker, and the checkpoints). No prefix is empty, and the prefixes ascend strictly. Takes no memory.
+    pub fn with_parts(
+        &self,
+        tree: LsmTreeState,
+        segments: Vec<Segment>,
+        names: (Option<Text>, Option<Text>),
+        lists: (SequenceTracker, Listed<Checkpoint>),
+    ) -> ManifestCore
+        requires ascending { IsAscending segments.items }
+        ensures { result
+            ≡ record self.now {
+              tree = tree;
+              segments = segments.items;
+              segment_extractor_name = names.0;
+              wal_object_store_uri = names.1;
+              sequence_tracker = lists.0;
+              checkpoints = lists.1;
+            } }
+    {
+        self.of_parts((tree, Segments::from_vec(segments)), names, lists)
+    }
+
+    // Equal names, and equal lists.
+    fn clone_rest(&self, alloc: Global) -> Result<(Names, Lists), OutOfMemory>
+        ensures { IfOk result (λ copied. copied
+            ≡ (
+              (self.now.segment_extractor_name, self.now.wal_object_store_uri),
+              (self.now.sequence_tracker, self.now.checkpoints),
+            )) }
+    {
+        let names = clone_both(
+            alloc,
+            &self.segment_extractor_name,
+            &self.wal_object_store_uri,
+        )?;
+        match clone_both(alloc, &self.sequence_tracker, &self.checkpoints) {
+            Ok(lists) => Ok((names, lists)),
+            Err(e) => {
+                drop(names);
+                Err(e)
+            }
+        }
+    }
+
+    // The same numbers with these trees, names and lists.
+    fn of_parts(&self, trees: BothTrees, names: Names, lists: Lists) -> ManifestCore
+        ensures { result
+            ≡ record self.now {
+              tree = trees.0;
+              segments = trees.1;
+              segment_extractor_name = names.0;
+              wal_object_store_uri = names.1;
+              sequence_tracker = lists.0;
+              checkpoints = lists.1;
+            } }
+    {
+        let (tree, segments) = trees;
+        let (segment_extractor_name, wal_object_store_uri) = names;
+        let (sequence_tracker, checkpoints) = lists;
+        ManifestCore {
             initialized: self.initialized,
-            tree: self.tree.clone(alloc)?,
-            segments: self.segments.clone(alloc)?,
-            segment_extractor_name: Plain::clone(&self.segment_extractor_name, alloc)?,
-            wal_object_store_uri: Plain::clone(&self.wal_object_store_uri, alloc)?,
+            tree,
+            segments,
+            segment_extractor_name,
+            wal_object_store_uri,
             next_wal_sst_id: self.next_wal_sst_id,
             replay_after_wal_id: self.replay_after_wal_id,
             last_l0_seq: self.last_l0_seq,
             recent_snapshot_min_seq: self.recent_snapshot_min_seq,
             floor: self.floor,
             last_l0_clock_tick: self.last_l0_clock_tick,
-            sequence_tracker: self.sequence_tracker.clone(alloc)?,
-            checkpoints: self.checkpoints.clone(alloc)?,
-        })
+            sequence_tracker,
+            checkpoints,
+        }
     }
 }
 

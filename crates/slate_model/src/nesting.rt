@@ -1,5 +1,5 @@
 //! Prefixes that nest: one begins with the other.
-ghost use Rattle.std.specs.Prelude.{◌≡◌, Ok, None, option_copied};
+ghost use Rattle.std.specs.Prelude.{◌≡◌, Ok, None, IfOk, option_copied};
 ghost use Rattle.slate_ids.specs.Answers.{Gives, refused};
 ghost use Rattle.slate_ids.specs.Keys as keys;
 ghost use Rattle.slate_model.specs.Segments.{IsAscending};
@@ -10,7 +10,7 @@ use crate::manifest_core::ManifestCore;
 use crate::segment::Segment;
 use crate::segment_search::{place_of, segment_from, segment_of};
 use bytes::Bytes;
-use slate_ids::SlateDBError;
+use slate_ids::{OutOfMemory, Plain, SlateDBError};
 use std::alloc::Global;
 
 /// Whether a key begins with these bytes. Takes no memory.
@@ -76,6 +76,20 @@ fn conflict<'a>(prefix: &[u8], segments: &'a [Segment]) -> Option<&'a Bytes>
     }
 }
 
+// Owners of two prefixes.
+fn owned(alloc: Global, prefix: &[u8], other: &Bytes) -> Result<(Bytes, Bytes), OutOfMemory>
+    ensures { IfOk result (λ keys. keys ≡ (prefix.now, other.now)) }
+{
+    let other = Plain::clone(other, alloc)?;
+    match Bytes::copy_from_slice(alloc, prefix) {
+        Ok(prefix) => Ok((prefix, other)),
+        Err(e) => {
+            drop(other);
+            Err(OutOfMemory::from(e))
+        }
+    }
+}
+
 /// Whether a prefix may stand among the segments. Takes no memory where it may.
 pub(crate) fn check_nesting(
     alloc: Global,
@@ -88,10 +102,10 @@ pub(crate) fn check_nesting(
 {
     match conflict(prefix, segments) {
         None => Ok(()),
-        Some(other) => Err(SlateDBError::InvalidSegmentPrefix {
-            prefix: Bytes::copy_from_slice(alloc, prefix)?,
-            conflict: other.clone()?,
-        }),
+        Some(other) => {
+            let (prefix, conflict) = owned(alloc, prefix, other)?;
+            Err(SlateDBError::InvalidSegmentPrefix { prefix, conflict })
+        }
     }
 }
 

@@ -50,7 +50,13 @@ impl Manifest {
         let mut ids = Vec::new(alloc);
         for view in self.core.views() {
             if is_owned(self.external_dbs.as_slice(), &view.sst.id) {
-                ids.push(view.sst.id)?;
+                match ids.push(view.sst.id) {
+                    Ok(()) => {}
+                    Err(e) => {
+                        drop(ids);
+                        return Err(OutOfMemory::from(e));
+                    }
+                }
             }
         }
         Ok(ids)
@@ -62,7 +68,13 @@ impl Manifest {
     {
         let mut shared = Vec::new(alloc);
         for entry in self.external_dbs.as_slice() {
-            push_shared(&mut shared, entry)?;
+            match push_shared(&mut shared, entry) {
+                Ok(()) => {}
+                Err(e) => {
+                    drop(shared);
+                    return Err(e);
+                }
+            }
         }
         Ok(shared)
     }

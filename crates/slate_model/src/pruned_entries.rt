@@ -44,7 +44,7 @@ fn prune(core: &ManifestCore, entry: &mut ExternalDb)
 {
     let mut ids = taken(&mut entry.sst_ids);
     keep_used(core, &mut ids);
-    entry.sst_ids = Listed::from_vec(ids);
+    drop(mem::replace(&mut entry.sst_ids, Listed::from_vec(ids)));
 }
 
 // Leaves out of each entry the tables that no view uses.
@@ -63,6 +63,6 @@ impl Manifest {
     {
         let mut entries = taken(&mut self.external_dbs);
         prune_all(&self.core, entries.as_mut_slice());
-        self.external_dbs = Listed::from_vec(entries);
+        drop(mem::replace(&mut self.external_dbs, Listed::from_vec(entries)));
     }
 }

@@ -6,7 +6,7 @@ ghost use Rattle.slate_model.specs.Lending.{LendsTree};
 
 use crate::lsm_tree_state::LsmTreeState;
 use bytes::Bytes;
-use slate_ids::{OutOfMemory, Ulid};
+use slate_ids::{OutOfMemory, Ulid, clone_both};
 use slate_tables::{Plain, SortedRun, SsTableView};
 use std::alloc::Global;
 use std::collections::VecDeque;
@@ -108,10 +108,8 @@ impl Segment {
     pub fn clone(&self, alloc: Global) -> Result<Segment, OutOfMemory>
         ensures { IfOk result (λ copied. copied ≡ self.now) }
     {
-        Ok(Segment {
-            prefix: Plain::clone(&self.prefix, alloc)?,
-            tree: self.tree.clone(alloc)?,
-        })
+        let (prefix, tree) = clone_both(alloc, &self.prefix, &self.tree)?;
+        Ok(Segment { prefix, tree })
     }
 }
 

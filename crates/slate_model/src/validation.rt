@@ -1,7 +1,7 @@
 //! Whether a database may be opened with what its caller configured.
 ghost use Rattle.std.specs.Prelude.{◌≡◌, Ok, Err, None, IfOk, not, option_map, option_copied, if◌then◌else◌};
 ghost use Rattle.slate_ids.specs.Answers.{Gives, refused};
-ghost use Rattle.slate_ids.specs.declared.error.SlateDBError.TheVariants.{SegmentExtractorMismatch, WalStoreReconfigurationError};
+ghost use Rattle.slate_ids.specs.declared.error.SlateDBError.TheVariants.{SegmentExtractorMismatch, SegmentPrefixNotRecognized, WalStoreReconfigurationError};
 ghost use Rattle.std.specs.List.{find};
 ghost use Rattle.slate_model.specs.Validation as validation;
 ghost use Rattle.slate_model.specs.Validation.{refusal_by, prefix_refusal, same_wal_store};
@@ -9,7 +9,8 @@ ghost use Rattle.slate_model.specs.Validation.{refusal_by, prefix_refusal, same_
 use crate::manifest_core::ManifestCore;
 use crate::prefix_extractor::PrefixExtractor;
 use crate::segment::Segment;
-use slate_ids::{OutOfMemory, SlateDBError, Text};
+use bytes::Bytes;
+use slate_ids::{OutOfMemory, Plain, SlateDBError, Text};
 use std::alloc::Global;
 
 // Whether an extractor finds all of a segment's prefix in it.
@@ -54,10 +55,31 @@ fn mismatch(
     ensures { IfOk result (λ e.
         e ≡ SegmentExtractorMismatch (option_copied persisted.entry) (option_copied configured.entry)) }
 {
-    Ok(SlateDBError::SegmentExtractorMismatch {
-        persisted: copied(alloc, persisted)?,
-        configured: copied(alloc, configured)?,
-    })
+    let persisted = copied(alloc, persisted)?;
+    match copied(alloc, configured) {
+        Ok(configured) => Ok(SlateDBError::SegmentExtractorMismatch {
+            persisted,
+            configured,
+        }),
+        Err(e) => {
+            drop(persisted);
+            Err(e)
+        }
+    }
+}
+
+// The refusal of a prefix that an extractor of this name doesn't find.
+fn not_recognized(alloc: Global, prefix: &Bytes, name: &str) -> Result<SlateDBError, OutOfMemory>
+    ensures { IfOk result (λ e. e ≡ SegmentPrefixNotRecognized prefix.now name.now) }
+{
+    let extractor = Text::copy_of(alloc, name)?;
+    match Plain::clone(prefix, alloc) {
+        Ok(prefix) => Ok(SlateDBError::SegmentPrefixNotRecognized { prefix, extractor }),
+        Err(e) => {
+            drop(extractor);
+            Err(e)
+        }
+    }
 }
 
 // Whether an extractor of the persisted name finds the prefix of each segment.
@@ -71,10 +93,7 @@ fn check_prefixes(
 {
     match first_unknown(extractor, segments) {
         None => Ok(()),
-        Some(segment) => Err(SlateDBError::SegmentPrefixNotRecognized {
-            prefix: segment.prefix().clone()?,
-            extractor: Text::copy_of(alloc, extractor.name())?,
-        }),
+        Some(segment) => Err(not_recognized(alloc, segment.prefix(), extractor.name())?),
     }
 }
 

@@ -93,12 +93,25 @@ fn read_each<'a, T: Drop, F: Form<T>>(
     let mut items = Listed::new(alloc);
     let mut left = from;
     for _ in 0..count {
-        match F::read(alloc, tables, left)? {
-            Some((item, rest)) => {
-                items.push(item)?;
+        match F::read(alloc, tables, left) {
+            Ok(Some((item, rest))) => {
+                match items.push(item) {
+                    Ok(()) => {}
+                    Err(e) => {
+                        drop(items);
+                        return Err(e);
+                    }
+                }
                 left = rest;
             }
-            None => return Ok(None),
+            Ok(None) => {
+                drop(items);
+                return Ok(None);
+            }
+            Err(e) => {
+                drop(items);
+                return Err(e);
+            }
         }
     }
     Ok(Some((items, left)))
@@ -184,10 +197,17 @@ impl<A: Drop, B: Drop, F: Form<A>, G: Form<B>> Form<(A, B)> for (F, G) {
         let Some((a, from)) = F::read(alloc, tables, from)? else {
             return Ok(None);
         };
-        let Some((b, from)) = G::read(alloc, tables, from)? else {
-            return Ok(None);
-        };
-        Ok(Some(((a, b), from)))
+        match G::read(alloc, tables, from) {
+            Ok(Some((b, from))) => Ok(Some(((a, b), from))),
+            Ok(None) => {
+                drop(a);
+                Ok(None)
+            }
+            Err(e) => {
+                drop(a);
+                Err(e)
+            }
+        }
     }
 }
 

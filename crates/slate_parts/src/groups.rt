@@ -45,10 +45,17 @@ impl<A: Part, B: Part> Part for (A, B) {
         let Some((a, from)) = A::read(alloc, tables, from)? else {
             return Ok(None);
         };
-        let Some((b, from)) = B::read(alloc, tables, from)? else {
-            return Ok(None);
-        };
-        Ok(Some(((a, b), from)))
+        match B::read(alloc, tables, from) {
+            Ok(Some((b, from))) => Ok(Some(((a, b), from))),
+            Ok(None) => {
+                drop(a);
+                Ok(None)
+            }
+            Err(e) => {
+                drop(a);
+                Err(e)
+            }
+        }
     }
 }
 

@@ -68,8 +68,13 @@ pub fn encode_info(alloc: Global, info: &SsTableInfo) -> Result<Vec<u8>, SlateDB
         return Err(SlateDBError::Unencodable(field));
     }
     let mut bytes = Vec::new(alloc);
-    info.write(&mut bytes)?;
-    Ok(bytes)
+    match info.write(&mut bytes) {
+        Ok(()) => Ok(bytes),
+        Err(e) => {
+            drop(bytes);
+            Err(SlateDBError::from(e))
+        }
+    }
 }
 
 /// What is known of a table, of its bytes. All bytes that `encode_info` doesn't write are Corrupt.

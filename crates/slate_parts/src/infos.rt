@@ -39,6 +39,8 @@ fn info_of(entries: Entries, places: Places) -> Option<SsTableInfo>
 {
     let (first_entry, last_entry) = entries;
     if !are_entries(&first_entry, &last_entry) {
+        drop(first_entry);
+        drop(last_entry);
         return None;
     }
     let ((index, filter), ((compression_codec, sst_type), (stats, filter_format))) = places;

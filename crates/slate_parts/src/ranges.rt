@@ -86,6 +86,8 @@ fn range_of(start: Bound<Bytes>, end: Bound<Bytes>) -> Option<BytesRange>
     if KeySpan::new(start.as_ref(), end.as_ref()).is_proper() {
         Some(BytesRange::new(start, end))
     } else {
+        drop(start);
+        drop(end);
         None
     }
 }

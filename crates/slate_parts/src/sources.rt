@@ -104,6 +104,18 @@ fn add_runs(sources: &mut Listed<SourceId>, runs: &[u32]) -> Result<(), OutOfMem
     Ok(())
 }
 
+// Adds the views of these ids, then the runs of these numbers.
+fn add_sources(
+    sources: &mut Listed<SourceId>,
+    views: &[Ulid],
+    runs: &[u32],
+) -> Result<(), OutOfMemory>
+    ensures { OnOk result (sources.new ≡ sources.old ++ records.sources_of (views.now, runs.now)) }
+{
+    add_views(sources, views)?;
+    add_runs(sources, runs)
+}
+
 /// The sources of these views and runs, views first.
 pub fn sources_of(
     alloc: Global,
@@ -113,13 +125,34 @@ pub fn sources_of(
     ensures { IfOk result (λ sources. sources ≡ records.sources_of (views.now, runs.now)) }
 {
     let mut sources = Listed::new(alloc);
-    add_views(&mut sources, views)?;
-    add_runs(&mut sources, runs)?;
-    Ok(sources)
+    match add_sources(&mut sources, views, runs) {
+        Ok(()) => Ok(sources),
+        Err(e) => {
+            drop(sources);
+            Err(e)
+        }
+    }
 }
 
 /// The prefix of a segment, and the views and runs that are sources.
 pub type Scope = (Bytes, (Listed<Ulid>, Listed<u32>));
+
+// The prefix of a segment, and its sources.
+fn scope_sources(alloc: Global, scope: Scope) -> Result<(Bytes, Listed<SourceId>), OutOfMemory>
+    ensures { IfOk result (λ made. made ≡ (scope.0, records.sources_of scope.1)) }
+{
+    let (segment, (views, runs)) = scope;
+    let made = sources_of(alloc, views.as_slice(), runs.as_slice());
+    drop(views);
+    drop(runs);
+    match made {
+        Ok(sources) => Ok((segment, sources)),
+        Err(e) => {
+            drop(segment);
+            Err(e)
+        }
+    }
+}
 
 // A merge into a run, where bytes begin with its parts.
 fn read_tiered<'a>(
@@ -131,8 +164,8 @@ fn read_tiered<'a>(
 {
     match <(Scope, u32)>::read(alloc, tables, from)? {
         None => Ok(None),
-        Some((((segment, (views, runs)), destination), from)) => {
-            let sources = sources_of(alloc, views.as_slice(), runs.as_slice())?;
+        Some(((scope, destination), from)) => {
+            let (segment, sources) = scope_sources(alloc, scope)?;
             let spec = CompactionSpec::Tiered {
                 segment,
                 sources,
@@ -153,8 +186,8 @@ fn read_drained<'a>(
 {
     match Scope::read(alloc, tables, from)? {
         None => Ok(None),
-        Some(((segment, (views, runs)), from)) => {
-            let sources = sources_of(alloc, views.as_slice(), runs.as_slice())?;
+        Some((scope, from)) => {
+            let (segment, sources) = scope_sources(alloc, scope)?;
             Ok(Some((CompactionSpec::DrainSegment { segment, sources }, from)))
         }
     }

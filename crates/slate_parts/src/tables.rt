@@ -135,6 +135,7 @@ impl Tables {
         if are_ascending(handles.as_slice()) {
             Some(Tables { handles })
         } else {
+            drop(handles);
             None
         }
     }

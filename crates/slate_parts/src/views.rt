@@ -67,13 +67,21 @@ fn view_of(
 {
     let (id, (table, visible)) = read;
     match tables.get(table) {
-        None => Ok(None),
+        None => {
+            drop(visible);
+            Ok(None)
+        }
         Some(table) => {
-            if may_show(table, &visible) {
-                let table = table.clone(alloc)?;
-                Ok(Some(SsTableView::new_projected(id, table, visible)))
-            } else {
-                Ok(None)
+            if !may_show(table, &visible) {
+                drop(visible);
+                return Ok(None);
+            }
+            match table.clone(alloc) {
+                Ok(table) => Ok(Some(SsTableView::new_projected(id, table, visible))),
+                Err(e) => {
+                    drop(visible);
+                    Err(e)
+                }
             }
         }
     }

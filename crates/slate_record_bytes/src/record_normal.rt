@@ -2,7 +2,7 @@
 ghost use Rattle.std.specs.Prelude.{◌≡◌, ◌++◌, map, true, IfOk, OnOk};
 ghost use Rattle.std.specs.Option.{option_map};
 ghost use Rattle.slate_records.specs.declared.source_id.SourceId.TheVariants.{SstView, SortedRun};
-ghost use Rattle.slate_records.specs.Records.{are_ascending};
+ghost use Rattle.slate_records.specs.Records.{are_ascending, inserted};
 ghost use Rattle.slate_record_bytes.specs.Records as records;
 ghost use Rattle.slate_parts.specs.RecordParts as parts;
 ghost use Rattle.slate_record_bytes.specs.RecordNormal as normal;
@@ -12,6 +12,7 @@ use crate::record_reading::has_outputs;
 use slate_ids::{Listed, OutOfMemory};
 use slate_records::{
     Compaction, CompactionContext, CompactionSpec, Compactions, CompactionsIter, SourceId,
+    WorkerSpec,
 };
 use slate_tables::{Plain, SsTableHandle};
 use std::alloc::Global;
@@ -40,14 +41,44 @@ fn add_runs(made: &mut Listed<SourceId>, sources: &[SourceId]) -> Result<(), Out
     Ok(())
 }
 
+// Adds the views among the sources, then the runs.
+fn add_sources(made: &mut Listed<SourceId>, sources: &[SourceId]) -> Result<(), OutOfMemory>
+    ensures { OnOk result (made.new ≡ made.old ++ normal.normal_sources sources.now) }
+{
+    add_views(made, sources)?;
+    add_runs(made, sources)
+}
+
 // The sources, views first, then runs.
 fn normal_sources(alloc: Global, sources: &[SourceId]) -> Result<Listed<SourceId>, OutOfMemory>
     ensures { IfOk result (λ made. made ≡ normal.normal_sources sources.now) }
 {
     let mut made = Listed::new(alloc);
-    add_views(&mut made, sources)?;
-    add_runs(&mut made, sources)?;
-    Ok(made)
+    match add_sources(&mut made, sources) {
+        Ok(()) => Ok(made),
+        Err(e) => {
+            drop(made);
+            Err(e)
+        }
+    }
+}
+
+// An equal prefix, and the sources, views first, then runs.
+fn normal_scope<T: Plain + Drop>(
+    alloc: Global,
+    segment: &T,
+    sources: &[SourceId],
+) -> Result<(T, Listed<SourceId>), OutOfMemory>
+    ensures { IfOk result (λ made. made ≡ (segment.now, normal.normal_sources sources.now)) }
+{
+    let segment = Plain::clone(segment, alloc)?;
+    match normal_sources(alloc, sources) {
+        Ok(sources) => Ok((segment, sources)),
+        Err(e) => {
+            drop(segment);
+            Err(e)
+        }
+    }
 }
 
 fn normal_spec(alloc: Global, spec: &CompactionSpec) -> Result<CompactionSpec, OutOfMemory>
@@ -58,15 +89,18 @@ fn normal_spec(alloc: Global, spec: &CompactionSpec) -> Result<CompactionSpec, O
             segment,
             sources,
             destination,
-        } => Ok(CompactionSpec::Tiered {
-            segment: Plain::clone(segment, alloc)?,
-            sources: normal_sources(alloc, sources.as_slice())?,
-            destination: *destination,
-        }),
-        CompactionSpec::DrainSegment { segment, sources } => Ok(CompactionSpec::DrainSegment {
-            segment: Plain::clone(segment, alloc)?,
-            sources: normal_sources(alloc, sources.as_slice())?,
-        }),
+        } => {
+            let (segment, sources) = normal_scope(alloc, segment, sources.as_slice())?;
+            Ok(CompactionSpec::Tiered {
+                segment,
+                sources,
+                destination: *destination,
+            })
+        }
+        CompactionSpec::DrainSegment { segment, sources } => {
+            let (segment, sources) = normal_scope(alloc, segment, sources.as_slice())?;
+            Ok(CompactionSpec::DrainSegment { segment, sources })
+        }
     }
 }
 
@@ -99,17 +133,73 @@ fn normal_context(
     }
 }
 
+// What it is to do, and who runs it.
+fn normal_task(
+    alloc: Global,
+    compaction: &Compaction,
+) -> Result<(CompactionSpec, Option<WorkerSpec>), OutOfMemory>
+    ensures { IfOk result (λ made. made ≡ (normal.normal_spec compaction.now.spec, compaction.now.worker)) }
+{
+    let spec = normal_spec(alloc, &compaction.spec)?;
+    match Plain::clone(&compaction.worker, alloc) {
+        Ok(worker) => Ok((spec, worker)),
+        Err(e) => {
+            drop(spec);
+            Err(e)
+        }
+    }
+}
+
+// The outputs that are kept, and what a worker goes on with.
+fn normal_work(
+    alloc: Global,
+    compaction: &Compaction,
+) -> Result<(Listed<SsTableHandle>, Option<CompactionContext>), OutOfMemory>
+    ensures { IfOk result (λ made.
+        made ≡ (records.kept_of compaction.now, option_map normal.normal_context compaction.now.ctx)) }
+{
+    let outputs = normal_outputs(alloc, compaction)?;
+    match normal_context(alloc, &compaction.ctx) {
+        Ok(context) => Ok((outputs, context)),
+        Err(e) => {
+            drop(outputs);
+            Err(e)
+        }
+    }
+}
+
 fn normal_compaction(alloc: Global, compaction: &Compaction) -> Result<Compaction, OutOfMemory>
     ensures { IfOk result (λ made. made ≡ normal.normal_compaction compaction.now) }
 {
-    Ok(Compaction {
-        id: compaction.id,
-        spec: normal_spec(alloc, &compaction.spec)?,
-        status: compaction.status,
-        worker: Plain::clone(&compaction.worker, alloc)?,
-        output_ssts: normal_outputs(alloc, compaction)?,
-        ctx: normal_context(alloc, &compaction.ctx)?,
-    })
+    let (spec, worker) = normal_task(alloc, compaction)?;
+    match normal_work(alloc, compaction) {
+        Ok((output_ssts, ctx)) => Ok(Compaction {
+            id: compaction.id,
+            spec,
+            status: compaction.status,
+            worker,
+            output_ssts,
+            ctx,
+        }),
+        Err(e) => {
+            drop(spec);
+            drop(worker);
+            Err(e)
+        }
+    }
+}
+
+// Makes the normal form of a compaction the one of its id.
+fn insert_normal(
+    alloc: Global,
+    made: &mut Compactions,
+    compaction: &Compaction,
+) -> Result<(), OutOfMemory>
+    ensures { OnOk result (made.new
+        ≡ record made.old { entries = inserted (normal.normal_compaction compaction.now) made.old.entries }) }
+{
+    let compaction = normal_compaction(alloc, compaction)?;
+    made.insert(compaction)
 }
 
 // The record of an epoch and the normal forms of these compactions, which ascend.
@@ -124,7 +214,13 @@ fn normal_entries(
 {
     let mut made = Compactions::new(alloc, epoch);
     for compaction in entries {
-        made.insert(normal_compaction(alloc, compaction)?)?;
+        match insert_normal(alloc, &mut made, compaction) {
+            Ok(()) => {}
+            Err(e) => {
+                drop(made);
+                return Err(e);
+            }
+        }
     }
     Ok(made)
 }

@@ -1,5 +1,5 @@
 //! Records of their bytes.
-ghost use Rattle.std.specs.Prelude.{◌≡◌, map, true, IfOk, OnOk};
+ghost use Rattle.std.specs.Prelude.{◌≡◌, ◌++◌, ◌∷◌, [], map, true, IfOk, OnOk};
 ghost use Rattle.slate_ids.specs.Answers.{Gives};
 ghost use Rattle.slate_records.specs.Records.{are_ascending};
 ghost use Rattle.slate_ids.specs.Ulids.{id_lt};
@@ -55,6 +55,7 @@ fn kept_outputs(
     if has_outputs(status) {
         outputs
     } else {
+        drop(outputs);
         Listed::new(alloc)
     }
 }
@@ -106,7 +107,13 @@ fn record_in_order(alloc: Global, epoch: u64, raws: Listed<Raw>) -> Result<Compa
 {
     let mut made = Compactions::new(alloc, epoch);
     for raw in raws.into_vec() {
-        made.insert(compaction_of(alloc, raw))?;
+        match made.insert(compaction_of(alloc, raw)) {
+            Ok(()) => {}
+            Err(e) => {
+                drop(made);
+                return Err(e);
+            }
+        }
     }
     Ok(made)
 }
@@ -123,6 +130,7 @@ fn record_of(
     if are_in_order(raws.as_slice()) {
         Ok(Some(record_in_order(alloc, epoch, raws)?))
     } else {
+        drop(raws);
         Ok(None)
     }
 }
@@ -131,9 +139,19 @@ fn record_of(
 fn read_second(alloc: Global, from: Reader<'_>) -> Result<Option<Compactions>, OutOfMemory>
     ensures { IfOk result (λ read. read ≡ records.second_record from.entry) }
 {
-    match <(u64, Listed<Raw>)>::read(alloc, &Tables::none(alloc), from)? {
-        Some(((epoch, raws), rest)) if rest.len() == 0 => record_of(alloc, epoch, raws),
-        _ => Ok(None),
+    let none = Tables::none(alloc);
+    let read = <(u64, Listed<Raw>)>::read(alloc, &none, from);
+    drop(none);
+    match read? {
+        Some(((epoch, raws), rest)) => {
+            if rest.len() > 0 {
+                drop(raws);
+                Ok(None)
+            } else {
+                record_of(alloc, epoch, raws)
+            }
+        }
+        None => Ok(None),
     }
 }
 
@@ -158,12 +176,33 @@ fn raw_of_old(alloc: Global, old: Old) -> Result<Raw, OutOfMemory>
     ensures { IfOk result (λ raw. raw ≡ records.raw_of_old old) }
 {
     let (id, ((segment, (views, runs)), progress)) = old;
-    let spec = CompactionSpec::Tiered {
-        segment,
-        sources: sources_of(alloc, views.as_slice(), runs.as_slice())?,
-        destination: least_or_zero(runs.as_slice()),
-    };
-    Ok((id, (spec, progress)))
+    let made = sources_of(alloc, views.as_slice(), runs.as_slice());
+    let destination = least_or_zero(runs.as_slice());
+    drop(views);
+    drop(runs);
+    match made {
+        Ok(sources) => {
+            let spec = CompactionSpec::Tiered {
+                segment,
+                sources,
+                destination,
+            };
+            Ok((id, (spec, progress)))
+        }
+        Err(e) => {
+            drop(segment);
+            drop(progress);
+            Err(e)
+        }
+    }
+}
+
+// Adds the compaction of version 2 that one of version 1 is at the end.
+fn add_old(alloc: Global, raws: &mut Listed<Raw>, old: Old) -> Result<(), OutOfMemory>
+    ensures { OnOk result (raws.new ≡ raws.old ++ records.raw_of_old old ∷ []) }
+{
+    let raw = raw_of_old(alloc, old)?;
+    raws.push(raw)
 }
 
 // The same of each.
@@ -172,7 +211,13 @@ fn raws_of_old(alloc: Global, olds: Listed<Old>) -> Result<Listed<Raw>, OutOfMem
 {
     let mut raws = Listed::new(alloc);
     for old in olds.into_vec() {
-        raws.push(raw_of_old(alloc, old)?)?;
+        match add_old(alloc, &mut raws, old) {
+            Ok(()) => {}
+            Err(e) => {
+                drop(raws);
+                return Err(e);
+            }
+        }
     }
     Ok(raws)
 }
@@ -181,11 +226,19 @@ fn raws_of_old(alloc: Global, olds: Listed<Old>) -> Result<Listed<Raw>, OutOfMem
 fn read_first(alloc: Global, from: Reader<'_>) -> Result<Option<Compactions>, OutOfMemory>
     ensures { IfOk result (λ read. read ≡ records.first_record from.entry) }
 {
-    match <(u64, Listed<Old>)>::read(alloc, &Tables::none(alloc), from)? {
-        Some(((epoch, olds), rest)) if rest.len() == 0 => {
-            record_of(alloc, epoch, raws_of_old(alloc, olds)?)
+    let none = Tables::none(alloc);
+    let read = <(u64, Listed<Old>)>::read(alloc, &none, from);
+    drop(none);
+    match read? {
+        Some(((epoch, olds), rest)) => {
+            if rest.len() == 0 {
+                record_of(alloc, epoch, raws_of_old(alloc, olds)?)
+            } else {
+                drop(olds);
+                Ok(None)
+            }
         }
-        _ => Ok(None),
+        None => Ok(None),
     }
 }
 

@@ -1,5 +1,5 @@
 //! The bytes of records.
-ghost use Rattle.std.specs.Prelude.{◌≡◌, ◌++◌, map, true, Ok, OnOk, IfOk};
+ghost use Rattle.std.specs.Prelude.{◌≡◌, ◌++◌, ◌∷◌, [], map, true, Ok, OnOk, IfOk};
 ghost use Rattle.std.specs.List.{flat_map, list_all};
 ghost use Rattle.slate_ids.specs.Answers.{GivesList};
 ghost use Rattle.slate_parts.specs.Bytes.{list_bytes};
@@ -64,6 +64,16 @@ fn write_record(compactions: &Compactions, out: &mut Vec<u8>) -> Result<(), OutO
     write_entries(compactions.iter(), out)
 }
 
+// Adds the version and the bytes of a record at the end.
+fn write_whole(compactions: &Compactions, out: &mut Vec<u8>) -> Result<(), OutOfMemory>
+    ensures bytes { OnOk result (out.new.items
+        ≡ (out.old.items ++ 0 ∷ 2 ∷ []) ++ records.entries_bytes (records.entries_of compactions.now)) }
+    ensures typed { OnOk result (fields.is_record compactions.now ≡ true) }
+{
+    out.extend_from_slice(&[0, 2])?;
+    write_record(compactions, out)
+}
+
 // The bytes of a record, or the first field that has none.
 fn encode(alloc: Global, compactions: &Compactions) -> Result<Vec<u8>, SlateDBError>
     ensures exact { GivesList result (encoded_record compactions.now) }
@@ -73,9 +83,13 @@ fn encode(alloc: Global, compactions: &Compactions) -> Result<Vec<u8>, SlateDBEr
         return Err(SlateDBError::Unencodable(field));
     }
     let mut out = Vec::new(alloc);
-    out.extend_from_slice(&[0, 2])?;
-    write_record(compactions, &mut out)?;
-    Ok(out)
+    match write_whole(compactions, &mut out) {
+        Ok(()) => Ok(out),
+        Err(e) => {
+            drop(out);
+            Err(SlateDBError::from(e))
+        }
+    }
 }
 
 /// The bytes of a record, by version 2 of the layout. Unencodable names the first field that has none, in this order: WalId, NoKeys,

@@ -4,7 +4,7 @@ use crate::compaction_context::CompactionContext;
 use crate::compaction_spec::CompactionSpec;
 use crate::compaction_status::CompactionStatus;
 use crate::worker_spec::WorkerSpec;
-use slate_ids::{Listed, OutOfMemory, Ulid};
+use slate_ids::{Listed, OutOfMemory, Ulid, clone_both};
 use slate_tables::{Plain, SsTableHandle};
 use std::alloc::Global;
 
@@ -27,14 +27,22 @@ pub struct Compaction {
 
 impl Plain for Compaction {
     fn clone(&self, alloc: Global) -> Result<Compaction, OutOfMemory> {
-        Ok(Compaction {
-            id: self.id,
-            spec: self.spec.clone(alloc)?,
-            status: self.status,
-            worker: Plain::clone(&self.worker, alloc)?,
-            output_ssts: self.output_ssts.clone(alloc)?,
-            ctx: Plain::clone(&self.ctx, alloc)?,
-        })
+        let (spec, worker) = clone_both(alloc, &self.spec, &self.worker)?;
+        match clone_both(alloc, &self.output_ssts, &self.ctx) {
+            Ok((output_ssts, ctx)) => Ok(Compaction {
+                id: self.id,
+                spec,
+                status: self.status,
+                worker,
+                output_ssts,
+                ctx,
+            }),
+            Err(e) => {
+                drop(spec);
+                drop(worker);
+                Err(e)
+            }
+        }
     }
 
     fn is(&self, other: &Compaction) -> bool {

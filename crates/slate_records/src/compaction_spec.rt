@@ -1,5 +1,5 @@
 //! What a compaction is to do.
-ghost use Rattle.std.specs.Prelude.{◌≡◌};
+ghost use Rattle.std.specs.Prelude.{◌≡◌, IfOk};
 ghost use Rattle.slate_records.specs.Compactions.{segment_of, sources_of};
 
 use crate::source_id::SourceId;
@@ -51,6 +51,24 @@ impl CompactionSpec {
     }
 }
 
+// An equal prefix and equal sources.
+fn copies_of(
+    alloc: Global,
+    segment: &Bytes,
+    sources: &Listed<SourceId>,
+) -> Result<(Bytes, Listed<SourceId>), OutOfMemory>
+    ensures { IfOk result (λ copied. copied ≡ (segment.now, sources.now)) }
+{
+    let segment = Plain::clone(segment, alloc)?;
+    match sources.copy(alloc) {
+        Ok(sources) => Ok((segment, sources)),
+        Err(e) => {
+            drop(segment);
+            Err(e)
+        }
+    }
+}
+
 impl Plain for CompactionSpec {
     fn clone(&self, alloc: Global) -> Result<CompactionSpec, OutOfMemory> {
         match self {
@@ -58,15 +76,18 @@ impl Plain for CompactionSpec {
                 segment,
                 sources,
                 destination,
-            } => Ok(CompactionSpec::Tiered {
-                segment: Plain::clone(segment, alloc)?,
-                sources: sources.copy(alloc)?,
-                destination: *destination,
-            }),
-            CompactionSpec::DrainSegment { segment, sources } => Ok(CompactionSpec::DrainSegment {
-                segment: Plain::clone(segment, alloc)?,
-                sources: sources.copy(alloc)?,
-            }),
+            } => {
+                let (segment, sources) = copies_of(alloc, segment, sources)?;
+                Ok(CompactionSpec::Tiered {
+                    segment,
+                    sources,
+                    destination: *destination,
+                })
+            }
+            CompactionSpec::DrainSegment { segment, sources } => {
+                let (segment, sources) = copies_of(alloc, segment, sources)?;
+                Ok(CompactionSpec::DrainSegment { segment, sources })
+            }
         }
     }
 

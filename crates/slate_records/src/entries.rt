@@ -46,8 +46,23 @@ pub(crate) fn keep(entries: &mut Entries, compaction: Compaction) -> Result<(), 
     ensures err { OnErr result (entries.new.entries ≡ entries.old.entries) }
     ensures absent { OnErr result (entry_of compaction.id (compactions_of entries.old.entries) ≡ None) }
 {
-    entries.insert(compaction.id, compaction)?;
+    drop(entries.insert(compaction.id, compaction)?);
     Ok(())
+}
+
+// Puts an equal compaction under its own id.
+fn keep_copy(
+    alloc: Global,
+    entries: &mut Entries,
+    compaction: &Compaction,
+) -> Result<(), OutOfMemory>
+    requires { UnderOwnIds entries.old.entries }
+    ensures own { UnderOwnIds entries.new.entries }
+    ensures ok { OnOk result
+        (compactions_of entries.new.entries ≡ inserted compaction.now (compactions_of entries.old.entries)) }
+{
+    let compaction = compaction.clone(alloc)?;
+    keep(entries, compaction)
 }
 
 /// Equal compactions.
@@ -59,7 +74,13 @@ pub(crate) fn copies(alloc: Global, entries: &Entries) -> Result<Entries, OutOfM
 {
     let mut copied = BTreeMap::new(alloc);
     for compaction in entries.values() {
-        keep(&mut copied, compaction.clone(alloc)?)?;
+        match keep_copy(alloc, &mut copied, compaction) {
+            Ok(()) => {}
+            Err(e) => {
+                drop(copied);
+                return Err(e);
+            }
+        }
     }
     Ok(copied)
 }

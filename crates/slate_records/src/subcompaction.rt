@@ -1,6 +1,6 @@
 //! A part of a compaction.
 
-use slate_ids::{BytesRange, Listed, OutOfMemory};
+use slate_ids::{BytesRange, Listed, OutOfMemory, clone_both};
 use slate_tables::{Plain, SsTableHandle};
 use std::alloc::Global;
 
@@ -15,10 +15,8 @@ pub struct Subcompaction {
 
 impl Plain for Subcompaction {
     fn clone(&self, alloc: Global) -> Result<Subcompaction, OutOfMemory> {
-        Ok(Subcompaction {
-            range: Plain::clone(&self.range, alloc)?,
-            output_ssts: self.output_ssts.clone(alloc)?,
-        })
+        let (range, output_ssts) = clone_both(alloc, &self.range, &self.output_ssts)?;
+        Ok(Subcompaction { range, output_ssts })
     }
 
     fn is(&self, other: &Subcompaction) -> bool {

@@ -45,9 +45,14 @@ fn other(alloc: Global, db: &DbPath, rest: &str) -> Result<ObjectPath, OutOfMemo
 fn from_to(alloc: Global, db: &DbPath, folder: Folder) -> Result<Bounds, OutOfMemory>
     ensures { IfOk result (λ bounds. bounds ≡ from_to db.now folder) }
 {
-    let from = Bound::Included(other(alloc, db, folder.front())?);
-    let to = Bound::Excluded(other(alloc, db, folder.past())?);
-    Ok((from, to))
+    let from = other(alloc, db, folder.front())?;
+    match other(alloc, db, folder.past()) {
+        Ok(to) => Ok((Bound::Included(from), Bound::Excluded(to))),
+        Err(e) => {
+            drop(from);
+            Err(e)
+        }
+    }
 }
 
 // Between which paths those of a list stand.

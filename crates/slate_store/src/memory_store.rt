@@ -102,8 +102,37 @@ fn keep(objects: &mut Objects, path: ObjectPath, object: StoredObject) -> Result
     ensures ok { OnOk result (objects.new.entries ≡ insert_entry path_cmp objects.old.entries path object) }
     ensures err { OnErr result (objects.new.entries ≡ objects.old.entries) }
 {
-    objects.insert(path, object)?;
+    drop(objects.insert(path, object)?);
     Ok(())
+}
+
+// Puts an object of these bytes, this moment and this tag at a copy of a path.
+fn keep_bytes(
+    alloc: Global,
+    objects: &mut Objects,
+    path: &ObjectPath,
+    bytes: ByteList,
+    moment: Millis,
+    tag: u64,
+) -> Result<(), OutOfMemory>
+    ensures ok { OnOk result (objects.new.entries ≡ insert_entry path_cmp objects.old.entries path.now
+        (record { bytes = bytes; last_modified = moment; e_tag = tag })) }
+    ensures err { OnErr result (objects.new.entries ≡ objects.old.entries) }
+{
+    match path.copy(alloc) {
+        Ok(path) => {
+            let object = StoredObject {
+                bytes,
+                last_modified: moment,
+                e_tag: tag,
+            };
+            keep(objects, path, object)
+        }
+        Err(e) => {
+            drop(bytes);
+            Err(e)
+        }
+    }
 }
 
 // Removes the object at a path, unless the call fails.
@@ -114,7 +143,7 @@ fn remove_under(mark: Mark, objects: &mut Objects, path: &ObjectPath)
     match mark {
         Mark::Fail => {}
         Mark::Good | Mark::Lost => {
-            objects.remove(path);
+            drop(objects.remove(path));
         }
     }
 }
@@ -197,6 +226,7 @@ impl MemoryStore {
         match self.marks.take() {
             Mark::Good => Ok(value),
             Mark::Fail | Mark::Lost => {
+                drop(value);
                 self.faults = self.faults.saturating_add(1);
                 Err(StoreError::Fault)
             }
@@ -239,12 +269,8 @@ impl MemoryStore {
         let Some(tag) = self.next_tag() else {
             return Err(self.fault());
         };
-        let object = StoredObject {
-            bytes: ByteList::copy_of(alloc, bytes)?,
-            last_modified: moment,
-            e_tag: tag,
-        };
-        keep(&mut self.objects, path.copy(alloc)?, object)?;
+        let bytes = ByteList::copy_of(alloc, bytes)?;
+        keep_bytes(alloc, &mut self.objects, path, bytes, moment, tag)?;
         self.last_tag = tag;
         self.answer(tag)
     }

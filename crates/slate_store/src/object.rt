@@ -1,5 +1,5 @@
 //! Objects, and what a list tells of them.
-ghost use Rattle.std.specs.Prelude.{◌≡◌, IfOk};
+ghost use Rattle.std.specs.Prelude.{◌≡◌, ◌∷◌, [], ◌++◌, IfOk, OnOk};
 
 use slate_ids::{ByteList, Listed, Millis, ObjectPath, OutOfMemory};
 use std::alloc::Global;
@@ -53,6 +53,18 @@ impl StoredObject {
     }
 }
 
+// Adds equal metadata at the end of a list.
+fn add_copy(
+    alloc: Global,
+    copied: &mut Listed<ObjectMetadata>,
+    metadata: &ObjectMetadata,
+) -> Result<(), OutOfMemory>
+    ensures { OnOk result (copied.new ≡ copied.old ++ metadata.now ∷ []) }
+{
+    let metadata = metadata.copy(alloc)?;
+    copied.push(metadata)
+}
+
 /// Equal metadata, in the same order.
 pub fn copy_listing(
     alloc: Global,
@@ -62,7 +74,13 @@ pub fn copy_listing(
 {
     let mut copied = Listed::new(alloc);
     for metadata in listing {
-        copied.push(metadata.copy(alloc)?)?;
+        match add_copy(alloc, &mut copied, metadata) {
+            Ok(()) => {}
+            Err(e) => {
+                drop(copied);
+                return Err(e);
+            }
+        }
     }
     Ok(copied)
 }

@@ -51,13 +51,21 @@ pub fn read_all<S: Source>(
     loop {
         let room = (limit + 1 - bytes.len()).min(CHUNK);
         let Ok(count) = source.read(&mut buf[..room]) else {
+            drop(bytes);
             return Err(ReadError::Fault);
         };
         if count == 0 {
             return Ok(bytes);
         }
-        bytes.extend_from_slice(&buf[..count])?;
+        match bytes.extend_from_slice(&buf[..count]) {
+            Ok(()) => {}
+            Err(e) => {
+                drop(bytes);
+                return Err(ReadError::from(e));
+            }
+        }
         if bytes.len() > limit {
+            drop(bytes);
             return Err(ReadError::TooLong);
         }
     }

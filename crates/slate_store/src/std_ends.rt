@@ -30,7 +30,8 @@ impl<R: Read> Source for StdSource<R> {
     fn read(&mut self, buf: &mut [u8]) -> Result<usize, ReadFault> {
         match self.reader.read(buf) {
             Ok(count) => Ok(count),
-            Err(_) => {
+            Err(e) => {
+                drop(e);
                 self.faults = self.faults.saturating_add(1);
                 Err(ReadFault)
             }
@@ -68,7 +69,8 @@ impl<W: Write> Sink for StdSink<W> {
                 }
                 Ok(count)
             }
-            Err(_) => {
+            Err(e) => {
+                drop(e);
                 self.faults = self.faults.saturating_add(1);
                 Err(WriteFault)
             }

@@ -16,6 +16,24 @@ pub enum StoreCall {
     Delete(ObjectPath),
 }
 
+// An equal path and equal bytes.
+fn both(
+    alloc: Global,
+    path: &ObjectPath,
+    bytes: &ByteList,
+) -> Result<(ObjectPath, ByteList), OutOfMemory>
+    ensures { IfOk result (λ copied. copied ≡ (path.now, bytes.now)) }
+{
+    let path = path.copy(alloc)?;
+    match bytes.copy(alloc) {
+        Ok(bytes) => Ok((path, bytes)),
+        Err(e) => {
+            drop(path);
+            Err(e)
+        }
+    }
+}
+
 impl StoreCall {
     /// An equal value.
     pub fn copy(&self, alloc: Global) -> Result<StoreCall, OutOfMemory>
@@ -25,12 +43,17 @@ impl StoreCall {
             StoreCall::List(dir) => StoreCall::List(*dir),
             StoreCall::Get(path) => StoreCall::Get(path.copy(alloc)?),
             StoreCall::PutNew(path, bytes) => {
-                StoreCall::PutNew(path.copy(alloc)?, bytes.copy(alloc)?)
+                let (path, bytes) = both(alloc, path, bytes)?;
+                StoreCall::PutNew(path, bytes)
             }
             StoreCall::Replace(path, tag, bytes) => {
-                StoreCall::Replace(path.copy(alloc)?, *tag, bytes.copy(alloc)?)
+                let (path, bytes) = both(alloc, path, bytes)?;
+                StoreCall::Replace(path, *tag, bytes)
             }
-            StoreCall::Put(path, bytes) => StoreCall::Put(path.copy(alloc)?, bytes.copy(alloc)?),
+            StoreCall::Put(path, bytes) => {
+                let (path, bytes) = both(alloc, path, bytes)?;
+                StoreCall::Put(path, bytes)
+            }
             StoreCall::Delete(path) => StoreCall::Delete(path.copy(alloc)?),
         })
     }

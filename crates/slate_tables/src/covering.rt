@@ -90,7 +90,9 @@ fn ends(views: &[SsTableView], range: &KeySpan<'_>) -> (usize, usize)
 {
     let none = BytesRange::new_empty();
     let to = views.partition_point(|view| starts_in(view, range, &none));
-    (first_reached(views, range, &none), to)
+    let from = first_reached(views, range, &none);
+    drop(none);
+    (from, to)
 }
 
 /// The places of the views whose slot meets the range: from the first that the range starts in or before, to the last that starts in

@@ -1,6 +1,6 @@
 //! How many views of L0 show one key.
 ghost use Rattle.std.specs.Prelude.{◌≡◌, ◌⊎◌, ◌++◌, ◌<◌, ◌≤◌, ℕ, List, length, count_by, true, IfOk, OnOk};
-ghost use Rattle.std.specs.List.Sorted.{IsSorted};
+ghost use Rattle.std.specs.List.Sorted.{IsSorted, IsPermutation};
 ghost use Rattle.std.specs.Ordering.{nat_cmp};
 ghost use Rattle.std.specs.Cmp.Lexicographic.{slice_cmp};
 ghost use Rattle.slate_ids.specs.Keys.{pointed, key_lt, key_le};
@@ -10,7 +10,7 @@ ghost use Rattle.slate_tables.specs.Overlap.{IsGreatestOverlap, IsMostOpen, incl
 
 use crate::ss_table_view::SsTableView;
 use bytes::Bytes;
-use slate_ids::{BytesRange, OutOfMemory};
+use slate_ids::{BytesRange, KeySpan, OutOfMemory};
 use std::alloc::Global;
 use std::collections::VecDeque;
 use std::ops::Bound;
@@ -43,26 +43,40 @@ fn push_excluded(keys: &mut Vec<Bytes>, bound: Bound<&Bytes>) -> Result<(), OutO
     Ok(())
 }
 
+// Adds the edges of a range.
+fn add_edges(edges: &mut Edges, span: &KeySpan<'_>) -> Result<(), OutOfMemory>
+    ensures starts { OnOk result (edges.new.starts.items ≡ edges.old.starts.items ++ included_in span.now.start) }
+    ensures ends { OnOk result (edges.new.ends.items ≡ edges.old.ends.items ++ included_in span.now.end) }
+    ensures limits { OnOk result (edges.new.limits.items ≡ edges.old.limits.items ++ excluded_in span.now.end) }
+{
+    push_included(&mut edges.starts, span.start_bound())?;
+    push_included(&mut edges.ends, span.end_bound())?;
+    push_excluded(&mut edges.limits, span.end_bound())
+}
+
 fn edges_of(alloc: Global, views: &VecDeque<SsTableView>) -> Result<Edges, OutOfMemory>
     ensures starts { IfOk result (λ edges. edges.starts.items ≡ start_keys views.now.items) }
     ensures ends { IfOk result (λ edges. edges.ends.items ≡ end_keys views.now.items) }
     ensures limits { IfOk result (λ edges. edges.limits.items ≡ limit_keys views.now.items) }
 {
     let none = BytesRange::new_empty();
-    let mut starts = Vec::new(alloc);
-    let mut ends = Vec::new(alloc);
-    let mut limits = Vec::new(alloc);
+    let mut edges = Edges {
+        starts: Vec::new(alloc),
+        ends: Vec::new(alloc),
+        limits: Vec::new(alloc),
+    };
     for i in 0..views.len() {
-        let span = views[i].effective_span(&none);
-        push_included(&mut starts, span.start_bound())?;
-        push_included(&mut ends, span.end_bound())?;
-        push_excluded(&mut limits, span.end_bound())?;
+        match add_edges(&mut edges, &views[i].effective_span(&none)) {
+            Ok(()) => {}
+            Err(e) => {
+                drop(edges);
+                drop(none);
+                return Err(e);
+            }
+        }
     }
-    Ok(Edges {
-        starts,
-        ends,
-        limits,
-    })
+    drop(none);
+    Ok(edges)
 }
 
 // How many keys stand before another.
@@ -117,6 +131,21 @@ fn most_open(starts: &[Bytes], ends: &[Bytes], limits: &[Bytes]) -> usize
     most
 }
 
+// Sorts the keys of each list.
+fn sort(edges: &mut Edges) -> Result<(), OutOfMemory>
+    ensures starts { OnOk result (IsSorted (slice_cmp nat_cmp) edges.new.starts.items) }
+    ensures ends { OnOk result (IsSorted (slice_cmp nat_cmp) edges.new.ends.items) }
+    ensures limits { OnOk result (IsSorted (slice_cmp nat_cmp) edges.new.limits.items) }
+    ensures start_order { OnOk result (IsPermutation edges.old.starts.items edges.new.starts.items) }
+    ensures end_order { OnOk result (IsPermutation edges.old.ends.items edges.new.ends.items) }
+    ensures limit_order { OnOk result (IsPermutation edges.old.limits.items edges.new.limits.items) }
+{
+    edges.starts.sort()?;
+    edges.ends.sort()?;
+    edges.limits.sort()?;
+    Ok(())
+}
+
 /// The greatest number of views whose effective ranges have one key, and 0 for no views. Each view shows a key, as `all_show_keys`
 /// tells. The starts and the
 /// ends are sorted, and one pass over the starts counts how many views are open there.
@@ -125,12 +154,18 @@ pub fn max_l0_overlap(alloc: Global, l0: &VecDeque<SsTableView>) -> Result<usize
     ensures { IfOk result (λ n. IsGreatestOverlap l0.now.items n) }
 {
     let mut edges = edges_of(alloc, l0)?;
-    edges.starts.sort()?;
-    edges.ends.sort()?;
-    edges.limits.sort()?;
-    Ok(most_open(
+    match sort(&mut edges) {
+        Ok(()) => {}
+        Err(e) => {
+            drop(edges);
+            return Err(e);
+        }
+    }
+    let most = most_open(
         edges.starts.as_slice(),
         edges.ends.as_slice(),
         edges.limits.as_slice(),
-    ))
+    );
+    drop(edges);
+    Ok(most)
 }

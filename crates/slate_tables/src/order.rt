@@ -58,10 +58,12 @@ fn ends_before_next(views: &[SsTableView], place: usize) -> bool
 {
     let none = BytesRange::new_empty();
     let own = views[place].effective_span(&none);
-    match views[place + 1..].first() {
+    let ends = match views[place + 1..].first() {
         Some(next) => ends_by(own.end_bound(), next.effective_span(&none).start_bound()),
         None => true,
-    }
+    };
+    drop(none);
+    ends
 }
 
 /// Whether views ascend, and overlap at most at a boundary key.

@@ -67,13 +67,16 @@ impl SortedRun {
         let none = BytesRange::new_empty();
         let views = self.sst_views();
         let (Some(first), Some(last)) = (views.first(), views.last()) else {
+            drop(none);
             return Ok(false);
         };
         let span = KeySpan::new(
             first.effective_span(&none).start_bound(),
             last.effective_span(&none).end_bound(),
         );
-        Ok(span.meets(&range.as_span()))
+        let overlaps = span.meets(&range.as_span());
+        drop(none);
+        Ok(overlaps)
     }
 
     /// Whether each view shows a key and is of a compacted table, and the views ascend, and overlap at most at a boundary key.
@@ -101,7 +104,13 @@ impl SortedRun {
         let views = self.sst_views();
         let mut found = VecDeque::new(alloc);
         for view in &views[covering_part(views, &range.as_span())] {
-            found.push_back(view)?;
+            match found.push_back(view) {
+                Ok(()) => {}
+                Err(e) => {
+                    drop(found);
+                    return Err(OutOfMemory::from(e));
+                }
+            }
         }
         Ok(found)
     }
@@ -120,7 +129,9 @@ impl SortedRun {
         let key = Bytes::copy_from_slice(alloc, key)?;
         let range = KeySpan::new(Bound::Included(&key), Bound::Included(&key));
         let views = self.sst_views();
-        Ok(&views[covering_part(views, &range)])
+        let part = covering_part(views, &range);
+        drop(key);
+        Ok(&views[part])
     }
 
     /// An equal value. It shares the keys.

@@ -60,9 +60,23 @@ impl SsTableInfo {
     pub fn clone(&self, alloc: Global) -> Result<SsTableInfo, OutOfMemory>
         ensures { IfOk result (λ copied. copied ≡ self.now) }
     {
-        Ok(SsTableInfo {
-            first_entry: Plain::clone(&self.first_entry, alloc)?,
-            last_entry: Plain::clone(&self.last_entry, alloc)?,
+        let first_entry = Plain::clone(&self.first_entry, alloc)?;
+        match Plain::clone(&self.last_entry, alloc) {
+            Ok(last_entry) => Ok(self.with_entries(first_entry, last_entry)),
+            Err(e) => {
+                drop(first_entry);
+                Err(e)
+            }
+        }
+    }
+
+    // The same with these entries.
+    fn with_entries(&self, first_entry: Option<Bytes>, last_entry: Option<Bytes>) -> SsTableInfo
+        ensures { result ≡ record self.now { first_entry = first_entry; last_entry = last_entry } }
+    {
+        SsTableInfo {
+            first_entry,
+            last_entry,
             index_offset: self.index_offset,
             index_len: self.index_len,
             filter_offset: self.filter_offset,
@@ -72,7 +86,7 @@ impl SsTableInfo {
             stats_offset: self.stats_offset,
             stats_len: self.stats_len,
             filter_format: self.filter_format,
-        })
+        }
     }
 }
 

@@ -1,7 +1,7 @@
 //! A view of a table: all of its keys, or a range of them.
 ghost use Rattle.std.specs.Prelude.{◌≡◌, ℕ, List, true, false, IfOk, Some, None, is_some, option_copied};
 ghost use Rattle.std.specs.Option.{ForSome};
-ghost use Rattle.slate_ids.specs.KeyRange.{has_key, ranges_meet, no_keys};
+ghost use Rattle.slate_ids.specs.KeyRange.{has_key, ranges_meet, no_keys, intersection};
 ghost use Rattle.slate_tables.specs.Tables.{physical_range, table_size};
 ghost use Rattle.slate_tables.specs.Views as views;
 ghost use Rattle.slate_tables.specs.Views.{FitsId, MayShow, HasKey, starts_with_key, effective_range, view_range, projected};
@@ -56,6 +56,18 @@ fn has_first_key(range: &KeySpan<'_>) -> bool
     match range.start_bound() {
         Bound::Included(key) => range.contains(key),
         Bound::Excluded(_) | Bound::Unbounded => false,
+    }
+}
+
+// What two ranges have in common, where that is proper.
+fn common_range(a: &KeySpan<'_>, b: &KeySpan<'_>) -> Result<Option<BytesRange>, OutOfMemory>
+    ensures { IfOk result (λ r. r ≡ intersection a.now b.now) }
+{
+    let common = a.common(b);
+    if common.is_proper() {
+        Ok(Some(common.to_range()?))
+    } else {
+        Ok(None)
     }
 }
 
@@ -126,7 +138,9 @@ impl SsTableView {
         ranges_are_sets();
         let _shown = self.visible_range();
         let none = BytesRange::new_empty();
-        has_first_key(&self.effective_span(&none))
+        let shows = has_first_key(&self.effective_span(&none));
+        drop(none);
+        shows
     }
 
     /// The view with this visible range, which starts at a key or is open there; None where it misses the physical range.
@@ -139,14 +153,23 @@ impl SsTableView {
         ensures { IfOk result (λ v. v ≡ projected self.now visible) }
     {
         let none = BytesRange::new_empty();
-        if !self.physical_span(&none).meets(&visible.as_span()) {
+        let meets = self.physical_span(&none).meets(&visible.as_span());
+        drop(none);
+        if !meets {
+            drop(visible);
             return Ok(None);
         }
-        Ok(Some(SsTableView {
-            id: self.id,
-            sst: self.sst.clone(alloc)?,
-            visible: Some(visible),
-        }))
+        match self.sst.clone(alloc) {
+            Ok(sst) => Ok(Some(SsTableView {
+                id: self.id,
+                sst,
+                visible: Some(visible),
+            })),
+            Err(e) => {
+                drop(visible);
+                Err(e)
+            }
+        }
     }
 
     /// The keys that are visible, where not all of the table's are.
@@ -163,18 +186,18 @@ impl SsTableView {
         ensures { IfOk result (λ r. r ≡ view_range self.now range self.now.visible) }
     {
         if let Some(visible) = &self.visible {
-            return range.intersect(visible);
+            let common = range.intersect(visible);
+            drop(range);
+            return common;
         }
         if self.sst.info.last_entry.is_none() {
             return Ok(Some(range));
         }
         let none = BytesRange::new_empty();
-        let common = range.as_span().common(&self.effective_span(&none));
-        if common.is_proper() {
-            Ok(Some(common.to_range()?))
-        } else {
-            Ok(None)
-        }
+        let common = common_range(&range.as_span(), &self.effective_span(&none));
+        drop(none);
+        drop(range);
+        common
     }
 
     /// About how many bytes the table has, saturating.
@@ -188,11 +211,18 @@ impl SsTableView {
     pub fn clone(&self, alloc: Global) -> Result<SsTableView, OutOfMemory>
         ensures { IfOk result (λ copied. copied ≡ self.now) }
     {
-        Ok(SsTableView {
-            id: self.id,
-            sst: self.sst.clone(alloc)?,
-            visible: Plain::clone(&self.visible, alloc)?,
-        })
+        let sst = self.sst.clone(alloc)?;
+        match Plain::clone(&self.visible, alloc) {
+            Ok(visible) => Ok(SsTableView {
+                id: self.id,
+                sst,
+                visible,
+            }),
+            Err(e) => {
+                drop(sst);
+                Err(e)
+            }
+        }
     }
 }
 

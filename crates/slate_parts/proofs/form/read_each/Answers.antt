@@ -4,5 +4,5 @@ use Rattle.slate_parts.proofs.form.read_each.Goals as goal
 
 pub loop-preserved : goal.loop-preserved
 loop-preserved g c =
-    let read : (g.F.Form.in_front c.args.tables.now) c.loop.left ≡ Some (c.in-Some.item, c.in-Some.rest) = cc (c.in_ok-item.ensures, c.in-Some.is) in
-    rw c.in_ok-push-in-Some.ensures.ok (read_more (g.F.Form.in_front c.args.tables.now) c.loop.items c.in-Some.item c.loop.left c.in-Some.rest c.args.count c.loop.counter c.loop-test.true read ∙ c.loop.invariant)
+    let read : (g.F.Form.in_front c.args.tables.now) c.loop.left ≡ Some (c.in-Ok-Some.item, c.in-Ok-Some.rest) = cc c.in-Ok-Some.ensures in
+    rw c.in-Ok.ensures.ok (read_more (g.F.Form.in_front c.args.tables.now) c.loop.items c.in-Ok-Some.item c.loop.left c.in-Ok-Some.rest c.args.count c.loop.counter c.loop-test.true read ∙ c.loop.invariant)

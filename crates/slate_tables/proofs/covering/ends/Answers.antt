@@ -14,6 +14,6 @@ returns c =
       within = c.partition_point-to.ensures.bound;
       started = point.0;
       not_started = point.1;
-      passed = c.first_reached.ensures.passed;
-      reached = c.first_reached.ensures.reached;
+      passed = c.first_reached-from.ensures.passed;
+      reached = c.first_reached-from.ensures.reached;
     }
