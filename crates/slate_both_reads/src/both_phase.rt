@@ -85,18 +85,20 @@ impl<T: Drop, V: Drop> BothPhase<T, V> {
         let mut read = read;
         match read.goes_on(alloc, first, answer) {
             Step::Again => {
-                *self = BothPhase::First(read);
+                drop(mem::replace(self, BothPhase::First(read)));
                 Step::Again
             }
             Step::Done(Ok(one)) => {
-                *self = BothPhase::Between(one);
+                drop(read);
+                drop(mem::replace(self, BothPhase::Between(one)));
                 Step::Again
             }
             Step::Done(Err(e)) => {
                 if e.is_memory() {
-                    *self = BothPhase::First(read);
+                    drop(mem::replace(self, BothPhase::First(read)));
                 } else {
-                    *self = BothPhase::Over;
+                    drop(read);
+                    drop(mem::replace(self, BothPhase::Over));
                 }
                 Step::Done(Err(e))
             }
@@ -120,18 +122,21 @@ impl<T: Drop, V: Drop> BothPhase<T, V> {
         let mut read = read;
         match read.goes_on(alloc, second, answer) {
             Step::Again => {
-                *self = BothPhase::Second(one, read);
+                drop(mem::replace(self, BothPhase::Second(one, read)));
                 Step::Again
             }
             Step::Done(Ok(other)) => {
-                *self = BothPhase::Over;
+                drop(read);
+                drop(mem::replace(self, BothPhase::Over));
                 Step::Done(Ok(Both { one, other }))
             }
             Step::Done(Err(e)) => {
                 if e.is_memory() {
-                    *self = BothPhase::Second(one, read);
+                    drop(mem::replace(self, BothPhase::Second(one, read)));
                 } else {
-                    *self = BothPhase::Over;
+                    drop(one);
+                    drop(read);
+                    drop(mem::replace(self, BothPhase::Over));
                 }
                 Step::Done(Err(e))
             }
@@ -154,18 +159,21 @@ impl<T: Drop, V: Drop> BothPhase<T, V> {
         let mut read = ReadPhase::Listing;
         match read.goes_on(alloc, second, answer) {
             Step::Again => {
-                *self = BothPhase::Second(one, read);
+                drop(mem::replace(self, BothPhase::Second(one, read)));
                 Step::Again
             }
             Step::Done(Ok(other)) => {
-                *self = BothPhase::Over;
+                drop(read);
+                drop(mem::replace(self, BothPhase::Over));
                 Step::Done(Ok(Both { one, other }))
             }
             Step::Done(Err(e)) => {
+                drop(read);
                 if e.is_memory() {
-                    *self = BothPhase::Between(one);
+                    drop(mem::replace(self, BothPhase::Between(one)));
                 } else {
-                    *self = BothPhase::Over;
+                    drop(one);
+                    drop(mem::replace(self, BothPhase::Over));
                 }
                 Step::Done(Err(e))
             }
@@ -213,8 +221,14 @@ impl<T: Drop, V: Drop> BothPhase<T, V> {
             → FaultRose (S.told store.old) (S.told store.new) result }
     {
         let call = self.asks(first, second);
-        match perform(alloc, store, &call, moment) {
-            Ok(answer) => self.goes_on(alloc, first, second, &answer),
+        let performed = perform(alloc, store, &call, moment);
+        drop(call);
+        match performed {
+            Ok(answer) => {
+                let step = self.goes_on(alloc, first, second, &answer);
+                drop(answer);
+                step
+            }
             Err(_) => Step::Done(Err(SlateDBError::OutOfMemory)),
         }
     }

@@ -31,11 +31,15 @@ pub fn read_both<T: Drop, C: ObjectCodec<T>, V: Drop, D: ObjectCodec<V>, S: Obje
     let mut left = tries;
     loop {
         match reading.next(alloc, first, second, store, 0) {
-            Step::Done(result) => return result,
+            Step::Done(result) => {
+                drop(reading);
+                return result;
+            }
             Step::Again => {}
         }
         if reading.is_start() {
             if left == 1 {
+                drop(reading);
                 return Err(SlateDBError::Contended);
             }
             left -= 1;

@@ -34,11 +34,15 @@ pub fn delete_checked<T: Drop, C: ObjectCodec<T>, N: VersionNames<T>, S: ObjectS
     let mut left = tries;
     loop {
         match deletion.next(alloc, sequenced, names, store, 0) {
-            Step::Done(result) => return result,
+            Step::Done(result) => {
+                drop(deletion);
+                return result;
+            }
             Step::Again => {}
         }
         if deletion.is_start() {
             if left == 1 {
+                drop(deletion);
                 return Err(SlateDBError::Contended);
             }
             left -= 1;

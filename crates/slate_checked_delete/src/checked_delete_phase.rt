@@ -87,12 +87,12 @@ impl<T: Drop> CheckedDeletePhase<T> {
         ensures due { StillDue result (checked_due self.new) }
         ensures memory { NeverOut result }
     {
-        *self = CheckedDeletePhase::Over;
+        drop(mem::replace(self, CheckedDeletePhase::Over));
         match boundary {
             None => Step::Done(Err(SlateDBError::Corrupt(FormatName::Boundary))),
             Some(boundary) => {
                 if n != latest && !names.names(value, n) && n <= boundary {
-                    *self = CheckedDeletePhase::Deleting(n);
+                    drop(mem::replace(self, CheckedDeletePhase::Deleting(n)));
                     Step::Again
                 } else {
                     Step::Done(Err(SlateDBError::InvalidDeletion(n)))
@@ -120,23 +120,28 @@ impl<T: Drop> CheckedDeletePhase<T> {
         let mut read = read;
         match read.goes_on(alloc, sequenced, answer) {
             Step::Again => {
-                *self = CheckedDeletePhase::Reading(n, read);
+                drop(mem::replace(self, CheckedDeletePhase::Reading(n, read)));
                 Step::Again
             }
             Step::Done(Err(e)) => {
                 if e.is_memory() {
-                    *self = CheckedDeletePhase::Reading(n, read);
+                    drop(mem::replace(self, CheckedDeletePhase::Reading(n, read)));
                 } else {
-                    *self = CheckedDeletePhase::Over;
+                    drop(read);
+                    drop(mem::replace(self, CheckedDeletePhase::Over));
                 }
                 Step::Done(Err(e))
             }
             Step::Done(Ok(None)) => {
-                *self = CheckedDeletePhase::Over;
+                drop(read);
+                drop(mem::replace(self, CheckedDeletePhase::Over));
                 Step::Done(Err(SlateDBError::LatestTransactionalObjectVersionMissing))
             }
             Step::Done(Ok(Some((latest, value)))) => {
-                self.decide(names, n, latest, &value, boundary_told(answer))
+                drop(read);
+                let step = self.decide(names, n, latest, &value, boundary_told(answer));
+                drop(value);
+                step
             }
         }
     }
@@ -160,7 +165,10 @@ impl<T: Drop> CheckedDeletePhase<T> {
                 self.read_on(alloc, sequenced, names, n, read, answer)
             }
             (CheckedDeletePhase::Deleting(_), StoreAnswer::Deleted) => Step::Done(Ok(())),
-            _ => Step::Done(Err(SlateDBError::StoreFault)),
+            (phase, _) => {
+                drop(phase);
+                Step::Done(Err(SlateDBError::StoreFault))
+            }
         }
     }
 
@@ -184,8 +192,14 @@ impl<T: Drop> CheckedDeletePhase<T> {
             → FaultRose (S.told store.old) (S.told store.new) result }
     {
         let call = self.asks(sequenced);
-        match perform(alloc, store, &call, moment) {
-            Ok(answer) => self.goes_on(alloc, sequenced, names, &answer),
+        let performed = perform(alloc, store, &call, moment);
+        drop(call);
+        match performed {
+            Ok(answer) => {
+                let step = self.goes_on(alloc, sequenced, names, &answer);
+                drop(answer);
+                step
+            }
             Err(_) => Step::Done(Err(SlateDBError::OutOfMemory)),
         }
     }

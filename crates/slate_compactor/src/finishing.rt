@@ -162,6 +162,20 @@ fn put_run(runs: &mut Vec<SortedRun>, run: SortedRun) -> Result<(), OutOfMemory>
     Ok(runs.insert(place, run)?)
 }
 
+// These runs, with one more at its place.
+fn with_run(run: SortedRun, left: Vec<SortedRun>) -> Result<Vec<SortedRun>, OutOfMemory>
+    ensures { IfOk result (λ runs. runs.items ≡ ends.with_run run left.items) }
+{
+    let mut runs = left;
+    match put_run(&mut runs, run) {
+        Ok(()) => Ok(runs),
+        Err(e) => {
+            drop(runs);
+            Err(e)
+        }
+    }
+}
+
 // The runs that stay, with what a compaction writes.
 fn with_written(
     alloc: Global,
@@ -171,12 +185,18 @@ fn with_written(
 ) -> Result<Vec<SortedRun>, OutOfMemory>
     ensures { IfOk result (λ runs. runs.items ≡ ends.with_written spec.now outputs.now left.items) }
 {
-    let mut runs = left;
-    if let CompactionSpec::Tiered { destination, .. } = spec {
-        let run = output_run(alloc, *destination, outputs)?;
-        put_run(&mut runs, run)?;
+    match spec {
+        CompactionSpec::DrainSegment { .. } => Ok(left),
+        CompactionSpec::Tiered { destination, .. } => {
+            match output_run(alloc, *destination, outputs) {
+                Ok(run) => with_run(run, left),
+                Err(e) => {
+                    drop(left);
+                    Err(e)
+                }
+            }
+        }
     }
-    Ok(runs)
 }
 
 // ---- the tree
@@ -191,7 +211,13 @@ fn tree_without(
     ensures { IfOk result (λ made. made ≡ ends.tree_with (contains id_cmp taken.now) runs.items tree.now) }
 {
     let newest = newest_taken(taken, tree.l0.as_deque());
-    let l0 = views_left(alloc, taken, tree.l0.as_deque())?;
+    let l0 = match views_left(alloc, taken, tree.l0.as_deque()) {
+        Ok(l0) => l0,
+        Err(e) => {
+            drop(runs);
+            return Err(e);
+        }
+    };
     let marker = match newest {
         Some(id) => Some(id),
         None => tree.last_compacted_l0_sst_view_id,
@@ -224,6 +250,7 @@ fn finished_by(
     }
     let left = runs_left(alloc, runs, tree.compacted.as_slice())?;
     if collides(spec, left.as_slice()) {
+        drop(left);
         return Ok(None);
     }
     let written = with_written(alloc, spec, outputs, left)?;
@@ -241,6 +268,14 @@ pub(crate) fn finished_tree(
     ensures { IfOk result (λ made. made ≡ ends.finished_tree spec.now outputs.now tree.now) }
 {
     let views = views_of(alloc, spec.sources())?;
-    let runs = runs_of(alloc, spec.sources())?;
-    finished_by(alloc, &views, &runs, spec, outputs, tree)
+    let made = match runs_of(alloc, spec.sources()) {
+        Ok(runs) => {
+            let made = finished_by(alloc, &views, &runs, spec, outputs, tree);
+            drop(runs);
+            made
+        }
+        Err(e) => Err(e),
+    };
+    drop(views);
+    made
 }

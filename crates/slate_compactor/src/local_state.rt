@@ -14,6 +14,7 @@ use slate_model::{
 };
 use slate_record_updates::put_local_statuses;
 use std::alloc::Global;
+use std::mem;
 
 /// What a compactor holds between its calls. A refresh and the end of a compaction make another; what a commit put is taken in place.
 #[derive(Debug, Drop)]
@@ -61,8 +62,13 @@ fn with_pending(
     ensures { IfOk result (λ ids. ids ≡ held.one_more_pending pending.now id) }
 {
     let mut ids = pending.copy(alloc)?;
-    ids.push(id)?;
-    Ok(ids)
+    match ids.push(id) {
+        Ok(()) => Ok(ids),
+        Err(e) => {
+            drop(ids);
+            Err(e)
+        }
+    }
 }
 
 // An equal record, in which this compaction has another status.
@@ -76,9 +82,22 @@ fn with_status(
 {
     let mut made = Plain::clone(compaction, alloc)?;
     made.status = status;
-    let mut new = Plain::clone(compactions, alloc)?;
-    new.insert(made)?;
-    Ok(new)
+    match Plain::clone(compactions, alloc) {
+        Ok(copied) => {
+            let mut new = copied;
+            match new.insert(made) {
+                Ok(()) => Ok(new),
+                Err(e) => {
+                    drop(new);
+                    Err(e)
+                }
+            }
+        }
+        Err(e) => {
+            drop(made);
+            Err(e)
+        }
+    }
 }
 
 // Adds the compacted tables of these.
@@ -100,6 +119,35 @@ fn has(ids: &[Ulid], id: Ulid) -> bool
     ids.iter().any(|other| *other == id)
 }
 
+// A state of these trees, and of what memory was asked for.
+fn whole(
+    trees: LocalTrees,
+    compactions: Result<Compactions, OutOfMemory>,
+    pending: Result<Listed<Ulid>, OutOfMemory>,
+) -> Result<LocalState, OutOfMemory>
+    ensures { IfOk result (λ local. (local.trees ≡ trees) × (compactions ≡ Ok local.compactions) × (pending ≡ Ok local.pending)) }
+{
+    match compactions {
+        Ok(compactions) => match pending {
+            Ok(pending) => Ok(LocalState {
+                trees,
+                compactions,
+                pending,
+            }),
+            Err(e) => {
+                drop(compactions);
+                drop(trees);
+                Err(e)
+            }
+        },
+        Err(e) => {
+            drop(pending);
+            drop(trees);
+            Err(e)
+        }
+    }
+}
+
 impl LocalState {
     /// After an open: the trees of the manifest that its raise put, and the record that it committed last; nothing is pending.
     pub fn opened(
@@ -109,11 +157,17 @@ impl LocalState {
     ) -> Result<LocalState, OutOfMemory>
         ensures { IfOk result (λ local. local ≡ opened core.now compactions) }
     {
-        Ok(LocalState {
-            trees: LocalTrees::of(alloc, core)?,
-            compactions,
-            pending: Listed::new(alloc),
-        })
+        match LocalTrees::of(alloc, core) {
+            Ok(trees) => Ok(LocalState {
+                trees,
+                compactions,
+                pending: Listed::new(alloc),
+            }),
+            Err(e) => {
+                drop(compactions);
+                Err(e)
+            }
+        }
     }
 
     /// After a refresh: the record read with the local statuses of compactions that are over, and the trees merged with those of the
@@ -129,11 +183,8 @@ impl LocalState {
             (λ e. (refreshed compactions.now core.now self.now ≡ Err e) ⊎ (is_memory e ≡ true)) }
     {
         let trees = self.trees.merged(alloc, core)?;
-        Ok(LocalState {
-            trees,
-            compactions: put_local_statuses(alloc, &self.compactions, compactions)?,
-            pending: self.pending.copy(alloc)?,
-        })
+        let read = put_local_statuses(alloc, &self.compactions, compactions);
+        Ok(whole(trees, read, self.pending.copy(alloc))?)
     }
 
     /// After a schedule: the record committed, with the local statuses of compactions that are over. All else stays. Running out of
@@ -146,7 +197,8 @@ impl LocalState {
         ensures ok { OnOk result (self.new ≡ scheduled committed.now self.old) }
         ensures err { OnErr result (self.new ≡ self.old) }
     {
-        self.compactions = put_local_statuses(alloc, &self.compactions, committed)?;
+        let taken = put_local_statuses(alloc, &self.compactions, committed)?;
+        drop(mem::replace(&mut self.compactions, taken));
         Ok(())
     }
 
@@ -156,8 +208,9 @@ impl LocalState {
         ensures ok { OnOk result (self.new ≡ manifest_committed core.now self.old) }
         ensures err { OnErr result (self.new ≡ self.old) }
     {
-        self.trees = LocalTrees::of(alloc, core)?;
-        self.pending = Listed::new(alloc);
+        let trees = LocalTrees::of(alloc, core)?;
+        drop(mem::replace(&mut self.trees, trees));
+        drop(mem::replace(&mut self.pending, Listed::new(alloc)));
         Ok(())
     }
 
@@ -165,7 +218,7 @@ impl LocalState {
     pub fn take_record(&mut self, committed: Compactions)
         ensures { self.new ≡ record_committed committed self.old }
     {
-        self.compactions = committed;
+        drop(mem::replace(&mut self.compactions, committed));
     }
 
     // The end of a compaction that is compacted.
@@ -180,16 +233,13 @@ impl LocalState {
         let tree = self.trees.tree_at(prefix.as_slice());
         match tree_finished(alloc, compaction, tree)? {
             None => Err(SlateDBError::InvalidDBState(StateCause::BadSources(compaction.id))),
-            Some(tree) => Ok(LocalState {
-                trees: self.trees.with_tree(alloc, prefix, tree)?,
-                compactions: with_status(
-                    alloc,
-                    &self.compactions,
-                    compaction,
-                    CompactionStatus::Completed,
-                )?,
-                pending: with_pending(alloc, &self.pending, compaction.id)?,
-            }),
+            Some(tree) => {
+                let trees = self.trees.with_tree(alloc, prefix, tree)?;
+                let completed = CompactionStatus::Completed;
+                let made = with_status(alloc, &self.compactions, compaction, completed);
+                let pending = with_pending(alloc, &self.pending, compaction.id);
+                Ok(whole(trees, made, pending)?)
+            }
         }
     }
 
@@ -216,16 +266,10 @@ impl LocalState {
     fn fail_found(&self, alloc: Global, compaction: &Compaction) -> Result<LocalState, SlateDBError>
         ensures { Gives result (Ok (held.fail_found self.now compaction.now)) }
     {
-        Ok(LocalState {
-            trees: Plain::clone(&self.trees, alloc)?,
-            compactions: with_status(
-                alloc,
-                &self.compactions,
-                compaction,
-                CompactionStatus::Failed,
-            )?,
-            pending: self.pending.copy(alloc)?,
-        })
+        let trees = Plain::clone(&self.trees, alloc)?;
+        let status = CompactionStatus::Failed;
+        let made = with_status(alloc, &self.compactions, compaction, status);
+        Ok(whole(trees, made, self.pending.copy(alloc))?)
     }
 
     /// With the compaction of this id Failed. Refused with `InvalidDBState`: `NoSuchCompaction` where the local record lacks it,

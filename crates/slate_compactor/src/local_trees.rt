@@ -3,6 +3,7 @@ ghost use Rattle.std.specs.Prelude.{◌≡◌, ◌⊎◌, IfOk, IfErr, is_some, 
 ghost use Rattle.slate_compactor.specs.Trees as trees_spec;
 ghost use Rattle.slate_compactor.specs.Trees.{manifest_merged, manifest_with, trees_merged, tree_of, trees_of};
 ghost use Rattle.slate_ids.specs.Answers.{is_memory};
+ghost use Rattle.slate_model.specs.Segments.{IsAscending};
 
 use bytes::Bytes;
 use slate_ids::{OutOfMemory, SlateDBError, are_same, copies};
@@ -10,6 +11,7 @@ use slate_merges::{merge_segments_from_writer, merge_writer_and_compactor};
 use slate_model::{LsmTreeState, Manifest, ManifestCore, Plain, Segment};
 use std::alloc::Global;
 use std::marker::Model;
+use std::mem;
 
 /// The trees of a database: the root's and those of its segments, whose prefixes ascend strictly.
 #[derive(Debug, Drop)]
@@ -26,15 +28,57 @@ impl Model for LocalTrees {
     ghost view = { λ a. trees_of a.core };
 }
 
+// Puts these trees in place of those of a manifest.
+fn set_trees(core: &mut ManifestCore, tree: LsmTreeState, segments: Vec<Segment>)
+    requires ascending { IsAscending segments.items }
+    ensures { core.new ≡ record core.old { tree = tree; segments = segments.items } }
+{
+    drop(mem::replace(&mut core.tree, tree));
+    core.set_segments(segments);
+}
+
+// A manifest equal to this one, but with these trees.
+fn manifest_of(
+    alloc: Global,
+    tree: LsmTreeState,
+    segments: Vec<Segment>,
+    manifest: &Manifest,
+) -> Result<Manifest, OutOfMemory>
+    requires ascending { IsAscending segments.items }
+    ensures { IfOk result (λ made.
+        made ≡ manifest_with (record { tree = tree; segments = segments.items }) manifest.now) }
+{
+    match Plain::clone(manifest, alloc) {
+        Ok(copied) => {
+            let mut made = copied;
+            set_trees(&mut made.core, tree, segments);
+            Ok(made)
+        }
+        Err(e) => {
+            drop(segments);
+            drop(tree);
+            Err(e)
+        }
+    }
+}
+
 impl LocalTrees {
     /// The trees of a manifest.
     pub fn of(alloc: Global, core: &ManifestCore) -> Result<LocalTrees, OutOfMemory>
         ensures { IfOk result (λ trees. trees ≡ trees_of core.now) }
     {
-        let mut copied = ManifestCore::new(alloc);
-        copied.tree = Plain::clone(&core.tree, alloc)?;
-        copied.set_segments(copies(alloc, core.segments().iter())?);
-        Ok(LocalTrees { core: copied })
+        let tree = Plain::clone(&core.tree, alloc)?;
+        match copies(alloc, core.segments().iter()) {
+            Ok(segments) => {
+                let mut copied = ManifestCore::new(alloc);
+                set_trees(&mut copied, tree, segments);
+                Ok(LocalTrees { core: copied })
+            }
+            Err(e) => {
+                drop(tree);
+                Err(e)
+            }
+        }
     }
 
     /// The root's tree.
@@ -62,11 +106,14 @@ impl LocalTrees {
     pub fn put_in(&self, alloc: Global, manifest: &Manifest) -> Result<Manifest, OutOfMemory>
         ensures { IfOk result (λ made. made ≡ manifest_with self.now manifest.now) }
     {
-        let mut made = Plain::clone(manifest, alloc)?;
-        made.core.tree = Plain::clone(&self.core.tree, alloc)?;
-        made.core
-            .set_segments(copies(alloc, self.core.segments().iter())?);
-        Ok(made)
+        let tree = Plain::clone(&self.core.tree, alloc)?;
+        match copies(alloc, self.core.segments().iter()) {
+            Ok(segments) => manifest_of(alloc, tree, segments, manifest),
+            Err(e) => {
+                drop(tree);
+                Err(e)
+            }
+        }
     }
 
     /// Equal trees, with another one at a prefix that has one.
@@ -80,13 +127,24 @@ impl LocalTrees {
         requires there { is_some (tree_of prefix.now self.now) ≡ true }
         ensures { IfOk result (λ trees. trees ≡ trees_spec.with_tree prefix.now tree self.now) }
     {
-        let mut core = Plain::clone(&self.core, alloc)?;
+        let mut core = match Plain::clone(&self.core, alloc) {
+            Ok(core) => core,
+            Err(e) => {
+                drop(tree);
+                return Err(e);
+            }
+        };
         match core.maybe_insert_tree(alloc, prefix) {
             Ok(old) => {
-                *old = tree;
+                drop(mem::replace(old, tree));
                 Ok(LocalTrees { core })
             }
-            Err(_) => Err(OutOfMemory),
+            Err(e) => {
+                drop(e);
+                drop(tree);
+                drop(core);
+                Err(OutOfMemory)
+            }
         }
     }
 
@@ -97,10 +155,17 @@ impl LocalTrees {
         ensures err { IfErr result (λ e. (trees_merged writer.now self.now ≡ Err e) ⊎ (is_memory e ≡ true)) }
     {
         let segments = merge_segments_from_writer(alloc, self.core.segments(), writer.segments())?;
-        let mut core = ManifestCore::new(alloc);
-        core.tree = merge_writer_and_compactor(alloc, &writer.tree, &self.core.tree)?;
-        core.set_segments(segments);
-        Ok(LocalTrees { core })
+        match merge_writer_and_compactor(alloc, &writer.tree, &self.core.tree) {
+            Ok(tree) => {
+                let mut core = ManifestCore::new(alloc);
+                set_trees(&mut core, tree, segments);
+                Ok(LocalTrees { core })
+            }
+            Err(_) => {
+                drop(segments);
+                Err(SlateDBError::OutOfMemory)
+            }
+        }
     }
 
     /// What a compactor makes of a manifest: these trees merged with the manifest's, as `merged`; the entries of other databases then list
@@ -117,10 +182,14 @@ impl LocalTrees {
     {
         let writer = manifest.core.segments();
         let segments = merge_segments_from_writer(alloc, self.core.segments(), writer)?;
-        let tree = merge_writer_and_compactor(alloc, &manifest.core.tree, &self.core.tree)?;
-        let mut made = Plain::clone(manifest, alloc)?;
-        made.core.tree = tree;
-        made.core.set_segments(segments);
+        let tree = match merge_writer_and_compactor(alloc, &manifest.core.tree, &self.core.tree) {
+            Ok(tree) => tree,
+            Err(_) => {
+                drop(segments);
+                return Err(SlateDBError::OutOfMemory);
+            }
+        };
+        let mut made = manifest_of(alloc, tree, segments, manifest)?;
         made.prune_external_sst_ids();
         made.core.floor = manifest.core.floor.max(made.core.watermark());
         Ok(made)

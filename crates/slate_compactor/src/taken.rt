@@ -57,7 +57,9 @@ pub(crate) fn views_of(alloc: Global, sources: &[SourceId]) -> Result<BTreeSet<U
     ensures { IfOk result (λ set. contains id_cmp set ≡ has_id (named.source_views sources.now)) }
 {
     let ids = source_views(alloc, sources)?;
-    set_of(alloc, ids.as_slice())
+    let set = set_of(alloc, ids.as_slice());
+    drop(ids);
+    set
 }
 
 /// The runs that sources name, as a set.
@@ -66,7 +68,9 @@ pub(crate) fn runs_of(alloc: Global, sources: &[SourceId]) -> Result<BTreeSet<u3
     ensures { IfOk result (λ set. contains nat_cmp set ≡ has_number (named.source_runs sources.now)) }
 {
     let numbers = source_runs(alloc, sources)?;
-    set_of(alloc, numbers.as_slice())
+    let set = set_of(alloc, numbers.as_slice());
+    drop(numbers);
+    set
 }
 
 // The ids of views.

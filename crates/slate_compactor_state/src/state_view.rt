@@ -37,11 +37,16 @@ impl CompactorStateView {
         let local = writer.local();
         let compactions = Plain::clone(&local.compactions, alloc)?;
         let (manifest_id, held) = writer.manifest();
-        let manifest = local.trees.put_in(alloc, held)?;
-        Ok(CompactorStateView {
-            compactions: Some(VersionedCompactions::new(writer.compactions().0, compactions)),
-            manifest: VersionedManifest::new(manifest_id, manifest),
-        })
+        match local.trees.put_in(alloc, held) {
+            Ok(manifest) => Ok(CompactorStateView {
+                compactions: Some(VersionedCompactions::new(writer.compactions().0, compactions)),
+                manifest: VersionedManifest::new(manifest_id, manifest),
+            }),
+            Err(e) => {
+                drop(compactions);
+                Err(e)
+            }
+        }
     }
 
     /// The version of the record, where there is one.
@@ -77,7 +82,10 @@ pub(crate) fn viewed(
 {
     match reply {
         Ok(Both { one, other }) => match other {
-            None => Err(SlateDBError::LatestTransactionalObjectVersionMissing),
+            None => {
+                drop(one);
+                Err(SlateDBError::LatestTransactionalObjectVersionMissing)
+            }
             Some((id, manifest)) => Ok(CompactorStateView {
                 compactions: record_version(one),
                 manifest: VersionedManifest::new(id, manifest),

@@ -14,6 +14,7 @@ use slate_log::{CommitPhase, Sequenced};
 use slate_model::{Compactions, Manifest, Plain};
 use std::alloc::Global;
 use std::marker::Model;
+use std::mem;
 
 /// A compactor that opened a database: the epoch that it committed in the manifest and in the record, the versions of both that it read
 /// or committed last, and what it holds between its calls. Each call that reads or commits a version holds that, also where it is
@@ -97,7 +98,7 @@ impl CompactorStateWriter {
         ensures { self.new ≡ with_record (id, compactions) self.old }
     {
         self.record_id = id;
-        self.compactions = compactions;
+        drop(mem::replace(&mut self.compactions, compactions));
     }
 
     // Holds this version of the manifest.
@@ -105,7 +106,7 @@ impl CompactorStateWriter {
         ensures { self.new ≡ with_manifest (id, manifest) self.old }
     {
         self.manifest_id = id;
-        self.manifest = manifest;
+        drop(mem::replace(&mut self.manifest, manifest));
     }
 
     // Holds the manifest of a refresh, and what is local after it.
@@ -113,8 +114,8 @@ impl CompactorStateWriter {
         ensures { self.new ≡ with_local local (with_manifest (id, manifest) self.old) }
     {
         self.manifest_id = id;
-        self.manifest = manifest;
-        self.local = local;
+        drop(mem::replace(&mut self.manifest, manifest));
+        drop(mem::replace(&mut self.local, local));
     }
 
     // Holds the record with a schedule, and the local record follows it. Where memory runs out nothing is held, and the commit is still
@@ -195,7 +196,8 @@ impl CompactorStateWriter {
         ensures err { OnErr result (self.new ≡ self.old) }
         ensures refused { IfErr result (λ e. (held.finished id self.old.local ≡ Err e) ⊎ (is_memory e ≡ true)) }
     {
-        self.local = self.local.finished(alloc, id)?;
+        let local = self.local.finished(alloc, id)?;
+        drop(mem::replace(&mut self.local, local));
         Ok(())
     }
 
@@ -207,7 +209,8 @@ impl CompactorStateWriter {
         ensures err { OnErr result (self.new ≡ self.old) }
         ensures refused { IfErr result (λ e. (held.failed id self.old.local ≡ Err e) ⊎ (is_memory e ≡ true)) }
     {
-        self.local = self.local.failed(alloc, id)?;
+        let local = self.local.failed(alloc, id)?;
+        drop(mem::replace(&mut self.local, local));
         Ok(())
     }
 }

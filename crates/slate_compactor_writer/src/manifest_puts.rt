@@ -1,8 +1,12 @@
 //! What the commits of a compactor put of a manifest.
-ghost use Rattle.std.specs.Prelude.{◌≡◌, true, IfOk, IfSome, Ok};
+ghost use Rattle.std.specs.Prelude.{◌≡◌, true, IfOk, IfSome, Ok, Some};
 ghost use Rattle.slate_compactor_writer.specs.Puts as puts;
 ghost use Rattle.slate_ids.specs.Answers.{Gives};
-ghost use Rattle.slate_log.specs.CommitPhase.{is_putting};
+ghost use Rattle.slate_compactor_changes.specs.CompactorChanges.{right_of};
+ghost use Rattle.slate_layout.specs.Codec.{encoded};
+ghost use Rattle.slate_log.specs.Change.{wanted};
+ghost use Rattle.slate_log.specs.CommitPhase.{is_putting, prepared};
+ghost use Rattle.slate_updates.specs.Rules.{manifest_refusal};
 
 use slate_compactor_changes::CompactorChange;
 use slate_ids::{Millis, SlateDBError};
@@ -22,6 +26,39 @@ pub(crate) fn sure<T: Drop>(commit: Option<CommitPhase<T>>) -> Result<CommitPhas
     }
 }
 
+// The commit of this version under the right of a change.
+fn normal_put(
+    alloc: Global,
+    change: &CompactorChange,
+    n: u64,
+    manifest: &Manifest,
+    normal: Manifest,
+) -> Result<Option<CommitPhase<Manifest>>, SlateDBError>
+    ensures commit { Gives result (wanted
+        (λ new. prepared manifest_refusal encoded n manifest.now new (right_of change.now)) (Ok (Some normal))) }
+    ensures putting { IfOk result (λ commit. IfSome commit (λ c. is_putting c ≡ true)) }
+{
+    match change.right(alloc) {
+        Ok(right) => {
+            let put = prepare_change(
+                alloc,
+                &ManifestCodec,
+                &ManifestRules,
+                n,
+                manifest,
+                Some(normal),
+                &right,
+            );
+            drop(right);
+            put
+        }
+        Err(_) => {
+            drop(normal);
+            Err(SlateDBError::OutOfMemory)
+        }
+    }
+}
+
 /// The commit of the normal form of what a change makes at a moment of version `n`; none, where nothing is to be committed. Refused by what
 /// the change is refused for, by the rules on new versions, and where there is no next number or the manifest has no bytes.
 pub(crate) fn unfenced_put(
@@ -34,20 +71,12 @@ pub(crate) fn unfenced_put(
     ensures commit { Gives result (puts.unfenced_put change.now now n manifest.now) }
     ensures putting { IfOk result (λ commit. IfSome commit (λ c. is_putting c ≡ true)) }
 {
-    let right = change.right(alloc)?;
     match change.make(alloc, now, n, manifest)? {
         None => Ok(None),
         Some(made) => {
-            let normal = normal_form_manifest(alloc, &made)?;
-            prepare_change(
-                alloc,
-                &ManifestCodec,
-                &ManifestRules,
-                n,
-                manifest,
-                Some(normal),
-                &right,
-            )
+            let normal = normal_form_manifest(alloc, &made);
+            drop(made);
+            normal_put(alloc, change, n, manifest, normal?)
         }
     }
 }

@@ -100,7 +100,7 @@ impl OpenPhase {
     fn stand(&mut self, phase: OpenPhase)
         ensures { self.new ≡ phase }
     {
-        *self = phase;
+        drop(mem::replace(self, phase));
     }
 
     /// The call that is due.
@@ -587,10 +587,18 @@ impl OpenPhase {
     {
         records_are_plain();
         match self.asks(alloc, db) {
-            Ok(call) => match perform(alloc, store, &call, moment) {
-                Ok(answer) => self.goes_on(alloc, db, &answer),
-                Err(_) => Step::Done(Err(SlateDBError::OutOfMemory)),
-            },
+            Ok(call) => {
+                let performed = perform(alloc, store, &call, moment);
+                drop(call);
+                match performed {
+                    Ok(answer) => {
+                        let step = self.goes_on(alloc, db, &answer);
+                        drop(answer);
+                        step
+                    }
+                    Err(_) => Step::Done(Err(SlateDBError::OutOfMemory)),
+                }
+            }
             Err(_) => Step::Done(Err(SlateDBError::OutOfMemory)),
         }
     }

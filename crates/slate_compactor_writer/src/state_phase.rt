@@ -101,7 +101,7 @@ impl StatePhase {
     fn stand(&mut self, phase: StatePhase)
         ensures { self.new ≡ phase }
     {
-        *self = phase;
+        drop(mem::replace(self, phase));
     }
 
     /// The call that is due.
@@ -627,10 +627,18 @@ impl StatePhase {
     {
         records_are_plain();
         match self.asks(alloc, writer) {
-            Ok(call) => match perform(alloc, store, &call, moment) {
-                Ok(answer) => self.goes_on(alloc, writer, &answer, moment),
-                Err(_) => Step::Done(Err(SlateDBError::OutOfMemory)),
-            },
+            Ok(call) => {
+                let performed = perform(alloc, store, &call, moment);
+                drop(call);
+                match performed {
+                    Ok(answer) => {
+                        let step = self.goes_on(alloc, writer, &answer, moment);
+                        drop(answer);
+                        step
+                    }
+                    Err(_) => Step::Done(Err(SlateDBError::OutOfMemory)),
+                }
+            }
             Err(_) => Step::Done(Err(SlateDBError::OutOfMemory)),
         }
     }

@@ -22,22 +22,36 @@ use std::alloc::Global;
 fn statuses_of(alloc: Global, epoch: u64, local: &LocalState) -> Result<RecordChange, OutOfMemory>
     ensures { IfOk result (λ change. change ≡ PutStatuses (Some epoch) local.now.compactions local.now.pending) }
 {
-    Ok(RecordChange::PutStatuses {
-        compactor: Some(epoch),
-        local: Plain::clone(&local.compactions, alloc)?,
-        pending: local.pending.copy(alloc)?,
-    })
+    let copied = Plain::clone(&local.compactions, alloc)?;
+    match local.pending.copy(alloc) {
+        Ok(pending) => Ok(RecordChange::PutStatuses {
+            compactor: Some(epoch),
+            local: copied,
+            pending,
+        }),
+        Err(e) => {
+            drop(copied);
+            Err(e)
+        }
+    }
 }
 
 // The change of the manifest by the local trees, with the outputs that are pending.
 fn merge_of(alloc: Global, epoch: u64, local: &LocalState) -> Result<CompactorChange, OutOfMemory>
     ensures { IfOk result (λ change. change ≡ puts.merge_of epoch local.now) }
 {
-    Ok(CompactorChange::MergeTrees {
-        compactor: Some(epoch),
-        trees: Plain::clone(&local.trees, alloc)?,
-        outputs: local.pending_outputs(alloc)?,
-    })
+    let trees = Plain::clone(&local.trees, alloc)?;
+    match local.pending_outputs(alloc) {
+        Ok(outputs) => Ok(CompactorChange::MergeTrees {
+            compactor: Some(epoch),
+            trees,
+            outputs,
+        }),
+        Err(e) => {
+            drop(trees);
+            Err(e)
+        }
+    }
 }
 
 /// What follows version `n` of the record: a refresh reads the manifest next, the other calls commit.
@@ -105,7 +119,9 @@ pub(crate) fn trees_phase(
     ensures rank { IfOk result (λ phase. phase_rank phase ≡ 9) }
 {
     let change = merge_of(alloc, writer.epoch, &writer.local)?;
-    let commit = sure(unfenced_put(alloc, &change, 0, n, manifest)?)?;
+    let put = unfenced_put(alloc, &change, 0, n, manifest);
+    drop(change);
+    let commit = sure(put?)?;
     Ok(StatePhase::CommittingTrees(whole, commit))
 }
 
@@ -127,7 +143,9 @@ pub(crate) fn after_manifest(
         compactor: Some(writer.epoch),
         checkpoint: write.checkpoint,
     };
-    match change_put(alloc, &change, moment, n, manifest)? {
+    let put = change_put(alloc, &change, moment, n, manifest);
+    drop(change);
+    match put? {
         Some(commit) => Ok(StatePhase::CommittingCheckpoint(write.whole, commit)),
         None => trees_phase(alloc, write.whole, writer, n, manifest),
     }

@@ -33,15 +33,21 @@ impl AdvancePhase {
     ) -> Result<StoreCall, OutOfMemory>
         ensures { IfOk result (λ call. call ≡ advance_asks sequenced.now.db sequenced.now.log self.now) }
     {
-        let path = sequenced.log.boundary_path(sequenced.db);
         match self {
-            AdvancePhase::Bounding(_) => Ok(StoreCall::Get(path)),
-            AdvancePhase::Creating(n) => Ok(StoreCall::PutNew(path, encode_boundary(alloc, *n)?)),
+            AdvancePhase::Bounding(_) => {
+                Ok(StoreCall::Get(sequenced.log.boundary_path(sequenced.db)))
+            }
+            AdvancePhase::Creating(n) => {
+                let bytes = encode_boundary(alloc, *n)?;
+                let path = sequenced.log.boundary_path(sequenced.db);
+                Ok(StoreCall::PutNew(path, bytes))
+            }
             AdvancePhase::Replacing(n, tag) => {
                 let bytes = encode_boundary(alloc, *n)?;
+                let path = sequenced.log.boundary_path(sequenced.db);
                 Ok(StoreCall::Replace(path, *tag, bytes))
             }
-            AdvancePhase::Over => Ok(StoreCall::Get(path)),
+            AdvancePhase::Over => Ok(StoreCall::Get(sequenced.log.boundary_path(sequenced.db))),
         }
     }
 
@@ -128,10 +134,18 @@ impl AdvancePhase {
         ensures fault { FaultRose (S.told store.old) (S.told store.new) result }
     {
         match self.asks(alloc, sequenced) {
-            Ok(call) => match perform(alloc, store, &call, moment) {
-                Ok(answer) => self.goes_on(&answer),
-                Err(_) => Step::Done(Err(SlateDBError::OutOfMemory)),
-            },
+            Ok(call) => {
+                let performed = perform(alloc, store, &call, moment);
+                drop(call);
+                match performed {
+                    Ok(answer) => {
+                        let step = self.goes_on(&answer);
+                        drop(answer);
+                        step
+                    }
+                    Err(_) => Step::Done(Err(SlateDBError::OutOfMemory)),
+                }
+            }
             Err(_) => Step::Done(Err(SlateDBError::OutOfMemory)),
         }
     }

@@ -31,7 +31,10 @@ impl<T: Drop> CommitPhase<T> {
         let mut phase = self;
         loop {
             match phase.next(alloc, sequenced, store, moment) {
-                Step::Done(result) => return result,
+                Step::Done(result) => {
+                    drop(phase);
+                    return result;
+                }
                 Step::Again => {}
             }
         }

@@ -59,10 +59,11 @@ impl<T: Drop> CommitPhase<T> {
         ensures { IfOk result (λ call. call ≡ commit_asks sequenced.now.db sequenced.now.log self.now) }
     {
         match self {
-            CommitPhase::Putting(n, bytes, _) => Ok(StoreCall::PutNew(
-                sequenced.log.version_path(sequenced.db, *n),
-                bytes.copy(alloc)?,
-            )),
+            CommitPhase::Putting(n, bytes, _) => {
+                let copied = bytes.copy(alloc)?;
+                let path = sequenced.log.version_path(sequenced.db, *n);
+                Ok(StoreCall::PutNew(path, copied))
+            }
             CommitPhase::Bounding(_, _) => {
                 Ok(StoreCall::Get(sequenced.log.boundary_path(sequenced.db)))
             }
@@ -89,21 +90,28 @@ impl<T: Drop> CommitPhase<T> {
         ensures memory { NeverOut result }
     {
         match (mem::replace(self, CommitPhase::Over), answer) {
-            (CommitPhase::Putting(n, _, _), StoreAnswer::Created(None)) => {
+            (CommitPhase::Putting(n, bytes, value), StoreAnswer::Created(None)) => {
+                drop(bytes);
+                drop(value);
                 Step::Done(Err(SlateDBError::TransactionalObjectVersionExists {
                     number: n,
                     boundary: None,
                 }))
             }
-            (CommitPhase::Putting(n, _, value), StoreAnswer::Created(Some(_))) => {
-                *self = CommitPhase::Bounding(n, value);
+            (CommitPhase::Putting(n, bytes, value), StoreAnswer::Created(Some(_))) => {
+                drop(bytes);
+                drop(mem::replace(self, CommitPhase::Bounding(n, value)));
                 Step::Again
             }
             (CommitPhase::Bounding(n, value), StoreAnswer::Got(object)) => {
                 match boundary_in(object) {
-                    None => Step::Done(Err(SlateDBError::Corrupt(FormatName::Boundary))),
+                    None => {
+                        drop(value);
+                        Step::Done(Err(SlateDBError::Corrupt(FormatName::Boundary)))
+                    }
                     Some(boundary) => {
                         if n <= boundary {
+                            drop(value);
                             Step::Done(Err(SlateDBError::TransactionalObjectVersionExists {
                                 number: n,
                                 boundary: Some(boundary),
@@ -114,7 +122,10 @@ impl<T: Drop> CommitPhase<T> {
                     }
                 }
             }
-            _ => Step::Done(Err(SlateDBError::StoreFault)),
+            (phase, _) => {
+                drop(phase);
+                Step::Done(Err(SlateDBError::StoreFault))
+            }
         }
     }
 
@@ -139,10 +150,18 @@ impl<T: Drop> CommitPhase<T> {
         ensures fault { FaultRose (S.told store.old) (S.told store.new) result }
     {
         match self.asks(alloc, sequenced) {
-            Ok(call) => match perform(alloc, store, &call, moment) {
-                Ok(answer) => self.goes_on(&answer),
-                Err(_) => Step::Done(Err(SlateDBError::OutOfMemory)),
-            },
+            Ok(call) => {
+                let performed = perform(alloc, store, &call, moment);
+                drop(call);
+                match performed {
+                    Ok(answer) => {
+                        let step = self.goes_on(&answer);
+                        drop(answer);
+                        step
+                    }
+                    Err(_) => Step::Done(Err(SlateDBError::OutOfMemory)),
+                }
+            }
             Err(_) => Step::Done(Err(SlateDBError::OutOfMemory)),
         }
     }

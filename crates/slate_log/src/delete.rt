@@ -77,7 +77,11 @@ impl<T, C> Sequenced<T, C> {
         ensures fault { FaultOf (S.told store.old) (S.told store.new) result }
     {
         let call = StoreCall::Delete(self.log.version_path(self.db, n));
-        let answer = perform(alloc, store, &call, 0)?;
-        deleted_reply(&answer)
+        let performed = perform(alloc, store, &call, 0);
+        drop(call);
+        let answer = performed?;
+        let reply = deleted_reply(&answer);
+        drop(answer);
+        reply
     }
 }

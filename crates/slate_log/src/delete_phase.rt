@@ -90,8 +90,14 @@ impl DeletePhase {
         ensures fault { FaultRose (S.told store.old) (S.told store.new) result }
     {
         let call = self.asks(sequenced);
-        match perform(alloc, store, &call, moment) {
-            Ok(answer) => self.goes_on(&answer),
+        let performed = perform(alloc, store, &call, moment);
+        drop(call);
+        match performed {
+            Ok(answer) => {
+                let step = self.goes_on(&answer);
+                drop(answer);
+                step
+            }
             Err(_) => Step::Done(Err(SlateDBError::OutOfMemory)),
         }
     }

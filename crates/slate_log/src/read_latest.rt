@@ -38,11 +38,15 @@ impl<T: Drop, C: ObjectCodec<T>> Sequenced<T, C> {
         let mut left = tries;
         loop {
             match read.next(alloc, self, store, 0) {
-                Step::Done(result) => return result,
+                Step::Done(result) => {
+                    drop(read);
+                    return result;
+                }
                 Step::Again => {}
             }
             if read.is_listing() {
                 if left == 1 {
+                    drop(read);
                     return Err(SlateDBError::Contended);
                 }
                 left -= 1;

@@ -79,24 +79,24 @@ impl<T: Drop> ReadPhase<T> {
                 match greatest(sequenced.log, listing.as_slice()) {
                     None => Step::Done(Ok(None)),
                     Some(n) => {
-                        *self = ReadPhase::Getting(n);
+                        drop(mem::replace(self, ReadPhase::Getting(n)));
                         Step::Again
                     }
                 }
             }
             (ReadPhase::Getting(_), StoreAnswer::Got(None)) => {
-                *self = ReadPhase::Listing;
+                drop(mem::replace(self, ReadPhase::Listing));
                 Step::Again
             }
             (ReadPhase::Getting(n), StoreAnswer::Got(Some(object))) => {
                 match sequenced.codec.decode(alloc, object.bytes.as_slice()) {
                     Ok(value) => {
-                        *self = ReadPhase::Bounding(n, value);
+                        drop(mem::replace(self, ReadPhase::Bounding(n, value)));
                         Step::Again
                     }
                     Err(e) => {
                         if e.is_memory() {
-                            *self = ReadPhase::Getting(n);
+                            drop(mem::replace(self, ReadPhase::Getting(n)));
                         }
                         Step::Done(Err(e))
                     }
@@ -104,10 +104,14 @@ impl<T: Drop> ReadPhase<T> {
             }
             (ReadPhase::Bounding(n, value), StoreAnswer::Got(object)) => {
                 match boundary_in(object) {
-                    None => Step::Done(Err(SlateDBError::Corrupt(FormatName::Boundary))),
+                    None => {
+                        drop(value);
+                        Step::Done(Err(SlateDBError::Corrupt(FormatName::Boundary)))
+                    }
                     Some(boundary) => {
                         if n <= boundary {
-                            *self = ReadPhase::Listing;
+                            drop(value);
+                            drop(mem::replace(self, ReadPhase::Listing));
                             Step::Again
                         } else {
                             Step::Done(Ok(Some((n, value))))
@@ -115,7 +119,10 @@ impl<T: Drop> ReadPhase<T> {
                     }
                 }
             }
-            _ => Step::Done(Err(SlateDBError::StoreFault)),
+            (phase, _) => {
+                drop(phase);
+                Step::Done(Err(SlateDBError::StoreFault))
+            }
         }
     }
 
@@ -140,8 +147,14 @@ impl<T: Drop> ReadPhase<T> {
             → FaultRose (S.told store.old) (S.told store.new) result }
     {
         let call = self.asks(sequenced);
-        match perform(alloc, store, &call, moment) {
-            Ok(answer) => self.goes_on(alloc, sequenced, &answer),
+        let performed = perform(alloc, store, &call, moment);
+        drop(call);
+        match performed {
+            Ok(answer) => {
+                let step = self.goes_on(alloc, sequenced, &answer);
+                drop(answer);
+                step
+            }
             Err(_) => Step::Done(Err(SlateDBError::OutOfMemory)),
         }
     }

@@ -42,8 +42,12 @@ impl<T: Drop, C: ObjectCodec<T>> Sequenced<T, C> {
             → FaultOf (S.told store.old) (S.told store.new) result }
     {
         let call = StoreCall::Get(self.log.version_path(self.db, number));
-        let answer = perform(alloc, store, &call, moment)?;
-        self.try_reply(alloc, &answer)
+        let performed = perform(alloc, store, &call, moment);
+        drop(call);
+        let answer = performed?;
+        let reply = self.try_reply(alloc, &answer);
+        drop(answer);
+        reply
     }
 
     /// The version of this number, or none where it isn't there. Reads no boundary.

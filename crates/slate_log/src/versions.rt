@@ -73,7 +73,13 @@ fn versions_in(
 {
     let mut kept = Vec::new(alloc);
     for metadata in found {
-        keep(alloc, log, range, &mut kept, metadata)?;
+        match keep(alloc, log, range, &mut kept, metadata) {
+            Ok(()) => {}
+            Err(e) => {
+                drop(kept);
+                return Err(e);
+            }
+        }
     }
     Ok(Listed::from_vec(kept))
 }
@@ -105,8 +111,12 @@ impl<T, C> Sequenced<T, C> {
         ensures fault { FaultOf (S.told store.old) (S.told store.new) result }
     {
         let call = StoreCall::List(self.log.folder(self.db));
-        let answer = perform(alloc, store, &call, moment)?;
-        list_reply(alloc, self.log, &range, &answer)
+        let performed = perform(alloc, store, &call, moment);
+        drop(call);
+        let answer = performed?;
+        let reply = list_reply(alloc, self.log, &range, &answer);
+        drop(answer);
+        reply
     }
 
     /// The versions with numbers in the range, ascending by number, with what the store tells of each. Reads no boundary.

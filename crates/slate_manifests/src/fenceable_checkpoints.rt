@@ -63,7 +63,9 @@ impl FenceableManifest {
     {
         let options = copy_options(alloc, options)?;
         let change = ManifestChange::WriteCheckpoint { id, options };
-        self.checkpointed(alloc, store, &id, &change, moment, tries)
+        let reply = self.checkpointed(alloc, store, &id, &change, moment, tries);
+        drop(change);
+        reply
     }
 
     /// The same, without the checkpoint `old`, which may be absent: both in one commit. Where the new id is there nothing is
@@ -91,7 +93,9 @@ impl FenceableManifest {
             id: new,
             options,
         };
-        self.checkpointed(alloc, store, &new, &change, moment, tries)
+        let reply = self.checkpointed(alloc, store, &new, &change, moment, tries);
+        drop(change);
+        reply
     }
 
     /// Commits the version held with another expiry of a checkpoint: `lifetime` milliseconds after `moment`. Refused with
@@ -116,7 +120,9 @@ impl FenceableManifest {
             id,
             lifetime: Some(lifetime),
         };
-        self.checkpointed(alloc, store, &id, &change, moment, tries)
+        let reply = self.checkpointed(alloc, store, &id, &change, moment, tries);
+        drop(change);
+        reply
     }
 
     /// Commits the version held without a checkpoint. Where it isn't there nothing is committed. Conflicts and tries are as in
@@ -137,6 +143,8 @@ impl FenceableManifest {
         ensures fenced { FencedOnly (held_fence epoch_of self.new) result }
     {
         let change = ManifestChange::DeleteCheckpoint { id };
-        self.commit_change(alloc, store, &change, moment, tries)
+        let reply = self.commit_change(alloc, store, &change, moment, tries);
+        drop(change);
+        reply
     }
 }

@@ -36,12 +36,18 @@ pub(crate) fn foresee(
     ensures { IfOk result (λ found. found ≡ foreseen_of id.now change.now moment n manifest.now) }
 {
     match make(alloc, change, moment, n, manifest) {
-        Ok(Some(new)) => copy_at(alloc, id, &new),
+        Ok(Some(new)) => {
+            let found = copy_at(alloc, id, &new);
+            drop(new);
+            found
+        }
         Ok(None) => copy_at(alloc, id, manifest),
         Err(e) => {
             if e.is_memory() {
+                drop(e);
                 Err(OutOfMemory)
             } else {
+                drop(e);
                 Ok(None)
             }
         }

@@ -55,7 +55,9 @@ impl StoredManifest {
     {
         let options = copy_options(alloc, options)?;
         let change = ManifestChange::WriteCheckpoint { id, options };
-        self.checkpointed(alloc, store, &id, &change, moment, tries)
+        let reply = self.checkpointed(alloc, store, &id, &change, moment, tries);
+        drop(change);
+        reply
     }
 
     /// The same, without the checkpoint `old`, which may be absent: both in one commit. Where the new id is there nothing is
@@ -81,7 +83,9 @@ impl StoredManifest {
             id: new,
             options,
         };
-        self.checkpointed(alloc, store, &new, &change, moment, tries)
+        let reply = self.checkpointed(alloc, store, &new, &change, moment, tries);
+        drop(change);
+        reply
     }
 
     /// Commits the version held with another expiry of a checkpoint: `lifetime` milliseconds after `moment`. Refused with
@@ -104,7 +108,9 @@ impl StoredManifest {
             id,
             lifetime: Some(lifetime),
         };
-        self.checkpointed(alloc, store, &id, &change, moment, tries)
+        let reply = self.checkpointed(alloc, store, &id, &change, moment, tries);
+        drop(change);
+        reply
     }
 
     /// Commits the version held without a checkpoint. Where it isn't there nothing is committed. Conflicts and tries are as in
@@ -123,6 +129,8 @@ impl StoredManifest {
         ensures fault { FaultOf (S.told store.old) (S.told store.new) result }
     {
         let change = ManifestChange::DeleteCheckpoint { id };
-        self.commit_change(alloc, store, &change, moment, tries)
+        let reply = self.commit_change(alloc, store, &change, moment, tries);
+        drop(change);
+        reply
     }
 }

@@ -63,12 +63,17 @@ impl StoredManifest {
         ensures id { IfOk result (λ machine. machine.id ≡ id) }
     {
         let foreseen = foresee(alloc, &id, change, moment, self.number(), self.held())?;
-        let update = self.start_change(alloc, moment, change)?;
-        Ok(CheckpointMachine {
-            id,
-            update,
-            foreseen,
-        })
+        match self.start_change(alloc, moment, change) {
+            Ok(update) => Ok(CheckpointMachine {
+                id,
+                update,
+                foreseen,
+            }),
+            Err(e) => {
+                drop(foreseen);
+                Err(e)
+            }
+        }
     }
 
     /// The machine of one try of `write_checkpoint`. Its new value is made from the version held now, at this moment, in milliseconds
@@ -88,7 +93,9 @@ impl StoredManifest {
     {
         let options = copy_options(alloc, options)?;
         let change = ManifestChange::WriteCheckpoint { id, options };
-        self.start_checkpoint(alloc, moment, id, &change)
+        let machine = self.start_checkpoint(alloc, moment, id, &change);
+        drop(change);
+        machine
     }
 
     /// The machine of one try of `replace_checkpoint`. Its new value is made from the version held now, at this moment, in milliseconds
@@ -113,7 +120,9 @@ impl StoredManifest {
             id: new,
             options,
         };
-        self.start_checkpoint(alloc, moment, new, &change)
+        let machine = self.start_checkpoint(alloc, moment, new, &change);
+        drop(change);
+        machine
     }
 
     /// The machine of one try of `refresh_checkpoint`. Its new value is made from the version held now, at this moment, in milliseconds
@@ -135,7 +144,9 @@ impl StoredManifest {
             id,
             lifetime: Some(lifetime),
         };
-        self.start_checkpoint(alloc, moment, id, &change)
+        let machine = self.start_checkpoint(alloc, moment, id, &change);
+        drop(change);
+        machine
     }
 
     /// The machine of one try of `delete_checkpoint`. Where nothing is to be committed, or it is refused before its first call, no
@@ -149,9 +160,9 @@ impl StoredManifest {
         ensures update { IfOk result (λ machine. machine.update ≡ change_machine (DeleteCheckpoint id) (pos 0) self.now) }
     {
         let change = ManifestChange::DeleteCheckpoint { id };
-        Ok(DeleteCheckpointMachine {
-            update: self.start_change(alloc, 0, &change)?,
-        })
+        let started = self.start_change(alloc, 0, &change);
+        drop(change);
+        Ok(DeleteCheckpointMachine { update: started? })
     }
 }
 

@@ -9,6 +9,7 @@ use slate_model::{
     Compaction, CompactionSpec, CompactionStatus, Compactions, Plain, SsTableHandle, WorkerSpec,
 };
 use std::alloc::Global;
+use std::mem;
 
 // ---- workers
 
@@ -46,7 +47,9 @@ fn is_held_by(alloc: Global, worker: u32, spec: &Option<WorkerSpec>) -> Result<b
         None => Ok(false),
         Some(spec) => {
             let name = worker_name(alloc, worker)?;
-            Ok(spec.worker_id.as_str() == name.as_str())
+            let held = spec.worker_id.as_str() == name.as_str();
+            drop(name);
+            Ok(held)
         }
     }
 }
@@ -96,10 +99,18 @@ fn to_running(
         return Ok(None);
     }
     let spec = worker_at(alloc, worker, now)?;
-    let mut made = compaction.clone(alloc)?;
-    made.status = CompactionStatus::Running;
-    made.worker = Some(spec);
-    Ok(Some(made))
+    match compaction.clone(alloc) {
+        Ok(copied) => {
+            let mut made = copied;
+            made.status = CompactionStatus::Running;
+            drop(mem::replace(&mut made.worker, Some(spec)));
+            Ok(Some(made))
+        }
+        Err(e) => {
+            drop(spec);
+            Err(e)
+        }
+    }
 }
 
 // From Running under this worker to Compacted: these are its outputs.
@@ -111,14 +122,29 @@ fn to_compacted(
 ) -> Result<Option<Compaction>, OutOfMemory>
     ensures { IfOk result (λ made. made ≡ to_compacted worker outputs compaction.now) }
 {
-    let held = is_held_by(alloc, worker, &compaction.worker)?;
+    let held = match is_held_by(alloc, worker, &compaction.worker) {
+        Ok(held) => held,
+        Err(e) => {
+            drop(outputs);
+            return Err(e);
+        }
+    };
     if !is_running(compaction.status) || !held {
+        drop(outputs);
         return Ok(None);
     }
-    let mut made = compaction.clone(alloc)?;
-    made.status = CompactionStatus::Compacted;
-    made.output_ssts = outputs;
-    Ok(Some(made))
+    match compaction.clone(alloc) {
+        Ok(copied) => {
+            let mut made = copied;
+            made.status = CompactionStatus::Compacted;
+            drop(mem::replace(&mut made.output_ssts, outputs));
+            Ok(Some(made))
+        }
+        Err(e) => {
+            drop(outputs);
+            Err(e)
+        }
+    }
 }
 
 // An equal record, in which this compaction is that of its id.
@@ -129,9 +155,22 @@ fn with_entry(
 ) -> Result<Compactions, OutOfMemory>
     ensures { IfOk result (λ r. r ≡ steps.with_entry compaction compactions.now) }
 {
-    let mut new = compactions.clone(alloc)?;
-    new.insert(compaction)?;
-    Ok(new)
+    match compactions.clone(alloc) {
+        Ok(copied) => {
+            let mut new = copied;
+            match new.insert(compaction) {
+                Ok(()) => Ok(new),
+                Err(e) => {
+                    drop(new);
+                    Err(e)
+                }
+            }
+        }
+        Err(e) => {
+            drop(compaction);
+            Err(e)
+        }
+    }
 }
 
 // The record with what a step made of the compaction of an id.
@@ -204,7 +243,10 @@ pub fn report(
     ensures { Gives result (steps.stepped id (to_compacted worker outputs) compactions.now) }
 {
     match compactions.get(id) {
-        None => Err(no_such(id)),
+        None => {
+            drop(outputs);
+            Err(no_such(id))
+        }
         Some(found) => put_in(
             alloc,
             id,
@@ -224,6 +266,7 @@ pub fn submit(
     ensures { Gives result (Ok (steps.one_more id spec compactions.now)) }
 {
     if compactions.get(id).is_some() {
+        drop(spec);
         return Ok(None);
     }
     let asked = Compaction {

@@ -1,5 +1,5 @@
 //! Changes of a record of compactions: what a commit puts.
-ghost use Rattle.std.specs.Prelude.{◌≡◌, true, IfOk, IfSome};
+ghost use Rattle.std.specs.Prelude.{◌≡◌, true, None, IfOk, IfSome};
 ghost use Rattle.slate_ids.specs.Answers.{Gives};
 ghost use Rattle.slate_log.specs.CommitPhase.{is_putting};
 ghost use Rattle.slate_record_updates.specs.RecordChanges as changes;
@@ -133,13 +133,49 @@ impl RecordChange {
                 worker,
                 outputs,
             } => report(alloc, id, worker, outputs, compactions),
-            RecordChange::PutStatuses { local, pending, .. } => Ok(Some(put_statuses(
-                alloc,
-                &local,
-                pending.as_slice(),
-                compactions,
-            )?)),
+            RecordChange::PutStatuses { local, pending, .. } => {
+                let made = put_statuses(alloc, &local, pending.as_slice(), compactions);
+                drop(pending);
+                drop(local);
+                Ok(Some(made?))
+            }
             RecordChange::Submit { id, spec } => submit(alloc, id, spec, compactions),
+        }
+    }
+
+    // The commit of what it makes under its right, where no fence refuses it.
+    fn prepared<C: ObjectCodec<Compactions>>(
+        self,
+        alloc: Global,
+        codec: &C,
+        now: Millis,
+        n: u64,
+        compactions: &Compactions,
+        right: Right,
+    ) -> Result<Option<CommitPhase<Compactions>>, SlateDBError>
+        requires right { right ≡ changes.right_of self }
+        requires unfenced { changes.fence_of self compactions.now ≡ None }
+        ensures commit { Gives result (changes.commit_of (C.encoded codec.now) self now n compactions.now) }
+        ensures putting { IfOk result (λ commit. IfSome commit (λ c. is_putting c ≡ true)) }
+    {
+        match self.make(alloc, now, n, compactions) {
+            Ok(made) => {
+                let commit = prepare_change(
+                    alloc,
+                    codec,
+                    &CompactionsRules,
+                    n,
+                    compactions,
+                    made,
+                    &right,
+                );
+                drop(right);
+                commit
+            }
+            Err(e) => {
+                drop(right);
+                Err(e)
+            }
         }
     }
 
@@ -157,20 +193,17 @@ impl RecordChange {
         ensures putting { IfOk result (λ commit. IfSome commit (λ c. is_putting c ≡ true)) }
     {
         match self.refusal_at(compactions) {
-            Some(refusal) => Err(refusal),
-            None => {
-                let right = self.right(alloc)?;
-                let changed = self.make(alloc, now, n, compactions)?;
-                prepare_change(
-                    alloc,
-                    codec,
-                    &CompactionsRules,
-                    n,
-                    compactions,
-                    changed,
-                    &right,
-                )
+            Some(refusal) => {
+                drop(self);
+                Err(refusal)
             }
+            None => match self.right(alloc) {
+                Ok(right) => self.prepared(alloc, codec, now, n, compactions, right),
+                Err(_) => {
+                    drop(self);
+                    Err(SlateDBError::OutOfMemory)
+                }
+            },
         }
     }
 }

@@ -7,6 +7,7 @@ ghost use Rattle.slate_record_updates.specs.EntrySteps.{unscheduled, with_local_
 use slate_ids::{OutOfMemory, Ulid};
 use slate_model::{Compaction, CompactionStatus, Compactions, CompactionsIter, Plain};
 use std::alloc::Global;
+use std::mem;
 
 // An equal compaction; where it is to run, it is submitted again, without a worker.
 fn unscheduled(alloc: Global, compaction: &Compaction) -> Result<Compaction, OutOfMemory>
@@ -15,7 +16,7 @@ fn unscheduled(alloc: Global, compaction: &Compaction) -> Result<Compaction, Out
     let mut made = compaction.clone(alloc)?;
     if matches!(made.status, CompactionStatus::Scheduled) {
         made.status = CompactionStatus::Submitted;
-        made.worker = None;
+        drop(mem::replace(&mut made.worker, None));
     }
     Ok(made)
 }

@@ -51,8 +51,17 @@ impl ManifestMap {
         ensures { IfOk result (λ found. found ≡ (number, manifest) ∷ []) }
     {
         let mut manifests = BTreeMap::new(alloc);
-        manifests.insert(number, manifest)?;
-        Ok(ManifestMap { manifests })
+        match manifests.insert(number, manifest) {
+            Ok(replaced) => {
+                drop(replaced);
+                Ok(ManifestMap { manifests })
+            }
+            Err(e) => {
+                drop(e);
+                drop(manifests);
+                Err(OutOfMemory)
+            }
+        }
     }
 
     // Adds a manifest. Running out of memory changes nothing.
@@ -60,8 +69,16 @@ impl ManifestMap {
         ensures ok { OnOk result (self.new ≡ insert_entry nat_cmp self.old number manifest) }
         ensures err { OnErr result (self.new ≡ self.old) }
     {
-        self.manifests.insert(number, manifest)?;
-        Ok(())
+        match self.manifests.insert(number, manifest) {
+            Ok(replaced) => {
+                drop(replaced);
+                Ok(())
+            }
+            Err(e) => {
+                drop(e);
+                Err(OutOfMemory)
+            }
+        }
     }
 
     /// The ordered map of them. Takes no memory.

@@ -44,14 +44,26 @@ fn manifest_got<C: ObjectCodec<Manifest>>(
     }
 }
 
+// A manifest's number, and a copy of it, alone.
+fn found_first(alloc: Global, n: u64, manifest: &Manifest) -> Result<ManifestMap, OutOfMemory>
+    ensures { IfOk result (λ found. found ≡ (n, manifest.now) ∷ []) }
+{
+    ManifestMap::of(alloc, n, Plain::clone(manifest, alloc)?)
+}
+
 impl ReferencedPhase {
     /// The reading of the versions that a manifest's checkpoints name.
     pub fn start(alloc: Global, n: u64, manifest: &Manifest) -> Result<ReferencedPhase, OutOfMemory>
         ensures { IfOk result (λ phase. phase ≡ referenced_start n manifest.now) }
     {
         let left = NumberQueue::named(alloc, n, manifest.core.checkpoints.as_slice())?;
-        let found = ManifestMap::of(alloc, n, Plain::clone(manifest, alloc)?)?;
-        Ok(ReferencedPhase::Getting(left, found))
+        match found_first(alloc, n, manifest) {
+            Ok(found) => Ok(ReferencedPhase::Getting(left, found)),
+            Err(e) => {
+                drop(left);
+                Err(e)
+            }
+        }
     }
 
     /// The same, and its first step: it ends at once where no other version is named.
@@ -66,10 +78,17 @@ impl ReferencedPhase {
         ensures memory { IfOk result (λ begun. NeverOut begun.1) }
     {
         let left = NumberQueue::named(alloc, n, manifest.core.checkpoints.as_slice())?;
-        let found = ManifestMap::of(alloc, n, Plain::clone(manifest, alloc)?)?;
-        let mut phase = ReferencedPhase::Over;
-        let step = phase.rest(left, found);
-        Ok((phase, step))
+        match found_first(alloc, n, manifest) {
+            Ok(found) => {
+                let mut phase = ReferencedPhase::Over;
+                let step = phase.rest(left, found);
+                Ok((phase, step))
+            }
+            Err(e) => {
+                drop(left);
+                Err(e)
+            }
+        }
     }
 
     /// The call that is due. Takes no memory.
@@ -107,11 +126,12 @@ impl ReferencedPhase {
     {
         match left.first() {
             None => {
-                *self = ReferencedPhase::Over;
+                drop(left);
+                drop(mem::replace(self, ReferencedPhase::Over));
                 Step::Done(Ok(found))
             }
             Some(_) => {
-                *self = ReferencedPhase::Getting(left, found);
+                drop(mem::replace(self, ReferencedPhase::Getting(left, found)));
                 Step::Again
             }
         }
@@ -136,19 +156,23 @@ impl ReferencedPhase {
         match reply {
             Err(e) => {
                 if e.is_memory() {
-                    *self = ReferencedPhase::Getting(left, found);
+                    drop(mem::replace(self, ReferencedPhase::Getting(left, found)));
                 } else {
-                    *self = ReferencedPhase::Over;
+                    drop(left);
+                    drop(found);
+                    drop(mem::replace(self, ReferencedPhase::Over));
                 }
                 Step::Done(Err(e))
             }
             Ok(None) => {
-                *self = ReferencedPhase::Over;
+                drop(left);
+                drop(found);
+                drop(mem::replace(self, ReferencedPhase::Over));
                 Step::Done(Err(SlateDBError::ManifestMissing(n)))
             }
             Ok(Some(manifest)) => match found.add(n, manifest) {
                 Err(_) => {
-                    *self = ReferencedPhase::Getting(left, found);
+                    drop(mem::replace(self, ReferencedPhase::Getting(left, found)));
                     Step::Done(Err(SlateDBError::OutOfMemory))
                 }
                 Ok(()) => {
@@ -194,7 +218,10 @@ impl ReferencedPhase {
         ensures { GoesOnAlways (found_goes self.old) self.new result }
     {
         match mem::replace(self, ReferencedPhase::Over) {
-            ReferencedPhase::Getting(_, found) => Step::Done(Ok(found)),
+            ReferencedPhase::Getting(left, found) => {
+                drop(left);
+                Step::Done(Ok(found))
+            }
             ReferencedPhase::Over => unreachable!(),
         }
     }
@@ -218,8 +245,14 @@ impl ReferencedPhase {
             → FaultRose (S.told store.old) (S.told store.new) result }
     {
         let call = self.asks(sequenced);
-        match perform(alloc, store, &call, moment) {
-            Ok(answer) => self.goes_on(alloc, sequenced, &answer),
+        let performed = perform(alloc, store, &call, moment);
+        drop(call);
+        match performed {
+            Ok(answer) => {
+                let step = self.goes_on(alloc, sequenced, &answer);
+                drop(answer);
+                step
+            }
             Err(_) => Step::Done(Err(SlateDBError::OutOfMemory)),
         }
     }
@@ -286,7 +319,10 @@ impl ReferencedPhase {
             return self.drive(alloc, sequenced, store);
         }
         match mem::replace(self, ReferencedPhase::Over) {
-            ReferencedPhase::Getting(_, found) => Ok(found),
+            ReferencedPhase::Getting(left, found) => {
+                drop(left);
+                Ok(found)
+            }
             ReferencedPhase::Over => unreachable!(),
         }
     }
@@ -306,5 +342,7 @@ pub fn read_named<C: ObjectCodec<Manifest>, S: ObjectStore>(
         → FaultOf (S.told store.old) (S.told store.new) result }
 {
     let mut phase = ReferencedPhase::start(alloc, n, manifest)?;
-    phase.run(alloc, sequenced, store)
+    let read = phase.run(alloc, sequenced, store);
+    drop(phase);
+    read
 }

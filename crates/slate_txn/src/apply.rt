@@ -16,6 +16,7 @@ use slate_ids::{Millis, ObjectCodec, OutOfMemory, SlateDBError};
 use slate_log::{CommitPhase, ReadPhase, Right, Rules, prepare_change};
 use slate_store::{ObjectStore, Step, StoreAnswer, StoreCall, perform};
 use std::alloc::Global;
+use std::mem;
 
 /// Where it stands.
 #[derive(Debug, Drop)]
@@ -123,7 +124,8 @@ impl<T: Drop> ApplyPhase<T> {
                 }
                 Step::Done(Err(e)) => {
                     if e.is_conflict() {
-                        *self = ApplyPhase::Reading(ReadPhase::Listing);
+                        drop(e);
+                        drop(mem::replace(self, ApplyPhase::Reading(ReadPhase::Listing)));
                         Step::Again
                     } else {
                         Step::Done(Err(e))
@@ -145,7 +147,7 @@ impl<T: Drop> ApplyPhase<T> {
                         match renewed {
                             Err(e) => {
                                 if e.is_memory() {
-                                    *read = ReadPhase::Bounding(id, value);
+                                    drop(mem::replace(read, ReadPhase::Bounding(id, value)));
                                 } else {
                                     holder.id = id;
                                     holder.object = value;
@@ -160,7 +162,7 @@ impl<T: Drop> ApplyPhase<T> {
                             Ok(Some(commit)) => {
                                 holder.id = id;
                                 holder.object = value;
-                                *self = ApplyPhase::Committing(commit);
+                                drop(mem::replace(self, ApplyPhase::Committing(commit)));
                                 Step::Again
                             }
                         }
@@ -202,10 +204,18 @@ impl<T: Drop> ApplyPhase<T> {
             → FaultRose (S.told store.old) (S.told store.new) result }
     {
         match self.asks(alloc, holder) {
-            Ok(call) => match perform(alloc, store, &call, moment) {
-                Ok(answer) => self.goes_on(alloc, holder, change, right, &answer),
-                Err(_) => Step::Done(Err(SlateDBError::OutOfMemory)),
-            },
+            Ok(call) => {
+                let performed = perform(alloc, store, &call, moment);
+                drop(call);
+                match performed {
+                    Ok(answer) => {
+                        let step = self.goes_on(alloc, holder, change, right, &answer);
+                        drop(answer);
+                        step
+                    }
+                    Err(_) => Step::Done(Err(SlateDBError::OutOfMemory)),
+                }
+            }
             Err(_) => Step::Done(Err(SlateDBError::OutOfMemory)),
         }
     }
@@ -239,11 +249,15 @@ impl<T: Drop, C: ObjectCodec<T> + Drop, R: Rules<T> + Drop> Stored<T, C, R> {
         let mut left = tries;
         loop {
             match phase.next(alloc, self, change, right, store, moment) {
-                Step::Done(result) => return result,
+                Step::Done(result) => {
+                    drop(phase);
+                    return result;
+                }
                 Step::Again => {}
             }
             if phase.is_start() {
                 if left == 1 {
+                    drop(phase);
                     return Err(SlateDBError::Contended);
                 }
                 left -= 1;

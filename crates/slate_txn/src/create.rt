@@ -55,7 +55,11 @@ fn hold<T: Drop, C: Drop, R: Drop>(
             id,
             object,
         }),
-        Err(e) => Err(e),
+        Err(e) => {
+            drop(sequenced);
+            drop(rules);
+            Err(e)
+        }
     }
 }
 
@@ -109,7 +113,10 @@ impl<T: Drop, C: ObjectCodec<T> + Drop, R: Rules<T> + Drop> Stored<T, C, R> {
         match first_commit(alloc, &sequenced.codec, value) {
             Ok(commit) => Ok(CreateMachine::Committing(commit, sequenced, rules)),
             Err(e) => {
+                drop(sequenced);
+                drop(rules);
                 if e.is_memory() {
+                    drop(e);
                     Err(OutOfMemory)
                 } else {
                     Ok(CreateMachine::Refused(e))
@@ -154,14 +161,23 @@ impl<T: Drop, C: Drop, R: Drop> CreateMachine<T, C, R> {
                 let step = commit.next(alloc, &sequenced, store, moment);
                 match step {
                     Step::Again => {
-                        *self = CreateMachine::Committing(commit, sequenced, rules);
+                        drop(mem::replace(
+                            self,
+                            CreateMachine::Committing(commit, sequenced, rules),
+                        ));
                         Step::Again
                     }
                     Step::Done(Err(SlateDBError::OutOfMemory)) => {
-                        *self = CreateMachine::Committing(commit, sequenced, rules);
+                        drop(mem::replace(
+                            self,
+                            CreateMachine::Committing(commit, sequenced, rules),
+                        ));
                         Step::Done(Err(SlateDBError::OutOfMemory))
                     }
-                    Step::Done(reply) => Step::Done(hold(sequenced, rules, reply)),
+                    Step::Done(reply) => {
+                        drop(commit);
+                        Step::Done(hold(sequenced, rules, reply))
+                    }
                 }
             }
         }

@@ -42,7 +42,11 @@ fn fenced_after<T: Drop, C: Drop, R: Drop, E: Epochs<T> + Drop>(
     ensures { result ≡ fenced_of E.epoch epochs stored reply }
 {
     match reply {
-        Err(e) => Err(e),
+        Err(e) => {
+            drop(stored);
+            drop(epochs);
+            Err(e)
+        }
         Ok(()) => {
             let epoch = epochs.get(&stored.object);
             Ok(Fenced {

@@ -39,7 +39,10 @@ fn fence_after(
     ensures { result ≡ fence_after refusal reply }
 {
     match (reply, refusal) {
-        (Err(e), _) => Err(e),
+        (Err(e), refusal) => {
+            drop(refusal);
+            Err(e)
+        }
         (Ok(()), Some(e)) => Err(e),
         (Ok(()), None) => Ok(()),
     }

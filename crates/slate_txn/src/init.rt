@@ -36,7 +36,11 @@ fn fence<T: Drop, C: Drop, R: Drop, E: Epochs<T> + Drop>(
     ensures { result ≡ fenced_reply E.epoch stored epochs reply }
 {
     match reply {
-        Err(e) => Err(e),
+        Err(e) => {
+            drop(stored);
+            drop(epochs);
+            Err(e)
+        }
         Ok((id, object)) => {
             let epoch = epochs.get(&object);
             let mut stored = stored;
@@ -67,7 +71,10 @@ fn start<T: Drop, C: Drop, R: Drop, E: Drop>(
     match commit {
         Ok(commit) => Ok(InitMachine::Committing(commit, stored, epochs)),
         Err(e) => {
+            drop(stored);
+            drop(epochs);
             if e.is_memory() {
+                drop(e);
                 Err(OutOfMemory)
             } else {
                 Ok(InitMachine::Refused(e))

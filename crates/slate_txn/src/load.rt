@@ -164,14 +164,17 @@ impl<T: Drop, C: ObjectCodec<T> + Drop, R: Rules<T> + Drop> TryLoadMachine<T, C,
                 let mut read = read;
                 match read.next(alloc, &sequenced, store, moment) {
                     Step::Again => {
-                        *self = TryLoadMachine::Reading(read, sequenced, rules);
+                        drop(mem::replace(self, TryLoadMachine::Reading(read, sequenced, rules)));
                         Step::Again
                     }
                     Step::Done(Err(SlateDBError::OutOfMemory)) => {
                         *self = TryLoadMachine::Reading(read, sequenced, rules);
                         Step::Done(Err(SlateDBError::OutOfMemory))
                     }
-                    Step::Done(reply) => Step::Done(hold(sequenced, rules, reply)),
+                    Step::Done(reply) => {
+                        drop(read);
+                        Step::Done(hold(sequenced, rules, reply))
+                    }
                 }
             }
         }

@@ -69,6 +69,7 @@ impl<T: Drop, C: ObjectCodec<T> + Drop, R: Rules<T> + Drop> Stored<T, C, R> {
             Ok(None) => Ok(UpdateMachine::Nothing),
             Err(e) => {
                 if e.is_memory() {
+                    drop(e);
                     Err(OutOfMemory)
                 } else {
                     Ok(UpdateMachine::Refused(e))

@@ -40,8 +40,10 @@ impl<T: Drop, C: ObjectCodec<T> + Drop, R: Rules<T> + Drop> Stored<T, C, R> {
         ensures version { IfOk result (λ commit. commit_version commit ≡ Some (self.now.id + 1, dirty.value)) }
     {
         if dirty.id != self.id {
+            let number = dirty.id;
+            drop(dirty);
             return Err(SlateDBError::TransactionalObjectVersionExists {
-                number: dirty.id,
+                number,
                 boundary: None,
             });
         }
@@ -105,6 +107,7 @@ impl<T: Drop, C: ObjectCodec<T> + Drop, R: Rules<T> + Drop> Stored<T, C, R> {
             Ok(commit) => Ok(UpdateMachine::Committing(commit)),
             Err(e) => {
                 if e.is_memory() {
+                    drop(e);
                     Err(OutOfMemory)
                 } else {
                     Ok(UpdateMachine::Refused(e))

@@ -1,5 +1,5 @@
 //! What the checkpoint calls, and the passes of a collector, make of a manifest.
-ghost use Rattle.std.specs.Prelude.{◌≡◌, map, filter, not, bytes_eq, IfOk};
+ghost use Rattle.std.specs.Prelude.{◌≡◌, ◌++◌, ◌∷◌, [], map, filter, not, bytes_eq, IfOk};
 ghost use Rattle.std.specs.List.{list_any};
 ghost use Rattle.slate_ids.specs.Answers.{Gives};
 ghost use Rattle.slate_updates.specs.Checkpoints as made;
@@ -8,6 +8,7 @@ use crate::lookups::find_checkpoint;
 use slate_ids::{CheckpointId, Listed, Millis, OutOfMemory, SlateDBError, StateCause};
 use slate_model::{Checkpoint, CheckpointOptions, Manifest, Plain};
 use std::alloc::Global;
+use std::mem;
 
 // The number of the version after this one.
 fn number_after(n: u64) -> Result<u64, SlateDBError>
@@ -134,9 +135,81 @@ fn with_checkpoints(
 ) -> Result<Manifest, OutOfMemory>
     ensures { IfOk result (λ m. m ≡ made.with_checkpoints checkpoints manifest.now) }
 {
-    let mut new = manifest.clone(alloc)?;
-    new.core.checkpoints = checkpoints;
-    Ok(new)
+    match manifest.clone(alloc) {
+        Ok(copied) => {
+            let mut new = copied;
+            drop(mem::replace(&mut new.core.checkpoints, checkpoints));
+            Ok(new)
+        }
+        Err(e) => {
+            drop(checkpoints);
+            Err(e)
+        }
+    }
+}
+
+// An equal manifest, with these checkpoints and one more, the last.
+fn with_last(
+    alloc: Global,
+    checkpoints: Listed<Checkpoint>,
+    last: Checkpoint,
+    manifest: &Manifest,
+) -> Result<Manifest, OutOfMemory>
+    ensures { IfOk result (λ m. m ≡ made.with_checkpoints (checkpoints ++ last ∷ []) manifest.now) }
+{
+    let mut all = checkpoints;
+    match all.push(last) {
+        Ok(()) => with_checkpoints(alloc, all, manifest),
+        Err(e) => {
+            drop(all);
+            Err(e)
+        }
+    }
+}
+
+// An equal manifest, with one checkpoint more, the last.
+fn with_one_more(
+    alloc: Global,
+    last: Checkpoint,
+    manifest: &Manifest,
+) -> Result<Manifest, OutOfMemory>
+    ensures { IfOk result (λ m. m ≡ made.with_checkpoints (manifest.now.core.checkpoints ++ last ∷ []) manifest.now) }
+{
+    match manifest.clone(alloc) {
+        Ok(copied) => {
+            let mut new = copied;
+            match new.core.checkpoints.push(last) {
+                Ok(()) => Ok(new),
+                Err(e) => {
+                    drop(new);
+                    Err(e)
+                }
+            }
+        }
+        Err(e) => {
+            drop(last);
+            Err(e)
+        }
+    }
+}
+
+// An equal manifest, without the checkpoint `old`, and with another one, the last.
+fn with_another(
+    alloc: Global,
+    old: &CheckpointId,
+    last: Checkpoint,
+    manifest: &Manifest,
+) -> Result<Manifest, OutOfMemory>
+    ensures { IfOk result (λ m. m ≡ made.with_checkpoints
+        (made.without_checkpoint old.now manifest.now.core.checkpoints ++ last ∷ []) manifest.now) }
+{
+    match without(alloc, manifest.core.checkpoints.as_slice(), old) {
+        Ok(kept) => with_last(alloc, kept, last, manifest),
+        Err(e) => {
+            drop(last);
+            Err(e)
+        }
+    }
 }
 
 // Whether a checkpoint has the id.
@@ -160,14 +233,19 @@ pub fn write_checkpoint(
     ensures { Gives result (made.written id options now n manifest.now) }
 {
     if has(&id, manifest) {
+        drop(options);
         return Ok(None);
     }
-    let version = version_to_name(n, options.source, manifest)?;
-    let mut new = manifest.clone(alloc)?;
-    new.core
-        .checkpoints
-        .push(new_checkpoint(id, options, now, version))?;
-    Ok(Some(new))
+    match version_to_name(n, options.source, manifest) {
+        Ok(version) => {
+            let last = new_checkpoint(id, options, now, version);
+            Ok(Some(with_one_more(alloc, last, manifest)?))
+        }
+        Err(e) => {
+            drop(options);
+            Err(e)
+        }
+    }
 }
 
 /// The same, without the checkpoint `old`, which may be absent, and which may be the source.
@@ -183,12 +261,19 @@ pub fn replace_checkpoint(
     ensures { Gives result (made.replaced old.now id options now n manifest.now) }
 {
     if has(&id, manifest) {
+        drop(options);
         return Ok(None);
     }
-    let version = version_to_name(n, options.source, manifest)?;
-    let mut kept = without(alloc, manifest.core.checkpoints.as_slice(), old)?;
-    kept.push(new_checkpoint(id, options, now, version))?;
-    Ok(Some(with_checkpoints(alloc, kept, manifest)?))
+    match version_to_name(n, options.source, manifest) {
+        Ok(version) => {
+            let last = new_checkpoint(id, options, now, version);
+            Ok(Some(with_another(alloc, old, last, manifest)?))
+        }
+        Err(e) => {
+            drop(options);
+            Err(e)
+        }
+    }
 }
 
 /// What the refresh of a checkpoint makes of a manifest: it expires that long after the moment, or never. Refused with

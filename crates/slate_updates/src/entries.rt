@@ -6,7 +6,7 @@ ghost use Rattle.slate_updates.specs.Entries as entries;
 ghost use Rattle.slate_model.specs.Trees.{tables_of};
 ghost use Rattle.slate_updates.specs.TableSets.{has_table, IsTableSet};
 
-use crate::tables::{TableSet, all_tables, set_of};
+use crate::tables::{TableSet, known_set, set_of};
 use slate_ids::{CheckpointId, Listed, OutOfMemory};
 use slate_model::{ExternalDb, Manifest, SsTableId};
 use std::alloc::Global;
@@ -109,6 +109,16 @@ fn tables_with(
     Ok(ids)
 }
 
+// The same, as a set.
+fn set_with(alloc: Global, old: &ExternalDb, new: &[ExternalDb]) -> Result<TableSet, OutOfMemory>
+    ensures { IfOk result (λ set. IsTableSet set (entries.tables_with old.now new.now)) }
+{
+    let ids = tables_with(alloc, old, new)?;
+    let set = set_of(alloc, ids.as_slice());
+    drop(ids);
+    set
+}
+
 // Whether each of these tables that is used is kept.
 fn are_kept(ids: &[SsTableId], used: &TableSet, kept: &TableSet) -> bool
     ensures { result ≡ list_all (λ id. not (has_table used.now id) || has_table kept.now id) ids.now }
@@ -126,12 +136,32 @@ fn used_stay(
     ensures { (ids : List Table) → IsTableSet used.now ids
         → IfOk result (λ stay. stay ≡ entries.used_stay ids new.now old.now) }
 {
-    let ids = tables_with(alloc, old, new)?;
-    let kept = set_of(alloc, ids.as_slice())?;
-    Ok(are_kept(old.sst_ids.as_slice(), used, &kept))
+    let kept = set_with(alloc, old, new)?;
+    let stay = are_kept(old.sst_ids.as_slice(), used, &kept);
+    drop(kept);
+    Ok(stay)
 }
 
-// Whether each used table of each old entry is listed by an entry of that one's path and pin.
+// Whether each of these used tables that an old entry lists is listed by an entry of that one's path and pin.
+fn each_stays(
+    alloc: Global,
+    used: &TableSet,
+    old: &[ExternalDb],
+    new: &Manifest,
+) -> Result<bool, OutOfMemory>
+    requires used { IsTableSet used.now (tables_of new.now.core) }
+    ensures { IfOk result (λ stay.
+        stay ≡ list_all (entries.used_stay (tables_of new.now.core) new.now.external_dbs) old.now) }
+{
+    for entry in old {
+        if !used_stay(alloc, used, new.external_dbs.as_slice(), entry)? {
+            return Ok(false);
+        }
+    }
+    Ok(true)
+}
+
+// Whether each table of each old entry that a view of the new manifest uses is listed by an entry of that one's path and pin.
 fn all_used_stay(alloc: Global, old: &[ExternalDb], new: &Manifest) -> Result<bool, OutOfMemory>
     ensures { IfOk result (λ stay.
         stay ≡ list_all (entries.used_stay (tables_of new.now.core) new.now.external_dbs) old.now) }
@@ -139,14 +169,10 @@ fn all_used_stay(alloc: Global, old: &[ExternalDb], new: &Manifest) -> Result<bo
     if old.is_empty() {
         return Ok(true);
     }
-    let ids = all_tables(alloc, &new.core)?;
-    let used = set_of(alloc, ids.as_slice())?;
-    for entry in old {
-        if !used_stay(alloc, &used, new.external_dbs.as_slice(), entry)? {
-            return Ok(false);
-        }
-    }
-    Ok(true)
+    let used = known_set(alloc, &new.core)?;
+    let stay = each_stays(alloc, &used, old, new);
+    drop(used);
+    stay
 }
 
 /// Whether no entry is new, none gains a table, and none loses one that a view of the new manifest uses. Entries are one by path and

@@ -7,7 +7,7 @@ ghost use Rattle.slate_updates.specs.Flushes.{tables_flushed, PutsNew};
 ghost use Rattle.slate_updates.specs.TableSets.{Notes};
 
 use crate::placing::push_newest;
-use crate::tables::{TableSet, all_tables, set_of};
+use crate::tables::{TableSet, known_set};
 use bytes::Bytes;
 use slate_ids::{Listed, Millis, OutOfMemory, SlateDBError, Ulid};
 use slate_merges::merge_remote_manifest;
@@ -106,12 +106,41 @@ fn push_all(
         ≡ flushes.with_all_flushed core.old (flushes.fresh_tables (tables_of core.old) tables.items)) }
     ensures memory { IfErr result (λ e. is_memory e ≡ true) }
 {
-    let known = all_tables(alloc, core)?;
-    let mut set = set_of(alloc, known.as_slice())?;
+    let mut set = match known_set(alloc, core) {
+        Ok(set) => set,
+        Err(_) => {
+            drop(tables);
+            return Err(SlateDBError::OutOfMemory);
+        }
+    };
     for table in tables {
-        push_if_new(alloc, core, &mut set, table)?;
+        if let Err(e) = push_if_new(alloc, core, &mut set, table) {
+            drop(set);
+            return Err(e);
+        }
     }
+    drop(set);
     Ok(())
+}
+
+// Puts the tables of a batch that no tree has yet, and its numbers.
+fn put_batch(alloc: Global, core: &mut ManifestCore, batch: FlushBatch) -> Result<(), SlateDBError>
+    ensures ok { OnOk result (core.new ≡ flushes.with_batch batch core.old) }
+    ensures memory { IfErr result (λ e. is_memory e ≡ true) }
+{
+    let FlushBatch {
+        tables,
+        replay_after,
+        next_wal,
+        seq,
+        tick,
+    } = batch;
+    push_all(alloc, core, tables.into_vec())?;
+    core.replay_after_wal_id = replay_after;
+    core.next_wal_sst_id = next_wal;
+    core.last_l0_clock_tick = tick;
+    core.last_l0_seq = seq;
+    Ok(core.sequence_tracker.insert(seq, tick)?)
 }
 
 /// What a flush makes of a manifest: that one merged with itself, with each table of the batch in front of the L0 of its prefix unless a
@@ -126,19 +155,20 @@ pub fn flush_tables(
     ensures ok { IfOk result (λ m. m ≡ tables_flushed batch manifest.now) }
     ensures memory { IfErr result (λ e. is_memory e ≡ true) }
 {
-    let FlushBatch {
-        tables,
-        replay_after,
-        next_wal,
-        seq,
-        tick,
-    } = batch;
-    let mut new = merge_remote_manifest(alloc, &manifest.core, manifest)?;
-    push_all(alloc, &mut new.core, tables.into_vec())?;
-    new.core.replay_after_wal_id = replay_after;
-    new.core.next_wal_sst_id = next_wal;
-    new.core.last_l0_clock_tick = tick;
-    new.core.last_l0_seq = seq;
-    new.core.sequence_tracker.insert(seq, tick)?;
-    Ok(new)
+    match merge_remote_manifest(alloc, &manifest.core, manifest) {
+        Ok(merged) => {
+            let mut new = merged;
+            match put_batch(alloc, &mut new.core, batch) {
+                Ok(()) => Ok(new),
+                Err(e) => {
+                    drop(new);
+                    Err(e)
+                }
+            }
+        }
+        Err(e) => {
+            drop(batch);
+            Err(e)
+        }
+    }
 }

@@ -163,11 +163,31 @@ impl ManifestChange {
         ensures putting { IfOk result (λ commit. IfSome commit (λ c. is_putting c ≡ true)) }
     {
         match self.refusal_at(manifest) {
-            Some(refusal) => Err(refusal),
+            Some(refusal) => {
+                drop(self);
+                Err(refusal)
+            }
             None => {
                 let right = self.right();
-                let changed = self.make(alloc, now, n, manifest)?;
-                prepare_change(alloc, codec, &ManifestRules, n, manifest, changed, &right)
+                match self.make(alloc, now, n, manifest) {
+                    Ok(made) => {
+                        let commit = prepare_change(
+                            alloc,
+                            codec,
+                            &ManifestRules,
+                            n,
+                            manifest,
+                            made,
+                            &right,
+                        );
+                        drop(right);
+                        commit
+                    }
+                    Err(e) => {
+                        drop(right);
+                        Err(e)
+                    }
+                }
             }
         }
     }

@@ -1,5 +1,5 @@
 //! A view in front of the L0 of a prefix, whether or not the prefix nests with another.
-ghost use Rattle.std.specs.Prelude.{◌≡◌, ◌≤◌, length, IfOk, IfErr, OnOk, None, true, is_some};
+ghost use Rattle.std.specs.Prelude.{◌≡◌, ◌≤◌, insert, length, IfOk, IfErr, OnOk, None, true, is_some};
 ghost use Rattle.slate_ids.specs.Answers.{is_memory};
 ghost use Rattle.slate_ids.specs.Keys.{key_lt};
 ghost use Rattle.slate_model.specs.Cores.{empty_tree};
@@ -21,8 +21,11 @@ fn nests(alloc: Global, core: &ManifestCore, prefix: &[u8]) -> Result<bool, OutO
     }
     match core.check_segment_prefix_antichain(alloc, prefix) {
         Ok(()) => Ok(false),
-        Err(SlateDBError::OutOfMemory) => Err(OutOfMemory),
-        Err(_) => Ok(true),
+        Err(e) => {
+            let memory = e.is_memory();
+            drop(e);
+            if memory { Err(OutOfMemory) } else { Ok(true) }
+        }
     }
 }
 
@@ -38,8 +41,13 @@ fn push_apart(
         (core.new ≡ with_tree prefix.now core.old (with_newest view (or_empty (tree_for prefix.now core.old)))) }
     ensures memory { IfErr result (λ e. is_memory e ≡ true) }
 {
-    let tree = core.maybe_insert_tree(alloc, prefix)?;
-    Ok(tree.l0.push_front(view)?)
+    match core.maybe_insert_tree(alloc, prefix) {
+        Ok(tree) => Ok(tree.l0.push_front(view)?),
+        Err(e) => {
+            drop(view);
+            Err(e)
+        }
+    }
 }
 
 // Whether a segment stands before this prefix.
@@ -64,6 +72,48 @@ fn place_of(segments: &[Segment], prefix: &[u8]) -> usize
     place
 }
 
+// The segment of an equal prefix, with this tree.
+fn segment_of(alloc: Global, prefix: &Bytes, tree: LsmTreeState) -> Result<Segment, OutOfMemory>
+    ensures { IfOk result (λ segment. segment ≡ record { prefix = prefix.now; tree = tree }) }
+{
+    match Plain::clone(prefix, alloc) {
+        Ok(copied) => Ok(Segment::new(copied, tree)),
+        Err(e) => {
+            drop(tree);
+            Err(e)
+        }
+    }
+}
+
+// Equal segments, with one more at this place.
+fn with_segment(
+    alloc: Global,
+    segments: &[Segment],
+    place: usize,
+    segment: Segment,
+) -> Result<Vec<Segment>, OutOfMemory>
+    requires within { place ≤ length segments.now }
+    ensures { IfOk result (λ all. all.items ≡ insert segments.now place segment) }
+{
+    match copies(alloc, segments.iter()) {
+        Ok(copied) => {
+            let mut all = copied;
+            match all.insert(place, segment) {
+                Ok(()) => Ok(all),
+                Err(e) => {
+                    drop(e);
+                    drop(all);
+                    Err(OutOfMemory)
+                }
+            }
+        }
+        Err(e) => {
+            drop(segment);
+            Err(e)
+        }
+    }
+}
+
 // Equal segments, with this tree in a new one at the place of its prefix.
 #[tactic(auto, using(crate::proofs::Placings::inserted))]
 fn placed(
@@ -75,11 +125,23 @@ fn placed(
     requires absent { segment_at prefix.now segments.now ≡ None }
     ensures { IfOk result (λ all. all.items ≡ placed_in prefix.now tree segments.now) }
 {
+    let segment = segment_of(alloc, prefix, tree)?;
     let place = place_of(segments, prefix.as_slice());
-    let segment = Segment::new(Plain::clone(prefix, alloc)?, tree);
-    let mut all = copies(alloc, segments.iter())?;
-    all.insert(place, segment)?;
-    Ok(all)
+    with_segment(alloc, segments, place, segment)
+}
+
+// The tree of this view alone.
+fn tree_of(alloc: Global, view: SsTableView) -> Result<LsmTreeState, OutOfMemory>
+    ensures { IfOk result (λ tree. tree ≡ with_newest view empty_tree) }
+{
+    let mut tree = LsmTreeState::new(alloc);
+    match tree.l0.push_front(view) {
+        Ok(()) => Ok(tree),
+        Err(e) => {
+            drop(tree);
+            Err(e)
+        }
+    }
 }
 
 // Puts a view in front of the L0 of a prefix that nests with another, and so has no segment yet.
@@ -93,8 +155,7 @@ fn push_nested(
     ensures { OnOk result
         (core.new ≡ with_tree prefix.now core.old (with_newest view (or_empty (tree_for prefix.now core.old)))) }
 {
-    let mut tree = LsmTreeState::new(alloc);
-    tree.l0.push_front(view)?;
+    let tree = tree_of(alloc, view)?;
     let segments = placed(alloc, core.segments(), prefix, tree)?;
     core.set_segments(segments);
     Ok(())
@@ -112,9 +173,12 @@ pub(crate) fn push_newest(
         (core.new ≡ with_tree prefix.now core.old (with_newest view (or_empty (tree_for prefix.now core.old)))) }
     ensures memory { IfErr result (λ e. is_memory e ≡ true) }
 {
-    if nests(alloc, core, prefix.as_slice())? {
-        Ok(push_nested(alloc, core, prefix, view)?)
-    } else {
-        push_apart(alloc, core, prefix, view)
+    match nests(alloc, core, prefix.as_slice()) {
+        Ok(true) => Ok(push_nested(alloc, core, prefix, view)?),
+        Ok(false) => push_apart(alloc, core, prefix, view),
+        Err(_) => {
+            drop(view);
+            Err(SlateDBError::OutOfMemory)
+        }
     }
 }

@@ -54,7 +54,9 @@ fn names_known(
     ensures { IfOk result (λ known. known ≡ rules.names_known old_id old.now new.now) }
 {
     let named = named_versions(alloc, old.core.checkpoints.as_slice())?;
-    Ok(are_known(old_id, &named, new))
+    let known = are_known(old_id, &named, new);
+    drop(named);
+    Ok(known)
 }
 
 // The refusal that names a rule, where it isn't kept.

@@ -37,8 +37,12 @@ fn known_tables(alloc: Global, old: &Manifest, right: &Right) -> Result<TableSet
     ensures { IfOk result (λ set. IsTableSet set (tables_of old.now.core ++ runs.outputs_of right.now)) }
 {
     let mut ids = all_tables(alloc, &old.core)?;
-    push_outputs(&mut ids, right)?;
-    set_of(alloc, ids.as_slice())
+    let set = match push_outputs(&mut ids, right) {
+        Ok(()) => set_of(alloc, ids.as_slice()),
+        Err(e) => Err(e),
+    };
+    drop(ids);
+    set
 }
 
 // Whether the set has each of these tables.
@@ -55,6 +59,16 @@ fn attaches(right: &Right) -> bool
     matches!(right, Right::Attach)
 }
 
+// Whether the set has each table of a sorted run.
+fn all_in(alloc: Global, known: &TableSet, new: &Manifest) -> Result<bool, OutOfMemory>
+    ensures { IfOk result (λ all. all ≡ list_all (has_table known.now) (runs.run_tables new.now.core)) }
+{
+    let ids = run_tables(alloc, &new.core)?;
+    let all = has_all(known, ids.as_slice());
+    drop(ids);
+    Ok(all)
+}
+
 // Whether each table of a sorted run was in a tree of the old manifest, or was made by the compactor.
 fn are_known(
     alloc: Global,
@@ -66,8 +80,9 @@ fn are_known(
         ≡ list_all (is_among (tables_of old.now.core ++ runs.outputs_of right.now)) (runs.run_tables new.now.core)) }
 {
     let known = known_tables(alloc, old, right)?;
-    let ids = run_tables(alloc, &new.core)?;
-    Ok(has_all(&known, ids.as_slice()))
+    let all = all_in(alloc, &known, new);
+    drop(known);
+    all
 }
 
 /// Whether each table of a sorted run was in a tree of the old manifest, or was made by the compactor whose right it is. With an attached

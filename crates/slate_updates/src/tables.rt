@@ -86,6 +86,16 @@ pub(crate) fn all_tables(
     Ok(ids)
 }
 
+/// The tables of all trees, as a set.
+pub(crate) fn known_set(alloc: Global, core: &ManifestCore) -> Result<TableSet, OutOfMemory>
+    ensures { IfOk result (λ set. IsTableSet set (trees.tables_of core.now)) }
+{
+    let ids = all_tables(alloc, core)?;
+    let set = set_of(alloc, ids.as_slice());
+    drop(ids);
+    set
+}
+
 /// These tables as a set.
 pub(crate) fn set_of(alloc: Global, ids: &[SsTableId]) -> Result<TableSet, OutOfMemory>
     ensures { IfOk result (λ set. IsTableSet set ids.now) }

@@ -7,19 +7,19 @@ use Rattle.slate_log.proofs.Steps.{steps_where}
 use Rattle.slate_compactor_writer.proofs.state_phase.StatePhase.next.Goals as goal
 use Rattle.slate_store.specs.Machines.{GoesOn}
 
-pub returns-in-Ok-perform : goal.returns-in-Ok-perform
-returns-in-Ok-perform g c =
+pub returns-in-Ok-performed : goal.returns-in-Ok-performed
+returns-in-Ok-performed g c =
     let told = g.S.ObjectStore.told in
     let moment = c.args.moment in
     let from : StateAt = (c.args.self.now, c.args.writer.now) in
-    let to : StateAt = (c.goes_on.new.self, c.goes_on.new.writer) in
-    let calls = rw (to_z-of_z w64 moment c.ranges.moment) at c.in-Ok-perform.ensures in
-    let goes = subst (λ (m : ℤ). GoesOn {P = StateAt} {R = Unit {0}} (state_goes m from c.in-Ok-perform.answer) from to c.goes_on.result) (to_z-of_z w64 moment c.ranges.moment) c.goes_on.ensures.goes in
-    let steps = steps_where (state_asks from) moment (state_goes moment from) from to c.in-Ok.ensures calls c.goes_on.result goes c.goes_on.ensures.memory in
+    let to : StateAt = (c.goes_on-step.new.self, c.goes_on-step.new.writer) in
+    let calls = rw (to_z-of_z w64 moment c.ranges.moment) at c.in-Ok-performed.ensures in
+    let goes = subst (λ (m : ℤ). GoesOn {P = StateAt} {R = Unit {0}} (state_goes m from c.in-Ok-performed.answer) from to c.goes_on-step.result) (to_z-of_z w64 moment c.ranges.moment) c.goes_on-step.ensures.goes in
+    let steps = steps_where (state_asks from) moment (state_goes moment from) from to c.in-Ok.ensures calls c.goes_on-step.result goes c.goes_on-step.ensures.memory in
     record {
       steps = steps;
-      falls = c.goes_on.ensures.falls;
-      due = c.goes_on.ensures.due;
-      own = c.goes_on.ensures.own;
-      fault = step_rose (told c.args.store.now) (told c.perform.new.store) moment from to c.goes_on.result (state_faults c.records_are_plain.ensures moment) c.requires.due steps;
+      falls = c.goes_on-step.ensures.falls;
+      due = c.goes_on-step.ensures.due;
+      own = c.goes_on-step.ensures.own;
+      fault = step_rose (told c.args.store.now) (told c.perform-performed.new.store) moment from to c.goes_on-step.result (state_faults c.records_are_plain.ensures moment) c.requires.due steps;
     }

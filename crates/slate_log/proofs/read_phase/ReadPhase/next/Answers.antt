@@ -6,9 +6,9 @@ use Rattle.slate_log.proofs.read_phase.ReadPhase.next.Goals as goal
 pub returns-in-Ok-clause-steps : goal.returns-in-Ok-clause-steps
 returns-in-Ok-clause-steps g c =
     let sequenced = c.args.sequenced.now in
-    goes_steps _ _ _ _ _ c.asks-call.ensures (reads_only sequenced.db sequenced.log c.args.self.now) (rw (to_z-of_z w64 c.args.moment c.ranges.moment) at c.in-Ok.ensures) c.goes_on.result c.goes_on.ensures.goes
+    goes_steps _ _ _ _ _ c.asks-call.ensures (reads_only sequenced.db sequenced.log c.args.self.now) (rw (to_z-of_z w64 c.args.moment c.ranges.moment) at c.in-Ok.ensures) c.goes_on-step.result c.goes_on-step.ensures.goes
 
 pub returns-in-Ok-clause-memory : goal.returns-in-Ok-clause-memory
 returns-in-Ok-clause-memory g c =
     let sequenced = c.args.sequenced.now in
-    goes_held _ _ _ _ c.asks-call.ensures (reads_only sequenced.db sequenced.log c.args.self.now) (rw (to_z-of_z w64 c.args.moment c.ranges.moment) at c.in-Ok.ensures) c.goes_on.result c.goes_on.ensures.memory
+    goes_held _ _ _ _ c.asks-call.ensures (reads_only sequenced.db sequenced.log c.args.self.now) (rw (to_z-of_z w64 c.args.moment c.ranges.moment) at c.in-Ok.ensures) c.goes_on-step.result c.goes_on-step.ensures.memory

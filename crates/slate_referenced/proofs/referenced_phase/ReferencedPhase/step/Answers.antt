@@ -11,14 +11,14 @@ returns-in-Ok g c =
     let sequenced = c.args.sequenced.now in
     let decoded = g.C.ObjectCodec.decoded sequenced.codec in
     let old = g.S.ObjectStore.told c.args.store.now in
-    let new = g.S.ObjectStore.told c.perform.new.store in
+    let new = g.S.ObjectStore.told c.perform-performed.new.store in
     let from = c.args.self.now in
-    let to = c.goes_on.new.self in
-    let steps = goes_steps (referenced_asks sequenced.db from) c.args.moment (referenced_goes decoded from) from to c.asks-call.ensures (referenced_reads sequenced.db from) (rw (to_z-of_z w64 c.args.moment c.ranges.moment) at c.in-Ok.ensures) c.goes_on.result c.goes_on.ensures.goes in
+    let to = c.goes_on-step.new.self in
+    let steps = goes_steps (referenced_asks sequenced.db from) c.args.moment (referenced_goes decoded from) from to c.asks-call.ensures (referenced_reads sequenced.db from) (rw (to_z-of_z w64 c.args.moment c.ranges.moment) at c.in-Ok.ensures) c.goes_on-step.result c.goes_on-step.ensures.goes in
     record {
       steps = steps;
-      falls = c.goes_on.ensures.falls;
-      due = c.goes_on.ensures.due;
-      more = c.goes_on.ensures.more;
-      fault = λ good. step_rose old new c.args.moment from to c.goes_on.result (referenced_faults sequenced.db decoded good) c.requires.due steps;
+      falls = c.goes_on-step.ensures.falls;
+      due = c.goes_on-step.ensures.due;
+      more = c.goes_on-step.ensures.more;
+      fault = λ good. step_rose old new c.args.moment from to c.goes_on-step.result (referenced_faults sequenced.db decoded good) c.requires.due steps;
     }

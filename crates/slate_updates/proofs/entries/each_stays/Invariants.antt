@@ -2,7 +2,7 @@ use Rattle.std.proofs.Common.{◌≡◌, drop}
 use Rattle.std.specs.List.{list_all}
 use Rattle.slate_model.specs.Trees.{tables_of}
 use Rattle.slate_updates.specs.Entries.{used_stay}
-use Rattle.slate_updates.proofs.entries.all_used_stay.Given as goal
+use Rattle.slate_updates.proofs.entries.each_stays.Given as goal
 
 -- the entries that are left decide
 abbrev pub invariant-loop-entry : goal.invariant-loop-entry
