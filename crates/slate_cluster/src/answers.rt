@@ -56,12 +56,22 @@ fn answer_script(alloc: Global, script: Script) -> Result<Output, OutOfMemory>
     lawful();
     let Script { databases, events } = script;
     match begun(alloc, databases) {
-        Ok(state) => answer_run(alloc, state, events.as_slice()),
-        Err(NewError::BadCluster(cause)) => Ok(Output {
-            text: bad_cluster(alloc, cause)?,
-            status: Status::BadCluster(cause),
-        }),
-        Err(NewError::OutOfMemory) => Err(OutOfMemory),
+        Ok(state) => {
+            let output = answer_run(alloc, state, events.as_slice());
+            drop(events);
+            output
+        }
+        Err(NewError::BadCluster(cause)) => {
+            drop(events);
+            Ok(Output {
+                text: bad_cluster(alloc, cause)?,
+                status: Status::BadCluster(cause),
+            })
+        }
+        Err(NewError::OutOfMemory) => {
+            drop(events);
+            Err(OutOfMemory)
+        }
     }
 }
 

@@ -51,12 +51,17 @@ impl Progress {
     pub fn new(alloc: Global, specs: Vec<DbSpec>) -> Result<Progress, NewError>
         ensures { Opens specs.items result }
     {
-        let opening = opened(alloc, specs.as_slice())?;
-        Ok(Progress {
-            specs,
-            trail: Vec::new(alloc),
-            state: ClusterState::of(alloc, opening),
-        })
+        match opened(alloc, specs.as_slice()) {
+            Ok(opening) => Ok(Progress {
+                specs,
+                trail: Vec::new(alloc),
+                state: ClusterState::of(alloc, opening),
+            }),
+            Err(e) => {
+                drop(specs);
+                Err(e)
+            }
+        }
     }
 
     /// Does the events in order, up to the first bad one, and copies no entry.

@@ -26,15 +26,18 @@ pub(crate) fn begun(alloc: Global, databases: Listed<DbSpec>) -> Result<ClusterS
     ensures { BeginsState databases result }
 {
     names(databases.as_slice());
-    let opening = opened(alloc, databases.as_slice())?;
-    Ok(ClusterState::of(alloc, opening))
+    let opening = opened(alloc, databases.as_slice());
+    drop(databases);
+    Ok(ClusterState::of(alloc, opening?))
 }
 
 // Adds the line of an entry, and lets the entry go.
 fn push_line(text: &mut String, place: u64, entry: Entry) -> Result<(), OutOfMemory>
     ensures { OnOk result (string_bytes text.new ≡ string_bytes text.old ++ entry_text place entry) }
 {
-    push_entry(text, place, &entry)?;
+    let pushed = push_entry(text, place, &entry);
+    drop(entry);
+    pushed?;
     Ok(())
 }
 
@@ -78,7 +81,23 @@ fn tell(
     Ok(None)
 }
 
-/// The report of the events, from this state on.
+// The report of the events, which the state does.
+fn tell_at(
+    alloc: Global,
+    state: &mut ClusterState,
+    events: &[Event],
+) -> Result<ToldRun, OutOfMemory>
+    ensures text { (specs : List Database) → IfOk result (λ t. string_bytes t.text
+        ≡ report_text (run events.now 0 (from_state specs state.old))) }
+    ensures bad { (specs : List Database) → IfOk result (λ t. t.bad ≡ (run events.now 0 (from_state specs state.old)).bad) }
+{
+    let mut text = String::new(alloc);
+    let bad = tell(alloc, state, events, &mut text)?;
+    push_end_of(alloc, &mut text, state, bad)?;
+    Ok(ToldRun { text, bad })
+}
+
+/// The report of the events, from this state on. The state is let go.
 pub(crate) fn tell_run(
     alloc: Global,
     state: ClusterState,
@@ -89,8 +108,7 @@ pub(crate) fn tell_run(
     ensures bad { (specs : List Database) → IfOk result (λ t. t.bad ≡ (run events.now 0 (from_state specs state)).bad) }
 {
     let mut state = state;
-    let mut text = String::new(alloc);
-    let bad = tell(alloc, &mut state, events, &mut text)?;
-    push_end_of(alloc, &mut text, &state, bad)?;
-    Ok(ToldRun { text, bad })
+    let told = tell_at(alloc, &mut state, events);
+    drop(state);
+    told
 }

@@ -21,7 +21,11 @@ fn answer_whole<K: Sink>(alloc: Global, bytes: &[u8], sink: &mut K) -> Status
     ensures lawful { IfAnswered result (IsLawfulRun (script_of bytes.now)) }
 {
     match answer(alloc, bytes) {
-        Ok(Output { text, status }) => deliver(text.as_str(), status, sink),
+        Ok(Output { text, status }) => {
+            let told = deliver(text.as_str(), status, sink);
+            drop(text);
+            told
+        }
         Err(_) => Status::OutOfMemory,
     }
 }
@@ -32,7 +36,11 @@ fn run<S: Source, K: Sink>(alloc: Global, source: &mut S, sink: &mut K) -> Statu
         (end (K.written sink.old) (K.faults sink.old)) (end (K.written sink.new) (K.faults sink.new)) result }
 {
     match read_all(alloc, source, LIMIT) {
-        Ok(bytes) => answer_whole(alloc, &bytes, sink),
+        Ok(bytes) => {
+            let told = answer_whole(alloc, &bytes, sink);
+            drop(bytes);
+            told
+        }
         Err(ReadError::Fault) => Status::ReadFault,
         Err(ReadError::TooLong) => Status::TooLong,
         Err(ReadError::OutOfMemory) => Status::OutOfMemory,

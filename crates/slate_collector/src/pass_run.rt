@@ -30,6 +30,7 @@ fn ends(turns: PassTurns, reply: Result<PassCounts, SlateDBError>) -> PassEnd
         Ok(counts) => counts.deleted,
         Err(_) => turns.deleted(),
     };
+    drop(turns);
     PassEnd {
         result: reply,
         deleted,

@@ -16,6 +16,7 @@ use slate_passes::{GcPhase, PassCounts, PassPhase, PassSettings};
 use slate_picks::{GcFilter, WalGc};
 use slate_store::{ObjectStore, Step};
 use std::alloc::Global;
+use std::mem;
 
 /// A pass, and whether its last step used a turn.
 #[derive(Debug, Drop)]
@@ -134,7 +135,7 @@ impl PassTurns {
         ensures db { self.new.pass.db ≡ self.old.pass.db }
         ensures settings { self.new.pass.settings ≡ self.old.pass.settings }
     {
-        self.pass.phase = GcPhase::start();
+        drop(mem::replace(&mut self.pass.phase, GcPhase::start()));
         self.is_turned = true;
     }
 

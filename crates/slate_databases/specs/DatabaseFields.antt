@@ -1,5 +1,5 @@
 -- The fields of a database in a script.
-use Rattle.std.specs.Prelude.{ℕ, ◌&&◌, pos, not, Bool, true, List, [], ◌∷◌, Option, Some, None, codes, if◌then◌else◌, ⊤}
+use Rattle.std.specs.Prelude.{ℕ, ℤ, ◌&&◌, pos, not, Bool, true, List, [], ◌∷◌, Option, Some, None, codes, if◌then◌else◌, ⊤}
 use Rattle.std.specs.List.{list_any}
 use Rattle.serde_json.specs.Data.{Data}
 use Rattle.serde_json.specs.Find.{as_str}
@@ -10,6 +10,10 @@ use Rattle.slate_databases.specs.Databases.{is_marker_of, tables_of, manifest_of
 use Rattle.slate_databases.specs.OpeningRecords.{first_record, named_outputs}
 use Rattle.slate_databases.specs.RecordFields.{record_item_in}
 use Rattle.slate_events.specs.declared.db_spec.DbSpec.{DbSpec}
+use Rattle.slate_model.specs.declared.checkpoint.Checkpoint.{Checkpoint}
+use Rattle.slate_tables.specs.declared.ss_table_info.SsTableInfo.{SsTableInfo}
+use Rattle.slate_records.specs.Records.{Record}
+use Rattle.slate_databases.specs.declared.record_items.RecordItem.{RecordItem}
 use Rattle.slate_databases.specs.declared.tree_items.L0Item.{L0Item}
 use Rattle.slate_databases.specs.declared.tree_items.RunItem.{RunItem}
 use Rattle.slate_databases.specs.declared.tree_items.MarkerItem.{MarkerItem}
@@ -76,6 +80,18 @@ opening_fields_in d = do
 abbrev pub database_fields : List (List ℕ)
 database_fields = codes "path" ∷ codes "modified" ∷ codes "initialized" ∷ codes "writer_epoch" ∷ codes "compactor_epoch" ∷ codes "floor" ∷ codes "replay_after" ∷ codes "next_wal" ∷ codes "extractor" ∷ codes "l0" ∷ codes "runs" ∷ codes "markers" ∷ codes "checkpoints" ∷ codes "record" ∷ []
 
+-- its first record, where it has one, and its tables
+unfoldable pub objects_of : TreeItems → Option RecordItem → Option (Option Record × List ((ℕ × ℕ) × SsTableInfo))
+objects_of items item = do
+  compactions ← first_record item
+  Some (compactions, tables_of items (named_outputs item))
+
+-- the database that these say
+unfoldable pub spec_of : List ℕ → ℤ → OpeningFields → TreeItems → List Checkpoint → Option RecordItem → Option DbSpec
+spec_of path modified fields items checkpoints item = do
+  objects ← objects_of items item
+  Some (record { path = path; manifest = manifest_of fields items checkpoints; compactions = objects.0; tables = objects.1; modified = modified })
+
 -- a database with exactly such fields
 unfoldable pub database_in : Data → Option DbSpec
 database_in d = do
@@ -86,5 +102,4 @@ database_in d = do
   items ← tree_items_in d
   checkpoints ← defaulted [] (list_in checkpoint_in) (codes "checkpoints") d
   item ← optional record_item_in (codes "record") d
-  compactions ← first_record item
-  Some (record { path = path; manifest = manifest_of fields items checkpoints; compactions = compactions; tables = tables_of items (named_outputs item); modified = modified })
+  spec_of path modified fields items checkpoints item

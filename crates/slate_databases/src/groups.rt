@@ -36,7 +36,8 @@ fn put_group(groups: &mut Groups, prefix: Bytes, group: TreeItems) -> Result<(),
     ensures { OnOk result ((q : List ℕ) → group_at groups.new q
         ≡ (if bytes_eq prefix q then group else group_at groups.old q)) }
 {
-    groups.insert(prefix, group)?;
+    let before = groups.insert(prefix, group)?;
+    drop(before);
     Ok(())
 }
 

@@ -59,8 +59,14 @@ fn spec_of(alloc: Global, item: &CompactionItem) -> Result<CompactionSpec, OutOf
     ensures { IfOk result
         (λ spec. spec ≡ records.aimed item.now.destination item.now.segment (records.item_sources item.now)) }
 {
-    let segment = item.segment.clone()?;
     let sources = sources_of(alloc, item)?;
+    let segment = match item.segment.clone() {
+        Ok(segment) => segment,
+        Err(e) => {
+            drop(sources);
+            return Err(OutOfMemory::from(e));
+        }
+    };
     match item.destination {
         None => Ok(CompactionSpec::DrainSegment { segment, sources }),
         Some(destination) => Ok(CompactionSpec::Tiered {
@@ -76,15 +82,20 @@ fn compaction_of(alloc: Global, item: &CompactionItem) -> Result<Compaction, Out
     ensures { IfOk result (λ compaction. compaction ≡ records.compaction_of item.now) }
 {
     let spec = spec_of(alloc, item)?;
-    let output_ssts = tables_of(alloc, item.outputs.as_slice())?;
-    Ok(Compaction {
-        id: item.id,
-        spec,
-        status: item.status,
-        worker: None,
-        output_ssts,
-        ctx: None,
-    })
+    match tables_of(alloc, item.outputs.as_slice()) {
+        Ok(output_ssts) => Ok(Compaction {
+            id: item.id,
+            spec,
+            status: item.status,
+            worker: None,
+            output_ssts,
+            ctx: None,
+        }),
+        Err(e) => {
+            drop(spec);
+            Err(e)
+        }
+    }
 }
 
 // Adds the compaction of an item. False where its id is there already.

@@ -11,6 +11,7 @@ use slate_ids::{Listed, OutOfMemory, Ulid};
 use slate_model::{SsTableHandle, SsTableId, SsTableInfo};
 use std::alloc::Global;
 use std::collections::BTreeSet;
+use std::mem;
 
 const FORMAT_VERSION: u16 = 1;
 
@@ -19,8 +20,8 @@ fn opening_info() -> SsTableInfo
     ensures { result ≡ databases.opening_info }
 {
     let mut info = SsTableInfo::default();
-    info.first_entry = Some(Bytes::from_static(b"a"));
-    info.last_entry = Some(Bytes::from_static(b"z"));
+    drop(mem::replace(&mut info.first_entry, Some(Bytes::from_static(b"a"))));
+    drop(mem::replace(&mut info.last_entry, Some(Bytes::from_static(b"z"))));
     info
 }
 

@@ -86,13 +86,18 @@ pub(crate) fn tree_of(
     ensures { IfOk result (λ tree. tree ≡ databases.tree_of prefix.now items.now) }
 {
     let views = views_in(alloc, prefix, items.l0.as_slice())?;
-    let compacted = runs_in(alloc, prefix, items.runs.as_slice())?;
-    Ok(LsmTreeState {
-        last_compacted_l0_sst_view_id: marker_in(prefix, items.markers.as_slice()),
-        last_compacted_l0_sst_id: None,
-        l0: Queue::from_vec(views),
-        compacted,
-    })
+    match runs_in(alloc, prefix, items.runs.as_slice()) {
+        Ok(compacted) => Ok(LsmTreeState {
+            last_compacted_l0_sst_view_id: marker_in(prefix, items.markers.as_slice()),
+            last_compacted_l0_sst_id: None,
+            l0: Queue::from_vec(views),
+            compacted,
+        }),
+        Err(e) => {
+            drop(views);
+            Err(e)
+        }
+    }
 }
 
 // The tree of a prefix, of the items that its group has.
@@ -111,8 +116,14 @@ fn segment_of(alloc: Global, groups: &Groups, prefix: &Bytes) -> Result<Segment,
     ensures { IfOk result
         (λ segment. segment ≡ databases.segment_of (group_at groups.now prefix.now) prefix.now) }
 {
-    let tree = tree_in(alloc, groups, prefix)?;
-    Ok(Segment::new(prefix.clone()?, tree))
+    let copied = prefix.clone()?;
+    match tree_in(alloc, groups, prefix) {
+        Ok(tree) => Ok(Segment::new(copied, tree)),
+        Err(e) => {
+            drop(copied);
+            Err(e)
+        }
+    }
 }
 
 // The segments of these prefixes.

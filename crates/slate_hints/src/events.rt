@@ -53,7 +53,10 @@ pub(crate) fn event_fault(
 // How many events an item stands for; none where it stands for nothing.
 fn count_of(alloc: Global, value: &Value) -> Result<u64, OutOfMemory> {
     match read_event(alloc, value) {
-        Ok(EventItem::Once(_)) => Ok(1),
+        Ok(EventItem::Once(event)) => {
+            drop(event);
+            Ok(1)
+        }
         Ok(EventItem::Steps { times, .. }) => Ok(times as u64),
         Err(JsonError::Malformed) => Ok(0),
         Err(JsonError::OutOfMemory) => Err(OutOfMemory),

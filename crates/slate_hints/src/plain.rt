@@ -34,7 +34,10 @@ pub(crate) enum Plain {
 // Whether a value was read.
 fn was_read<T: Drop>(read: Result<T, JsonError>) -> Result<bool, OutOfMemory> {
     match read {
-        Ok(_) => Ok(true),
+        Ok(value) => {
+            drop(value);
+            Ok(true)
+        }
         Err(JsonError::Malformed) => Ok(false),
         Err(JsonError::OutOfMemory) => Err(OutOfMemory),
     }

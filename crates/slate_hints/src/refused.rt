@@ -55,7 +55,9 @@ fn floor_fault(alloc: Global, spot: Spot, database: &Value) -> Result<Option<Hin
     match read_database(alloc, database) {
         Ok(read) => {
             let watermark = read.manifest.core.watermark();
-            if read.manifest.core.floor < watermark {
+            let floor = read.manifest.core.floor;
+            drop(read);
+            if floor < watermark {
                 Ok(Some(Hint::at(spot.at(Name::Floor), Fault::FloorBelow(watermark))))
             } else {
                 Ok(None)
@@ -136,7 +138,9 @@ fn databases_fault(
 /// What is wrong with a script whose databases begin no run, for this cause.
 pub fn cluster_hint(alloc: Global, bytes: &[u8], cause: ClusterCause) -> Option<Hint> {
     let script = value_of(alloc, bytes)?;
-    match databases_fault(alloc, cause, items_of(&script, Name::Databases)) {
+    let found = databases_fault(alloc, cause, items_of(&script, Name::Databases));
+    drop(script);
+    match found {
         Ok(hint) => hint,
         Err(_) => None,
     }

@@ -35,13 +35,20 @@ fn line_and_column(bytes: &[u8]) -> (usize, usize) {
 // Where a text is no JSON.
 fn text_fault(alloc: Global, text: &str) -> Option<Hint> {
     match Value::from_str(alloc, text) {
-        Ok(_) => None,
-        Err(e) if e.is_memory() => None,
-        Err(e) => Some(Hint::NoJson {
-            line: e.line(),
-            column: e.column(),
-            ends: e.is_eof(),
-        }),
+        Ok(value) => {
+            drop(value);
+            None
+        }
+        Err(e) => {
+            let ran_out = e.is_memory();
+            let (line, column, ends) = (e.line(), e.column(), e.is_eof());
+            drop(e);
+            if ran_out {
+                None
+            } else {
+                Some(Hint::NoJson { line, column, ends })
+            }
+        }
     }
 }
 
@@ -65,7 +72,10 @@ pub(crate) fn value_of(alloc: Global, bytes: &[u8]) -> Option<Value> {
     match str::from_utf8(bytes) {
         Ok(text) => match Value::from_str(alloc, text) {
             Ok(value) => Some(value),
-            Err(_) => None,
+            Err(e) => {
+                drop(e);
+                None
+            }
         },
         Err(_) => None,
     }
@@ -92,11 +102,9 @@ fn database_fault(alloc: Global, items: &[Value], place: u64) -> Result<Option<H
     for (i, item) in items.iter().enumerate() {
         if i as u64 == place {
             let spot = Spot::WHOLE.item(Name::Databases, i);
-            let found = whole_fault(alloc, spot, Object::Database, item)?;
-            return if found.is_some() {
-                Ok(found)
-            } else {
-                beside_fields(alloc, spot, item)
+            return match whole_fault(alloc, spot, Object::Database, item)? {
+                Some(hint) => Ok(Some(hint)),
+                None => beside_fields(alloc, spot, item),
             };
         }
     }
@@ -139,7 +147,9 @@ pub fn script_hint(alloc: Global, bytes: &[u8], place: ScriptPlace) -> Option<Hi
         return json_fault(alloc, bytes);
     }
     let script = value_of(alloc, bytes)?;
-    match fault_in(alloc, &script, place) {
+    let found = fault_in(alloc, &script, place);
+    drop(script);
+    match found {
         Ok(hint) => hint,
         Err(_) => None,
     }
@@ -148,7 +158,9 @@ pub fn script_hint(alloc: Global, bytes: &[u8], place: ScriptPlace) -> Option<Hi
 /// Where the event of a place, counted with times written out, stands in an input that is a script.
 pub fn event_spot(alloc: Global, bytes: &[u8], place: u64) -> Option<Spot> {
     let script = value_of(alloc, bytes)?;
-    match item_at(alloc, items_of(&script, Name::Events), place) {
+    let found = item_at(alloc, items_of(&script, Name::Events), place);
+    drop(script);
+    match found {
         Ok(Some(i)) => Some(Spot::WHOLE.item(Name::Events, i)),
         _ => None,
     }

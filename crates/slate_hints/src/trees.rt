@@ -68,9 +68,17 @@ fn note_view(
         Some(views) => views,
         None => BTreeMap::new(alloc),
     };
-    let other = views.insert(id, spot)?;
-    trees.insert(prefix, views)?;
-    Ok(other)
+    match views.insert(id, spot) {
+        Ok(other) => {
+            drop(trees.insert(prefix, views)?);
+            Ok(other)
+        }
+        Err(e) => {
+            drop(prefix);
+            drop(views);
+            Err(OutOfMemory::from(e))
+        }
+    }
 }
 
 /// A second view of one id in one tree.

@@ -12,6 +12,7 @@ use slate_protocol::{Facts, Kept, Party, State, Task, Uploads};
 use slate_steps::{Beginning, Onward, PartyStep, begin, is_due, step_party, take_held};
 use slate_store::{Mark, MemoryStore};
 use std::alloc::Global;
+use std::mem;
 
 /// A party that comes.
 pub(crate) fn newcomer(alloc: Global, number: u32, kind: PartyKind, db: DbPath) -> Party
@@ -52,11 +53,14 @@ fn at_beginning(call: Call, beginning: Beginning) -> Begun
             reply: None,
             held,
         },
-        Onward::Finish(reply) => Begun {
-            state: State::Resting,
-            reply: Some(reply),
-            held,
-        },
+        Onward::Finish(reply) => {
+            drop(call);
+            Begun {
+                state: State::Resting,
+                reply: Some(reply),
+                held,
+            }
+        }
     }
 }
 
@@ -69,7 +73,6 @@ pub(crate) fn start(alloc: Global, party: &Party, call: &Call) -> Result<Option<
             let copied = call.copy(alloc)?;
             match begin(alloc, &party.facts, call) {
                 Ok(beginning) => Ok(Some(at_beginning(copied, beginning))),
-                // One call drops the copy: dropped in place, each of its shapes would be a case of the proof.
                 Err(e) => {
                     drop(copied);
                     Err(e)
@@ -84,7 +87,7 @@ pub(crate) fn start(alloc: Global, party: &Party, call: &Call) -> Result<Option<
 fn set_state(party: &mut Party, state: State)
     ensures { party.new ≡ record { facts = party.old.facts; state = state } }
 {
-    party.state = state;
+    drop(mem::replace(&mut party.state, state));
 }
 
 /// Does a start to a party, as it was found to begin.

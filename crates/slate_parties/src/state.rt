@@ -107,8 +107,10 @@ impl ClusterState {
     {
         match (self.parties.get(&number), self.tallies.get(&db)) {
             (None, Some(_)) => {
-                self.parties
+                let before = self
+                    .parties
                     .insert(number, newcomer(alloc, number, kind, db))?;
+                drop(before);
                 Ok(Some(Entry::Opened { party: number }))
             }
             _ => Ok(None),
@@ -135,7 +137,6 @@ impl ClusterState {
         let begun = start(alloc, party, call)?;
         match carry(alloc, &mut self.carried, number, call) {
             Ok(()) => Ok(Some(take_start(number, party, begun))),
-            // One call drops the start: dropped in place, each of its shapes would be a case of the proof.
             Err(e) => {
                 drop(begun);
                 Err(e)

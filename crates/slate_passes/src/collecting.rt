@@ -92,7 +92,10 @@ pub(crate) fn after_advance(
     match phase.goes_on(answer) {
         Step::Again => (PassPhase::Advancing(phase, picked, counts), Step::Again),
         Step::Done(Ok(())) => deletes_next(picked, counts),
-        Step::Done(Err(e)) => refused(e),
+        Step::Done(Err(e)) => {
+            drop(picked);
+            refused(e)
+        }
     }
 }
 
@@ -103,6 +106,7 @@ pub(crate) fn after_delete(left: Objects, counts: PassCounts, answer: &StoreAnsw
     ensures memory { NeverOut result.1 }
 {
     if left.is_empty() {
+        drop(left);
         return refused(SlateDBError::StoreFault);
     }
     let mut rest = left;
@@ -110,6 +114,9 @@ pub(crate) fn after_delete(left: Objects, counts: PassCounts, answer: &StoreAnsw
     match answer {
         StoreAnswer::Deleted => deletes_next(rest, counts.one_deleted()),
         StoreAnswer::Fault => deletes_next(rest, counts.one_failed()),
-        _ => refused(SlateDBError::StoreFault),
+        _ => {
+            drop(rest);
+            refused(SlateDBError::StoreFault)
+        }
     }
 }

@@ -181,10 +181,20 @@ impl GcPhase {
             → FaultRose (S.told store.old) (S.told store.new) result }
     {
         match self.asks(alloc, logs.db, settings.pass) {
-            Ok(call) => match perform(alloc, store, &call, moment) {
-                Ok(answer) => self.goes_on(alloc, logs, filter, wal, settings, moment, &answer),
-                Err(_) => Step::Done(Err(SlateDBError::OutOfMemory)),
-            },
+            Ok(call) => {
+                let performed = perform(alloc, store, &call, moment);
+                drop(call);
+                match performed {
+                    Ok(answer) => {
+                        let step = self.goes_on(
+                            alloc, logs, filter, wal, settings, moment, &answer,
+                        );
+                        drop(answer);
+                        step
+                    }
+                    Err(_) => Step::Done(Err(SlateDBError::OutOfMemory)),
+                }
+            }
             Err(_) => Step::Done(Err(SlateDBError::OutOfMemory)),
         }
     }

@@ -42,7 +42,9 @@ fn old_records(
         None => Ok(Listed::new(alloc)),
         Some(n) => {
             let old = aged(alloc, min_age, now, found)?;
-            unneeded(alloc, LogKind::Compactions, n, &[], old.as_slice())
+            let kept = unneeded(alloc, LogKind::Compactions, n, &[], old.as_slice());
+            drop(old);
+            kept
         }
     }
 }
@@ -61,7 +63,9 @@ fn files<W: WalGc>(
         (wal_ranges heads.now.latest versions.now) found.now min_age now) }
 {
     let ranges = referenced_wal_ranges(alloc, heads.latest, versions.as_map())?;
-    wal_candidates(alloc, wal, ranges.as_slice(), found, min_age, now)
+    let candidates = wal_candidates(alloc, wal, ranges.as_slice(), found, min_age, now);
+    drop(ranges);
+    candidates
 }
 
 // The candidates of the pass over the empty files of the write-ahead log.
@@ -79,7 +83,9 @@ fn fences(
     let plain = PlainWalGc {
         mode: WalGcMode::Fence,
     };
-    Ok(Listed::from_vec(plain.picks(alloc, ranges.as_slice(), found, min_age, now)?))
+    let picked = plain.picks(alloc, ranges.as_slice(), found, min_age, now);
+    drop(ranges);
+    Ok(Listed::from_vec(picked?))
 }
 
 // The candidates of a pass that reads nothing after its list.
@@ -133,13 +139,15 @@ fn after_candidates<F: GcFilter, W: WalGc>(
     ensures memory { IfOk result (λ onward. NeverOut onward.1) }
 {
     let candidates = candidates(alloc, wal, settings, now, heads, versions, found)?;
-    chosen(
+    let onward = chosen(
         alloc,
         filter,
         settings,
         found.len() as u64,
         candidates.as_slice(),
-    )
+    );
+    drop(candidates);
+    onward
 }
 
 // The greatest of the listed manifests is to be got, where there is one.
@@ -157,9 +165,15 @@ fn after_manifests(
     ensures memory { WhereOut result.1 (result.0 ≡ phases.Listing heads versions) }
 {
     match greatest(LogKind::Manifest, found) {
-        None => refused(SlateDBError::LatestTransactionalObjectVersionMissing),
+        None => {
+            drop(versions);
+            refused(SlateDBError::LatestTransactionalObjectVersionMissing)
+        }
         Some(n) => match aged(alloc, min_age, now, found) {
-            Ok(old) => (PassPhase::Getting(n, found.len() as u64, old), Step::Again),
+            Ok(old) => {
+                drop(versions);
+                (PassPhase::Getting(n, found.len() as u64, old), Step::Again)
+            }
             Err(_) => (
                 PassPhase::Listing(heads, versions),
                 Step::Done(Err(SlateDBError::OutOfMemory)),
@@ -189,7 +203,10 @@ fn after_found<F: GcFilter, W: WalGc>(
         return after_manifests(alloc, settings.options.min_age, now, heads, versions, found);
     }
     match after_candidates(alloc, filter, wal, settings, now, &heads, &versions, found) {
-        Ok(onward) => onward,
+        Ok(onward) => {
+            drop(versions);
+            onward
+        }
         Err(_) => (
             PassPhase::Listing(heads, versions),
             Step::Done(Err(SlateDBError::OutOfMemory)),
@@ -225,6 +242,9 @@ pub(crate) fn after_list<F: GcFilter, W: WalGc>(
             versions,
             found.as_slice(),
         ),
-        _ => refused(SlateDBError::StoreFault),
+        _ => {
+            drop(versions);
+            refused(SlateDBError::StoreFault)
+        }
     }
 }

@@ -32,7 +32,10 @@ fn after_manifest(
 {
     let checkpoints = manifest.core.checkpoints.as_slice();
     match unneeded(alloc, LogKind::Manifest, n, checkpoints, found.as_slice()) {
-        Ok(candidates) => (PassPhase::Bounding(n, listed, candidates), Step::Again),
+        Ok(candidates) => {
+            drop(found);
+            (PassPhase::Bounding(n, listed, candidates), Step::Again)
+        }
         Err(_) => (
             PassPhase::Getting(n, listed, found),
             Step::Done(Err(SlateDBError::OutOfMemory)),
@@ -55,11 +58,16 @@ fn after_bytes<C: ObjectCodec<Manifest>>(
     ensures memory { WhereOut result.1 (result.0 ≡ phases.Getting n listed found) }
 {
     match codec.decode(alloc, bytes) {
-        Ok(manifest) => after_manifest(alloc, n, listed, found, &manifest),
+        Ok(manifest) => {
+            let onward = after_manifest(alloc, n, listed, found, &manifest);
+            drop(manifest);
+            onward
+        }
         Err(e) => {
             if e.is_memory() {
                 (PassPhase::Getting(n, listed, found), Step::Done(Err(e)))
             } else {
+                drop(found);
                 refused(e)
             }
         }
@@ -81,11 +89,17 @@ pub(crate) fn after_get<C: ObjectCodec<Manifest>>(
     ensures memory { WhereOut result.1 (result.0 ≡ phases.Getting n listed found) }
 {
     match answer {
-        StoreAnswer::Got(None) => refused(SlateDBError::ManifestMissing(n)),
+        StoreAnswer::Got(None) => {
+            drop(found);
+            refused(SlateDBError::ManifestMissing(n))
+        }
         StoreAnswer::Got(Some(object)) => {
             after_bytes(alloc, codec, n, listed, found, object.bytes.as_slice())
         }
-        _ => refused(SlateDBError::StoreFault),
+        _ => {
+            drop(found);
+            refused(SlateDBError::StoreFault)
+        }
     }
 }
 
@@ -104,7 +118,10 @@ fn after_bounded<F: GcFilter>(
     ensures memory { WhereOut result.1 (result.0 ≡ phases.Bounding n listed candidates) }
 {
     match chosen(alloc, filter, settings, listed, candidates.as_slice()) {
-        Ok(onward) => onward,
+        Ok(onward) => {
+            drop(candidates);
+            onward
+        }
         Err(_) => (
             PassPhase::Bounding(n, listed, candidates),
             Step::Done(Err(SlateDBError::OutOfMemory)),
@@ -128,9 +145,13 @@ fn after_boundary<F: GcFilter>(
     ensures memory { WhereOut result.1 (result.0 ≡ phases.Bounding n listed candidates) }
 {
     match boundary_in(object) {
-        None => refused(SlateDBError::Corrupt(FormatName::Boundary)),
+        None => {
+            drop(candidates);
+            refused(SlateDBError::Corrupt(FormatName::Boundary))
+        }
         Some(boundary) => {
             if n <= boundary {
+                drop(candidates);
                 refused(SlateDBError::ManifestMissing(n))
             } else {
                 after_bounded(alloc, filter, settings, n, listed, candidates)
@@ -158,6 +179,9 @@ pub(crate) fn after_bound<F: GcFilter>(
         StoreAnswer::Got(object) => {
             after_boundary(alloc, filter, settings, n, listed, candidates, object)
         }
-        _ => refused(SlateDBError::StoreFault),
+        _ => {
+            drop(candidates);
+            refused(SlateDBError::StoreFault)
+        }
     }
 }

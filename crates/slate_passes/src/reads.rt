@@ -37,18 +37,23 @@ pub(crate) fn after_record_read<C, R: ObjectCodec<Compactions>>(
     let mut phase = phase;
     match phase.goes_on(alloc, &records, answer) {
         Step::Again => (PassPhase::ReadingRecord(phase), Step::Again),
-        Step::Done(Ok(None)) => (
-            PassPhase::ReadingManifest(0, ReadPhase::Listing),
-            Step::Again,
-        ),
-        Step::Done(Ok(Some((_, record)))) => (
-            PassPhase::ReadingManifest(least_ms(&record), ReadPhase::Listing),
-            Step::Again,
-        ),
+        Step::Done(Ok(None)) => {
+            drop(phase);
+            let next = PassPhase::ReadingManifest(0, ReadPhase::Listing);
+            (next, Step::Again)
+        }
+        Step::Done(Ok(Some((_, record)))) => {
+            drop(phase);
+            let least = least_ms(&record);
+            drop(record);
+            let next = PassPhase::ReadingManifest(least, ReadPhase::Listing);
+            (next, Step::Again)
+        }
         Step::Done(Err(e)) => {
             if e.is_memory() {
                 (PassPhase::ReadingRecord(phase), Step::Done(Err(e)))
             } else {
+                drop(phase);
                 refused(e)
             }
         }
@@ -65,8 +70,14 @@ fn after_fetched(heads: Heads, phase: ReferencedPhase, step: Step<ManifestMap>) 
 {
     match step {
         Step::Again => (PassPhase::Fetching(heads, phase), Step::Again),
-        Step::Done(Ok(versions)) => (PassPhase::Listing(heads, versions), Step::Again),
-        Step::Done(Err(e)) => refused(e),
+        Step::Done(Ok(versions)) => {
+            drop(phase);
+            (PassPhase::Listing(heads, versions), Step::Again)
+        }
+        Step::Done(Err(e)) => {
+            drop(phase);
+            refused(e)
+        }
     }
 }
 
@@ -79,7 +90,11 @@ fn after_manifest(alloc: Global, least: u64, n: u64, value: Manifest) -> Onward
     ensures memory { WhereOut result.1 (result.0 ≡ phases.ReadingManifest least (reading.Bounding n value)) }
 {
     match ReferencedPhase::begin(alloc, n, &value) {
-        Ok((phase, step)) => after_fetched(Heads::at(least, n, &value), phase, step),
+        Ok((phase, step)) => {
+            let heads = Heads::at(least, n, &value);
+            drop(value);
+            after_fetched(heads, phase, step)
+        }
         Err(_) => (
             PassPhase::ReadingManifest(least, ReadPhase::Bounding(n, value)),
             Step::Done(Err(SlateDBError::OutOfMemory)),
@@ -104,12 +119,19 @@ pub(crate) fn after_manifest_read<C: ObjectCodec<Manifest>, R>(
     let mut phase = phase;
     match phase.goes_on(alloc, &manifests, answer) {
         Step::Again => (PassPhase::ReadingManifest(least, phase), Step::Again),
-        Step::Done(Ok(None)) => refused(SlateDBError::LatestTransactionalObjectVersionMissing),
-        Step::Done(Ok(Some((n, value)))) => after_manifest(alloc, least, n, value),
+        Step::Done(Ok(None)) => {
+            drop(phase);
+            refused(SlateDBError::LatestTransactionalObjectVersionMissing)
+        }
+        Step::Done(Ok(Some((n, value)))) => {
+            drop(phase);
+            after_manifest(alloc, least, n, value)
+        }
         Step::Done(Err(e)) => {
             if e.is_memory() {
                 (PassPhase::ReadingManifest(least, phase), Step::Done(Err(e)))
             } else {
+                drop(phase);
                 refused(e)
             }
         }
@@ -130,17 +152,22 @@ pub(crate) fn after_fetch<C: ObjectCodec<Manifest>, R>(
     ensures memory { WhereOut result.1 (result.0 ≡ phases.Fetching heads phase) }
 {
     if !phase.due() {
+        drop(phase);
         return refused(SlateDBError::StoreFault);
     }
     let manifests = logs.manifest_log();
     let mut phase = phase;
     match phase.goes_on(alloc, &manifests, answer) {
         Step::Again => (PassPhase::Fetching(heads, phase), Step::Again),
-        Step::Done(Ok(versions)) => (PassPhase::Listing(heads, versions), Step::Again),
+        Step::Done(Ok(versions)) => {
+            drop(phase);
+            (PassPhase::Listing(heads, versions), Step::Again)
+        }
         Step::Done(Err(e)) => {
             if e.is_memory() {
                 (PassPhase::Fetching(heads, phase), Step::Done(Err(e)))
             } else {
+                drop(phase);
                 refused(e)
             }
         }

@@ -41,16 +41,21 @@ fn after_version<C: ObjectCodec<Manifest>>(
     ensures memory { WhereOut result.1 (result.0 ≡ passes.Reading (reading.Bounding n value)) }
 {
     match ManifestChange::DropExpired.commit(alloc, codec, now, n, &value) {
-        Ok(Some(commit)) => (GcPhase::Committing(now, commit), Step::Again),
-        Ok(None) => (
-            GcPhase::Collecting(None, PassPhase::first(alloc, pass)),
-            Step::Again,
-        ),
+        Ok(Some(commit)) => {
+            drop(value);
+            (GcPhase::Committing(now, commit), Step::Again)
+        }
+        Ok(None) => {
+            drop(value);
+            let phase = GcPhase::Collecting(None, PassPhase::first(alloc, pass));
+            (phase, Step::Again)
+        }
         Err(e) => {
             if e.is_memory() {
                 let phase = ReadPhase::Bounding(n, value);
                 (GcPhase::Reading(phase), Step::Done(Err(e)))
             } else {
+                drop(value);
                 (GcPhase::Reading(ReadPhase::Over), Step::Done(Err(e)))
             }
         }
@@ -81,6 +86,7 @@ pub(crate) fn after_read<C: ObjectCodec<Manifest>, R>(
             (GcPhase::Reading(phase), Step::Done(Err(missing)))
         }
         Step::Done(Ok(Some((n, value)))) => {
+            drop(phase);
             after_version(alloc, &logs.manifests, pass, now, n, value)
         }
         Step::Done(Err(e)) => (GcPhase::Reading(phase), Step::Done(Err(e))),
@@ -102,10 +108,12 @@ pub(crate) fn after_commit(
     let mut phase = phase;
     match phase.goes_on(answer) {
         Step::Again => (GcPhase::Committing(made, phase), Step::Again),
-        Step::Done(Ok(_)) => (
-            GcPhase::Collecting(None, PassPhase::first(alloc, pass)),
-            Step::Again,
-        ),
+        Step::Done(Ok(committed)) => {
+            drop(committed);
+            drop(phase);
+            let next = GcPhase::Collecting(None, PassPhase::first(alloc, pass));
+            (next, Step::Again)
+        }
         Step::Done(Err(e)) => (GcPhase::Committing(made, phase), Step::Done(Err(e))),
     }
 }

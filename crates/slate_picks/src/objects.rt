@@ -53,7 +53,7 @@ impl Objects {
     pub fn drop_first(&mut self)
         ensures { self.new ≡ drop 1 self.old }
     {
-        self.objects.pop_front();
+        drop(self.objects.pop_front());
     }
 
     /// How many objects there are.

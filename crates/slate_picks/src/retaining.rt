@@ -33,9 +33,12 @@ fn retained(
     let set = set_of(alloc, returned)?;
     let mut objects = Listed::new(alloc);
     for object in candidates {
-        let keeps = set.contains(&ObjectKey::of(alloc, object)?);
+        let key = ObjectKey::of(alloc, object)?;
+        let keeps = set.contains(&key);
+        drop(key);
         push_if(alloc, keeps, &mut objects, object)?;
     }
+    drop(set);
     Ok(objects)
 }
 
@@ -49,7 +52,9 @@ pub(crate) fn asked<F: GcFilter>(
         ≡ filters.retained (F.returns filter.now candidates.now) candidates.now) }
 {
     let returned = filter.filter(alloc, candidates)?;
-    retained(alloc, returned.as_slice(), candidates)
+    let kept = retained(alloc, returned.as_slice(), candidates);
+    drop(returned);
+    kept
 }
 
 /// The candidates that the filter returned, in their order; all of them without a filter. What the filter returned that is no candidate
@@ -64,6 +69,10 @@ pub fn retain_allowed_by_gc_filter<F: GcFilter>(
 {
     match filter {
         None => Ok(candidates),
-        Some(filter) => Ok(asked(alloc, filter, candidates.as_slice())?.into_vec()),
+        Some(filter) => {
+            let kept = asked(alloc, filter, candidates.as_slice());
+            drop(candidates);
+            Ok(kept?.into_vec())
+        }
     }
 }

@@ -86,5 +86,6 @@ pub fn unused_tables(
         let keeps = may_go(min_age, now, least, watermark, &used, object);
         push_if(alloc, keeps, &mut objects, object)?;
     }
+    drop(used);
     Ok(objects)
 }

@@ -42,5 +42,6 @@ pub fn unneeded(
         let keeps = may_go(log, greatest, &named, object);
         push_if(alloc, keeps, &mut objects, object)?;
     }
+    drop(named);
     Ok(objects)
 }

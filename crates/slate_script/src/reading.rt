@@ -58,6 +58,7 @@ fn event_item(alloc: Global, i: u64, value: &Value) -> Result<EventItem, ScriptE
         EventItem::Steps { times, .. } => *times as u64,
     };
     if i + count > EVENT_LIMIT {
+        drop(item);
         return Err(ScriptError::BadScript(ScriptPlace::Event(EVENT_LIMIT)));
     }
     Ok(item)
@@ -110,8 +111,13 @@ fn script(alloc: Global, d: &Value) -> Result<Script, ScriptError>
         return Err(ScriptError::BadScript(ScriptPlace::Top));
     };
     let databases = databases(alloc, database_values)?;
-    let events = events(alloc, event_values)?;
-    Ok(Script { databases, events })
+    match events(alloc, event_values) {
+        Ok(events) => Ok(Script { databases, events }),
+        Err(e) => {
+            drop(databases);
+            Err(e)
+        }
+    }
 }
 
 // The JSON value of the text.
@@ -121,11 +127,15 @@ fn json_text(alloc: Global, text: &str) -> Result<Value, JsonError>
 {
     match Value::from_str(alloc, text) {
         Ok(value) => Ok(value),
-        Err(e) => if e.is_memory() {
-            Err(JsonError::OutOfMemory)
-        } else {
-            Err(JsonError::Malformed)
-        },
+        Err(e) => {
+            let ran_out = e.is_memory();
+            drop(e);
+            if ran_out {
+                Err(JsonError::OutOfMemory)
+            } else {
+                Err(JsonError::Malformed)
+            }
+        }
     }
 }
 
@@ -150,5 +160,7 @@ pub fn read_script(alloc: Global, bytes: &[u8]) -> Result<Script, ScriptError>
         Err(JsonError::Malformed) => return Err(ScriptError::BadScript(ScriptPlace::Json)),
         Err(JsonError::OutOfMemory) => return Err(ScriptError::OutOfMemory),
     };
-    script(alloc, &value)
+    let read = script(alloc, &value);
+    drop(value);
+    read
 }

@@ -22,6 +22,7 @@ use slate_model::{Plain, SsTableInfo};
 use slate_passes::{GarbageCollectorDirectoryOptions, GcPhase, PassSettings};
 use slate_protocol::{Facts, Purpose, Upload, Uploads, Work};
 use std::alloc::Global;
+use std::mem;
 
 /// How a call goes on.
 #[derive(Debug, Drop)]
@@ -291,6 +292,6 @@ pub fn take_held(facts: &mut Facts, held: Option<LocalState>)
     ensures { facts.new ≡ with_held held facts.old }
 {
     if let Some(local) = held {
-        facts.local = Some(local);
+        drop(mem::replace(&mut facts.local, Some(local)));
     }
 }

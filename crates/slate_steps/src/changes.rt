@@ -118,11 +118,20 @@ fn trees_change(
 {
     match local {
         None => Ok(None),
-        Some(local) => Ok(Some(PartyChange::OfCompactor(CompactorChange::MergeTrees {
-            compactor: epoch,
-            trees: Plain::clone(&local.trees, alloc)?,
-            outputs: local.pending_outputs(alloc)?,
-        }))),
+        Some(local) => {
+            let trees = Plain::clone(&local.trees, alloc)?;
+            match local.pending_outputs(alloc) {
+                Ok(outputs) => Ok(Some(PartyChange::OfCompactor(CompactorChange::MergeTrees {
+                    compactor: epoch,
+                    trees,
+                    outputs,
+                }))),
+                Err(e) => {
+                    drop(trees);
+                    Err(e)
+                }
+            }
+        }
     }
 }
 

@@ -71,7 +71,10 @@ fn end_refresh(alloc: Global, facts: &Facts, manifest: &Manifest) -> Result<Onwa
         ≡ calls.Finish (calls.refresh_reply (calls.refresh_of facts.now manifest.now))) }
 {
     match refresh_of(alloc, facts, manifest) {
-        Ok(_) => Ok(Onward::Finish(Reply::Done)),
+        Ok(local) => {
+            drop(local);
+            Ok(Onward::Finish(Reply::Done))
+        }
         Err(e) => Ok(Onward::Finish(refuse(e)?)),
     }
 }

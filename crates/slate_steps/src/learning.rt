@@ -12,11 +12,12 @@ ghost use Rattle.slate_steps.specs.WorkSteps.{is_table_put, can_rewind};
 use crate::followings::refresh_of;
 use slate_compactor::{LocalState, LocalTrees};
 use slate_events::Call;
-use slate_ids::{Listed, OutOfMemory};
+use slate_ids::{Listed, OutOfMemory, clone_both};
 use slate_layout::{normal_form_compactions, normal_form_manifest};
-use slate_model::{Compactions, Manifest, Plain};
+use slate_model::{Compactions, Manifest, ManifestCore, Plain};
 use slate_protocol::{Ended, Facts, Kept, Purpose};
 use std::alloc::Global;
+use std::mem;
 
 /// What is known of a party otherwise than before.
 #[derive(Debug, Drop)]
@@ -38,11 +39,37 @@ pub enum Lesson {
 fn copy_of(alloc: Global, local: &LocalState) -> Result<LocalState, OutOfMemory>
     ensures { IfOk result (λ copied. copied ≡ local.now) }
 {
-    Ok(LocalState {
-        trees: Plain::clone(&local.trees, alloc)?,
-        compactions: Plain::clone(&local.compactions, alloc)?,
-        pending: local.pending.copy(alloc)?,
-    })
+    let (trees, compactions) = clone_both(alloc, &local.trees, &local.compactions)?;
+    match local.pending.copy(alloc) {
+        Ok(pending) => Ok(LocalState {
+            trees,
+            compactions,
+            pending,
+        }),
+        Err(e) => {
+            drop(trees);
+            drop(compactions);
+            Err(e)
+        }
+    }
+}
+
+// What a compactor holds after the commit of a manifest of this core with its trees.
+fn after_manifest(
+    alloc: Global,
+    local: &LocalState,
+    core: &ManifestCore,
+) -> Result<LocalState, OutOfMemory>
+    ensures { IfOk result (λ held. held ≡ manifest_committed core.now local.now) }
+{
+    let mut held = copy_of(alloc, local)?;
+    match held.take_manifest(alloc, core) {
+        Ok(()) => Ok(held),
+        Err(e) => {
+            drop(held);
+            Err(e)
+        }
+    }
 }
 
 // What a compactor holds after the commit of a manifest with its trees.
@@ -54,9 +81,27 @@ fn with_manifest(alloc: Global, facts: &Facts, manifest: &Manifest) -> Result<Le
         None => Ok(Lesson::Nothing),
         Some(local) => {
             let committed = normal_form_manifest(alloc, manifest)?;
-            let mut held = copy_of(alloc, local)?;
-            held.take_manifest(alloc, &committed.core)?;
-            Ok(Lesson::Holds(held))
+            let held = after_manifest(alloc, local, &committed.core);
+            drop(committed);
+            Ok(Lesson::Holds(held?))
+        }
+    }
+}
+
+// What a compactor holds after the commit of a record of a schedule.
+fn after_schedule(
+    alloc: Global,
+    local: &LocalState,
+    committed: &Compactions,
+) -> Result<LocalState, OutOfMemory>
+    ensures { IfOk result (λ held. held ≡ scheduled committed.now local.now) }
+{
+    let mut held = copy_of(alloc, local)?;
+    match held.take_scheduled(alloc, committed) {
+        Ok(()) => Ok(held),
+        Err(e) => {
+            drop(held);
+            Err(e)
         }
     }
 }
@@ -74,9 +119,9 @@ fn with_scheduled(
         None => Ok(Lesson::Nothing),
         Some(local) => {
             let committed = normal_form_compactions(alloc, compactions)?;
-            let mut held = copy_of(alloc, local)?;
-            held.take_scheduled(alloc, &committed)?;
-            Ok(Lesson::Holds(held))
+            let held = after_schedule(alloc, local, &committed);
+            drop(committed);
+            Ok(Lesson::Holds(held?))
         }
     }
 }
@@ -93,10 +138,17 @@ fn with_record(
     match &facts.local {
         None => Ok(Lesson::Nothing),
         Some(local) => {
-            let committed = normal_form_compactions(alloc, compactions)?;
             let mut held = copy_of(alloc, local)?;
-            held.take_record(committed);
-            Ok(Lesson::Holds(held))
+            match normal_form_compactions(alloc, compactions) {
+                Ok(committed) => {
+                    held.take_record(committed);
+                    Ok(Lesson::Holds(held))
+                }
+                Err(e) => {
+                    drop(held);
+                    Err(e)
+                }
+            }
         }
     }
 }
@@ -111,14 +163,24 @@ fn with_opened(
         ≡ calls.with_opened facts.now.kept (normal_record compactions.now) facts.now) }
 {
     match &facts.kept {
-        Kept::Raised(epoch, trees) => Ok(Lesson::Opened(
-            *epoch,
-            LocalState {
-                trees: Plain::clone(trees, alloc)?,
-                compactions: normal_form_compactions(alloc, compactions)?,
-                pending: Listed::new(alloc),
-            },
-        )),
+        Kept::Raised(epoch, trees) => {
+            let trees = Plain::clone(trees, alloc)?;
+            match normal_form_compactions(alloc, compactions) {
+                Ok(compactions) => {
+                    let pending = Listed::new(alloc);
+                    let local = LocalState {
+                        trees,
+                        compactions,
+                        pending,
+                    };
+                    Ok(Lesson::Opened(*epoch, local))
+                }
+                Err(e) => {
+                    drop(trees);
+                    Err(e)
+                }
+            }
+        }
         Kept::Nothing | Kept::Followed(_) => Ok(Lesson::Nothing),
     }
 }
@@ -132,7 +194,9 @@ fn with_refreshed(alloc: Global, facts: &Facts, manifest: &Manifest) -> Result<L
         Ok(Some(local)) => Ok(Lesson::Refreshed(local)),
         Ok(None) => Ok(Lesson::Nothing),
         Err(e) => {
-            if e.is_memory() {
+            let ran_out = e.is_memory();
+            drop(e);
+            if ran_out {
                 Err(OutOfMemory)
             } else {
                 Ok(Lesson::Nothing)
@@ -147,8 +211,9 @@ fn with_raised(alloc: Global, manifest: &Manifest) -> Result<Lesson, OutOfMemory
         ≡ calls.facts_committed_once facts raised.OpenCompactor manifest.now) }
 {
     let committed = normal_form_manifest(alloc, manifest)?;
-    let trees = LocalTrees::of(alloc, &committed.core)?;
-    Ok(Lesson::Keeps(Kept::Raised(manifest.compactor_epoch, trees)))
+    let trees = LocalTrees::of(alloc, &committed.core);
+    drop(committed);
+    Ok(Lesson::Keeps(Kept::Raised(manifest.compactor_epoch, trees?)))
 }
 
 // What the read of a manifest tells.
@@ -272,16 +337,16 @@ pub(crate) fn learn(facts: &mut Facts, lesson: Lesson)
     match lesson {
         Lesson::Nothing => {}
         Lesson::Epoch(epoch) => facts.epoch = Some(epoch),
-        Lesson::Keeps(kept) => facts.kept = kept,
-        Lesson::Holds(local) => facts.local = Some(local),
+        Lesson::Keeps(kept) => drop(mem::replace(&mut facts.kept, kept)),
+        Lesson::Holds(local) => drop(mem::replace(&mut facts.local, Some(local))),
         Lesson::Refreshed(local) => {
-            facts.kept = Kept::Nothing;
-            facts.local = Some(local);
+            drop(mem::replace(&mut facts.kept, Kept::Nothing));
+            drop(mem::replace(&mut facts.local, Some(local)));
         }
         Lesson::Opened(epoch, local) => {
             facts.epoch = Some(epoch);
-            facts.kept = Kept::Nothing;
-            facts.local = Some(local);
+            drop(mem::replace(&mut facts.kept, Kept::Nothing));
+            drop(mem::replace(&mut facts.local, Some(local)));
         }
     }
 }

@@ -26,6 +26,7 @@ use slate_model::{Compactions, Manifest};
 use slate_protocol::{Ended, Facts, Purpose, Task, Work};
 use slate_store::{Step, StoreAnswer};
 use std::alloc::Global;
+use std::mem;
 
 // ---- manifests
 
@@ -125,7 +126,9 @@ fn after_commit(
         None => done(alloc, facts, call, purpose, manifest),
         Some(next) => {
             let committed = normal_form_manifest(alloc, manifest)?;
-            last_next(alloc, facts, call, next, now, db, n, &committed)
+            let next = last_next(alloc, facts, call, next, now, db, n, &committed);
+            drop(committed);
+            next
         }
     }
 }
@@ -279,10 +282,14 @@ fn sequel_of(
     ensures lesson { IfOk result (λ o. taught o.lesson facts.now ≡ calls.facts_after facts.now call.now ended.now) }
     ensures err { OnErr result (can_rewind ended.now ≡ true) }
 {
-    Ok(Sequel {
-        next: after(alloc, facts, call, now, ended)?,
-        lesson: lesson_of(alloc, facts, call, ended)?,
-    })
+    let next = after(alloc, facts, call, now, ended)?;
+    match lesson_of(alloc, facts, call, ended) {
+        Ok(lesson) => Ok(Sequel { next, lesson }),
+        Err(e) => {
+            drop(next);
+            Err(e)
+        }
+    }
 }
 
 // The call goes on with its next work, or ends with the reply.
@@ -292,7 +299,7 @@ fn go_on(task: &mut Task, next: Onward) -> Option<Reply>
 {
     match next {
         Onward::Go(work) => {
-            task.work = work;
+            drop(mem::replace(&mut task.work, work));
             None
         }
         Onward::Finish(reply) => Some(reply),
@@ -312,6 +319,7 @@ fn end_phrase(
 {
     match sequel_of(alloc, facts, &task.call, now, &ended) {
         Ok(sequel) => {
+            drop(ended);
             learn(facts, sequel.lesson);
             Ok(go_on(task, sequel.next))
         }

@@ -83,6 +83,7 @@ fn put_table(
         }
         Err(e) => {
             facts.uploads.take_back(&upload.table, before);
+            drop(call);
             Err(e)
         }
     }

@@ -17,6 +17,7 @@ use slate_picks::PlainWalGc;
 use slate_protocol::{Ended, Purpose, Work};
 use slate_store::{Step, StoreAnswer, StoreCall};
 use std::alloc::Global;
+use std::mem;
 
 // The log of manifests of a database.
 fn manifests(db: DbPath) -> Sequenced<Manifest, ManifestCodec>
@@ -249,7 +250,9 @@ fn read_again(work: &mut Work, n: u64, value: Manifest)
     ensures { work.new ≡ rewinding.read_again n value work.old }
 {
     if let Work::ReadManifest(_, _, phase) = work {
-        *phase = ReadPhase::Bounding(n, value);
+        drop(mem::replace(phase, ReadPhase::Bounding(n, value)));
+    } else {
+        drop(value);
     }
 }
 
@@ -258,7 +261,9 @@ fn commit_again(work: &mut Work, n: u64, value: Manifest)
     ensures { work.new ≡ rewinding.commit_again n value work.old }
 {
     if let Work::CommitManifest(_, _, _, phase) = work {
-        *phase = CommitPhase::Bounding(n, value);
+        drop(mem::replace(phase, CommitPhase::Bounding(n, value)));
+    } else {
+        drop(value);
     }
 }
 
@@ -267,7 +272,9 @@ fn record_read_again(work: &mut Work, n: u64, value: Compactions)
     ensures { work.new ≡ rewinding.record_read_again n value work.old }
 {
     if let Work::ReadRecord(_, _, phase) = work {
-        *phase = ReadPhase::Bounding(n, value);
+        drop(mem::replace(phase, ReadPhase::Bounding(n, value)));
+    } else {
+        drop(value);
     }
 }
 
@@ -276,7 +283,7 @@ fn record_list_again(work: &mut Work)
     ensures { work.new ≡ rewinding.record_list_again work.old }
 {
     if let Work::ReadRecord(_, _, phase) = work {
-        *phase = ReadPhase::Listing;
+        drop(mem::replace(phase, ReadPhase::Listing));
     }
 }
 
@@ -285,7 +292,9 @@ fn record_commit_again(work: &mut Work, n: u64, value: Compactions)
     ensures { work.new ≡ rewinding.record_commit_again n value work.old }
 {
     if let Work::CommitRecord(_, _, _, phase) = work {
-        *phase = CommitPhase::Bounding(n, value);
+        drop(mem::replace(phase, CommitPhase::Bounding(n, value)));
+    } else {
+        drop(value);
     }
 }
 

@@ -11,7 +11,7 @@ pub returns-in-Ok-clause-goes : goal.returns-in-Ok-clause-goes
 returns-in-Ok-clause-goes c =
     let fetched = c.after_fetched.ensures.goes _ c.in-Ok.ensures.goes in
     let first = rest_goes (named_numbers c.args.n c.args.value.core.checkpoints) ((c.args.n, c.args.value) ∷ []) in
-    goes_on _ _ _ _ (subst (λ (heads : Heads). GoesOnAlways (fetched_goes heads first) c.after_fetched.result.0 c.after_fetched.result.1) c.at.ensures fetched)
+    goes_on _ _ _ _ (subst (λ (heads : Heads). GoesOnAlways (fetched_goes heads first) c.after_fetched.result.0 c.after_fetched.result.1) c.at-heads.ensures fetched)
 
 pub returns-in-Ok-clause-due : goal.returns-in-Ok-clause-due
 returns-in-Ok-clause-due c = c.after_fetched.ensures.due c.in-Ok.ensures.more

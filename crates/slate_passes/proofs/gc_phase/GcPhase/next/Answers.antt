@@ -9,20 +9,20 @@ use Rattle.slate_picks.specs.WalPicks.{wal_candidates}
 use Rattle.std.specs.Option.{option_copied}
 use Rattle.slate_passes.proofs.gc_phase.GcPhase.next.Goals as goal
 
-pub returns-in-Ok-perform-clause-steps : goal.returns-in-Ok-perform-clause-steps
-returns-in-Ok-perform-clause-steps g c =
-    let calls = rw (to_z-of_z w64 c.args.moment c.ranges.moment) at c.in-Ok-perform.ensures in
-    let goes = rw (to_z-of_z w64 c.args.moment c.ranges.moment) at c.goes_on.ensures.goes in
-    steps_where _ _ _ _ _ c.in-Ok.ensures calls c.goes_on.result goes (where_reads c.args.logs.now.db c.args.settings.now.pass c.args.self.now c.goes_on.result c.goes_on.ensures.writes)
+pub returns-in-Ok-performed-clause-steps : goal.returns-in-Ok-performed-clause-steps
+returns-in-Ok-performed-clause-steps g c =
+    let calls = rw (to_z-of_z w64 c.args.moment c.ranges.moment) at c.in-Ok-performed.ensures in
+    let goes = rw (to_z-of_z w64 c.args.moment c.ranges.moment) at c.goes_on-step.ensures.goes in
+    steps_where _ _ _ _ _ c.in-Ok.ensures calls c.goes_on-step.result goes (where_reads c.args.logs.now.db c.args.settings.now.pass c.args.self.now c.goes_on-step.result c.goes_on-step.ensures.writes)
 
-pub returns-in-Ok-perform-clause-memory : goal.returns-in-Ok-perform-clause-memory
-returns-in-Ok-perform-clause-memory g c = wrote_nothing _ _ c.args.logs.now.db c.args.settings.now.pass c.args.self.now c.goes_on.result c.goes_on.ensures.writes
+pub returns-in-Ok-performed-clause-memory : goal.returns-in-Ok-performed-clause-memory
+returns-in-Ok-performed-clause-memory g c = wrote_nothing _ _ c.args.logs.now.db c.args.settings.now.pass c.args.self.now c.goes_on-step.result c.goes_on-step.ensures.writes
 
-pub returns-in-Ok-perform-clause-fault : goal.returns-in-Ok-perform-clause-fault
-returns-in-Ok-perform-clause-fault g c = λ free. λ well. λ sound.
+pub returns-in-Ok-performed-clause-fault : goal.returns-in-Ok-performed-clause-fault
+returns-in-Ok-performed-clause-fault g c = λ free. λ well. λ sound.
     let old = g.S.ObjectStore.told c.args.store.now in
-    let new = g.S.ObjectStore.told c.perform.new.store in
-    let calls = rw (to_z-of_z w64 c.args.moment c.ranges.moment) at c.in-Ok-perform.ensures in
-    let goes = rw (to_z-of_z w64 c.args.moment c.ranges.moment) at c.goes_on.ensures.goes in
-    let steps = steps_where _ _ _ _ _ c.in-Ok.ensures calls c.goes_on.result goes (where_reads c.args.logs.now.db c.args.settings.now.pass c.args.self.now c.goes_on.result c.goes_on.ensures.writes) in
-    step_rose old new c.args.moment c.args.self.now c.goes_on.new.self c.goes_on.result (gc_faults c.args.logs.now.db (ways (g.C.ObjectCodec.decoded c.args.logs.now.manifests) (g.C.ObjectCodec.encoded c.args.logs.now.manifests) (g.R.ObjectCodec.decoded c.args.logs.now.records) (allowed g.F.GcFilter.returns (option_copied c.args.filter)) (wal_candidates g.W.WalGc.picked (option_copied c.args.wal))) (record { manifests = free; bytes = well; records = sound }) c.args.settings.now c.args.moment) c.requires.due steps
+    let new = g.S.ObjectStore.told c.perform-performed.new.store in
+    let calls = rw (to_z-of_z w64 c.args.moment c.ranges.moment) at c.in-Ok-performed.ensures in
+    let goes = rw (to_z-of_z w64 c.args.moment c.ranges.moment) at c.goes_on-step.ensures.goes in
+    let steps = steps_where _ _ _ _ _ c.in-Ok.ensures calls c.goes_on-step.result goes (where_reads c.args.logs.now.db c.args.settings.now.pass c.args.self.now c.goes_on-step.result c.goes_on-step.ensures.writes) in
+    step_rose old new c.args.moment c.args.self.now c.goes_on-step.new.self c.goes_on-step.result (gc_faults c.args.logs.now.db (ways (g.C.ObjectCodec.decoded c.args.logs.now.manifests) (g.C.ObjectCodec.encoded c.args.logs.now.manifests) (g.R.ObjectCodec.decoded c.args.logs.now.records) (allowed g.F.GcFilter.returns (option_copied c.args.filter)) (wal_candidates g.W.WalGc.picked (option_copied c.args.wal))) (record { manifests = free; bytes = well; records = sound }) c.args.settings.now c.args.moment) c.requires.due steps
