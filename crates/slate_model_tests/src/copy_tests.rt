@@ -7,12 +7,16 @@ use slate_model::{
     Segment, SequenceTracker, VersionedManifest,
 };
 use std::alloc::Global;
+use std::mem;
 use std::process::Abort;
 
 /// Whether a copy of a value is equal to it.
 fn copies<T: Plain + Drop>(rt: &impl Abort, alloc: Global, value: T) -> bool {
     let copied = value.clone(alloc).expect(rt, "memory");
-    value.is(&copied)
+    let is_so = value.is(&copied);
+    drop(copied);
+    drop(value);
+    is_so
 }
 
 /// A checkpoint with a name.
@@ -48,8 +52,8 @@ fn core(rt: &impl Abort, alloc: Global) -> ManifestCore {
     let mut segments = Vec::new(alloc);
     segments.push(segment(rt, alloc)).expect(rt, "memory");
     let mut core = core_with(rt, alloc, segments);
-    core.tree = tree(rt, alloc);
-    core.sequence_tracker = tracker(rt, alloc);
+    drop(mem::replace(&mut core.tree, tree(rt, alloc)));
+    drop(mem::replace(&mut core.sequence_tracker, tracker(rt, alloc)));
     core.checkpoints
         .push(checkpoint(rt, alloc))
         .expect(rt, "memory");

@@ -4,6 +4,7 @@ use crate::test_values::core_of;
 use slate_ids::{SlateDBError, Text};
 use slate_model::{ManifestCore, PrefixExtractor};
 use std::alloc::Global;
+use std::mem;
 use std::process::Abort;
 
 /// Finds the first bytes of a key, as many as this.
@@ -82,29 +83,39 @@ fn text_of(rt: &impl Abort, alloc: Global, text: Option<&str>) -> Option<Text> {
 
 /// Whether a text is this one.
 fn is_text(text: &Option<Text>, expected: Option<&str>) -> bool {
-    match (text, expected) {
-        (Some(text), Some(expected)) => text.as_str() == expected,
-        (text, expected) => text.is_none() && expected.is_none(),
+    match text {
+        None => expected.is_none(),
+        Some(text) => expected == Some(text.as_str()),
     }
 }
 
 /// Whether an answer says this of an extractor.
 fn says(answer: &Result<(), SlateDBError>, verdict: Verdict) -> bool {
-    match (answer, verdict) {
-        (Ok(()), Verdict::Fits) => true,
-        (
-            Err(
-                SlateDBError::SegmentExtractorMismatch {
-                    persisted,
-                    configured,
-                },
-            ),
-            Verdict::Mismatch(old, new),
-        ) => is_text(persisted, old) && is_text(configured, new),
-        (
-            Err(SlateDBError::SegmentPrefixNotRecognized { prefix, extractor }),
-            Verdict::Unknown(unknown, name),
-        ) => prefix.as_slice() == unknown.as_bytes() && extractor.as_str() == name,
+    match answer {
+        Ok(()) => matches!(verdict, Verdict::Fits),
+        Err(e) => match verdict {
+            Verdict::Fits => false,
+            Verdict::Mismatch(old, new) => is_mismatch(e, old, new),
+            Verdict::Unknown(unknown, name) => is_unknown(e, unknown, name),
+        },
+    }
+}
+
+fn is_mismatch(e: &SlateDBError, old: Option<&str>, new: Option<&str>) -> bool {
+    match e {
+        SlateDBError::SegmentExtractorMismatch {
+            persisted,
+            configured,
+        } => is_text(persisted, old) && is_text(configured, new),
+        _ => false,
+    }
+}
+
+fn is_unknown(e: &SlateDBError, unknown: &str, name: &str) -> bool {
+    match e {
+        SlateDBError::SegmentPrefixNotRecognized { prefix, extractor } => {
+            prefix.as_slice() == unknown.as_bytes() && extractor.as_str() == name
+        }
         _ => false,
     }
 }
@@ -112,7 +123,8 @@ fn says(answer: &Result<(), SlateDBError>, verdict: Verdict) -> bool {
 /// A database with this extractor and the segment `seg`.
 fn extracted_by(rt: &impl Abort, alloc: Global, name: Option<&str>) -> ManifestCore {
     let mut core = core_of(rt, alloc, &["seg"]);
-    core.segment_extractor_name = text_of(rt, alloc, name);
+    let name = text_of(rt, alloc, name);
+    drop(mem::replace(&mut core.segment_extractor_name, name));
     core
 }
 
@@ -138,7 +150,10 @@ fn is_said(
 ) -> bool {
     let core = extracted_by(rt, alloc, persisted);
     let answer = answer_of(alloc, &core, configured);
-    says(&answer, verdict)
+    drop(core);
+    let is_so = says(&answer, verdict);
+    drop(answer);
+    is_so
 }
 
 #[test]
@@ -152,7 +167,8 @@ fn the_extractor_stays_and_finds_each_prefix(rt: HostRuntime) {
 /// A database with this store of the log.
 fn logged_in(rt: &impl Abort, alloc: Global, uri: Option<&str>) -> ManifestCore {
     let mut core = ManifestCore::new(alloc);
-    core.wal_object_store_uri = text_of(rt, alloc, uri);
+    let uri = text_of(rt, alloc, uri);
+    drop(mem::replace(&mut core.wal_object_store_uri, uri));
     core
 }
 
@@ -173,7 +189,10 @@ fn refuses_store(
 ) -> bool {
     let core = logged_in(rt, alloc, persisted);
     let answer = core.validate_wal_object_store_uri(configured);
-    is_other_store(&answer)
+    drop(core);
+    let is_so = is_other_store(&answer);
+    drop(answer);
+    is_so
 }
 
 #[test]

@@ -39,7 +39,9 @@ fn refuses(answer: &Result<(), SlateDBError>, refused: &str, other: &str) -> boo
 /// What the segment `ab` says of a prefix.
 fn check(rt: &impl Abort, alloc: Global, prefix: &str) -> Result<(), SlateDBError> {
     let core = core_of(rt, alloc, &["ab"]);
-    core.check_segment_prefix_antichain(alloc, prefix.as_bytes())
+    let answer = core.check_segment_prefix_antichain(alloc, prefix.as_bytes());
+    drop(core);
+    answer
 }
 
 /// Whether an answer lets a prefix stand, or refuses it and names both.
@@ -54,7 +56,9 @@ fn judges(answer: &Result<(), SlateDBError>, prefix: &str, refused: bool) -> boo
 /// Whether the segment `ab` lets a prefix stand, or refuses it and names both.
 fn is_judged(rt: &impl Abort, alloc: Global, prefix: &str, refused: bool) -> bool {
     let answer = check(rt, alloc, prefix);
-    judges(&answer, prefix, refused)
+    let is_so = judges(&answer, prefix, refused);
+    drop(answer);
+    is_so
 }
 
 #[test]
@@ -107,7 +111,10 @@ fn is_inserted(
 ) -> bool {
     let mut core = core_of(rt, alloc, &["ab"]);
     let answer = mark(alloc, &mut core, prefix);
-    has_tree(rt, alloc, &core, &answer, prefix, expected)
+    let is_so = has_tree(rt, alloc, &core, &answer, prefix, expected);
+    drop(answer);
+    drop(core);
+    is_so
 }
 
 #[test]

@@ -64,9 +64,12 @@ fn select(
     expected: Option<&str>,
 ) -> bool {
     assert!(rt; Segment::are_apart(core.segments()));
-    match (core.select_segments(range), expected) {
-        (Some(segments), Some(expected)) => have_prefixes(rt, alloc, segments, expected),
-        (found, expected) => found.is_none() && expected.is_none(),
+    match core.select_segments(range) {
+        None => expected.is_none(),
+        Some(segments) => match expected {
+            None => false,
+            Some(expected) => have_prefixes(rt, alloc, segments, expected),
+        },
     }
 }
 
@@ -80,7 +83,10 @@ fn meet(
 ) -> bool {
     let core = core_of(rt, alloc, prefixes);
     let range = range(rt, keys);
-    select(rt, alloc, &core, &range, expected)
+    let is_so = select(rt, alloc, &core, &range, expected);
+    drop(range);
+    drop(core);
+    is_so
 }
 
 #[test]

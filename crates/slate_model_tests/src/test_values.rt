@@ -113,5 +113,7 @@ pub(crate) fn have_prefixes(
             .expect(rt, "memory");
         prefixes.push(b',').expect(rt, "memory");
     }
-    prefixes.as_slice() == expected.as_bytes()
+    let are_so = prefixes.as_slice() == expected.as_bytes();
+    drop(prefixes);
+    are_so
 }

@@ -45,8 +45,12 @@ fn moments(
     number: u64,
 ) -> (Option<Millis>, Option<Millis>) {
     let tracker = tracker_of(rt, alloc, pairs);
-    let down = tracker.find_ts(number, FindOption::RoundDown);
-    (down, tracker.find_ts(number, FindOption::RoundUp))
+    let found = (
+        tracker.find_ts(number, FindOption::RoundDown),
+        tracker.find_ts(number, FindOption::RoundUp),
+    );
+    drop(tracker);
+    found
 }
 
 /// The numbers of a moment, rounded down and up.
@@ -57,8 +61,12 @@ fn numbers(
     moment: Millis,
 ) -> (Option<u64>, Option<u64>) {
     let tracker = tracker_of(rt, alloc, pairs);
-    let down = tracker.find_seq(moment, FindOption::RoundDown);
-    (down, tracker.find_seq(moment, FindOption::RoundUp))
+    let found = (
+        tracker.find_seq(moment, FindOption::RoundDown),
+        tracker.find_seq(moment, FindOption::RoundUp),
+    );
+    drop(tracker);
+    found
 }
 
 #[test]
@@ -75,7 +83,10 @@ fn rounds_to_a_neighbour(rt: HostRuntime) {
 
 /// Whether pairs that are added leave these.
 fn leave(rt: &impl Abort, alloc: Global, pairs: &[(u64, Millis)], left: &[(u64, Millis)]) -> bool {
-    tracker_of(rt, alloc, pairs).pairs() == left
+    let tracker = tracker_of(rt, alloc, pairs);
+    let are_so = tracker.pairs() == left;
+    drop(tracker);
+    are_so
 }
 
 #[test]

@@ -1,10 +1,11 @@
 //! The watermark: the greatest moment of a flushed table.
 
-use crate::test_values::{core_with, segment_of, table, tree_of};
+use crate::test_values::{core_with, table, tree_of};
 use bytes::Bytes;
 use slate_ids::Ulid;
-use slate_model::{ManifestCore, Segment, SsTableId};
+use slate_model::{LsmTreeState, ManifestCore, Segment, SsTableId};
 use std::alloc::Global;
+use std::mem;
 use std::process::Abort;
 
 /// A table of a tree: one of the log, or the one of this moment and tail.
@@ -70,18 +71,29 @@ fn id(parts: (u32, u32)) -> Ulid {
 fn ids(rt: &impl Abort, alloc: Global, tables: &[Flushed]) -> Vec<SsTableId> {
     let mut ids = Vec::new(alloc);
     for table in tables {
-        let table = match table {
-            Flushed::Log(number) => SsTableId::Wal(*number),
-            Flushed::Table(moment, tail) => SsTableId::Compacted(id((*moment, *tail))),
-        };
-        ids.push(table).expect(rt, "memory");
+        ids.push(table_id(*table)).expect(rt, "memory");
     }
     ids
 }
 
+fn table_id(table: Flushed) -> SsTableId {
+    match table {
+        Flushed::Log(number) => SsTableId::Wal(number),
+        Flushed::Table(moment, tail) => SsTableId::Compacted(id((moment, tail))),
+    }
+}
+
+/// A tree of these tables, and of others in a run.
+fn tree(rt: &impl Abort, alloc: Global, l0: &[Flushed], run: &[SsTableId]) -> LsmTreeState {
+    let ids = ids(rt, alloc, l0);
+    let tree = tree_of(rt, alloc, ids.as_slice(), run);
+    drop(ids);
+    tree
+}
+
 /// The segment of these tables, with this marker.
 fn segment(rt: &impl Abort, alloc: Global, l0: &[Flushed], marker: Option<(u32, u32)>) -> Segment {
-    let mut tree = tree_of(rt, alloc, ids(rt, alloc, l0).as_slice(), &[]);
+    let mut tree = tree(rt, alloc, l0, &[]);
     tree.last_compacted_l0_sst_view_id = marker.map(id);
     Segment::new(Bytes::from("s"), tree)
 }
@@ -94,7 +106,8 @@ fn core_of(rt: &impl Abort, alloc: Global, trees: Trees) -> ManifestCore {
         .push(segment(rt, alloc, l0, marker))
         .expect(rt, "memory");
     let mut core = core_with(rt, alloc, segments);
-    core.tree = tree_of(rt, alloc, ids(rt, alloc, root).as_slice(), &[table(1000)]);
+    let root = tree(rt, alloc, root, &[table(1000)]);
+    drop(mem::replace(&mut core.tree, root));
     core
 }
 
@@ -105,7 +118,9 @@ fn has_latest(rt: &impl Abort, alloc: Global, trees: Trees, latest: Option<(u32,
         Some((moment, _)) => moment as u64,
         None => 0,
     };
-    core.max_l0_ulid_timestamp_across_trees() == latest.map(id) && core.watermark() == moment
+    let found = (core.max_l0_ulid_timestamp_across_trees(), core.watermark());
+    drop(core);
+    found.0 == latest.map(id) && found.1 == moment
 }
 
 #[test]

@@ -1,12 +1,12 @@
 //! Databases of scripts, and items that are none.
 
-use crate::test_scripts::{push_ulid, refusal_within, script_of, text_of};
+use crate::test_scripts::{is_bad_within, is_text, push_ulid, script_within};
 use bytes::Bytes;
 use slate_model::{
     Checkpoint, CompressionTag, FilterFormat, LsmTreeState, Manifest, ManifestCore, Plain, Segment,
     SsTableInfo, SsTableView, SstType,
 };
-use slate_script::{DbSpec, Script, ScriptError, ScriptPlace};
+use slate_script::{DbSpec, ScriptPlace};
 use std::alloc::{AllocError, Global};
 use std::process::Abort;
 
@@ -37,48 +37,55 @@ const SEGMENTS: &str = r#"{"path":"d",
 "runs":[{"prefix":"abc","id":2,"tables":["5:0","4:0"]},{"prefix":"","id":1,"tables":[]},{"prefix":"a","id":0,"tables":["6:0"]}],
 "markers":[{"prefix":"Z","view":"7:0"},{"prefix":"abc","view":"8:0"},{"prefix":"ab","view":"9:0"}]}"#;
 
-/// Databases, with what they are: their numbers and words, checkpoints, root tree, segments and tables. Without optional fields a
-/// database is as a new one; each prefix but "" has one segment, and they ascend by bytes.
-const DATABASES: [(&str, &str, &str, &str, &str, &str); 5] = [
+/// What a database is: its numbers and words, checkpoints, root tree, segments and tables.
+type Read = (
+    &'static str,
+    &'static str,
+    &'static str,
+    &'static str,
+    &'static str,
+);
+
+/// Databases, with what they are. Without optional fields a database is as a new one; each prefix but "" has one segment, and they ascend
+/// by bytes.
+const DATABASES: [(&str, Read); 5] = [
     (
         WHOLE,
-        "all -1 false 1 2 3 4 6 Some(\"x\")",
-        "5 1 None 0 None; ",
-        "1:1 l0 9:1>8:1 5:2>4:2 3:3>8:1 run 7 2:1>2:1 2:2>2:2 run 3 4:2>4:2",
-        "b\"ab\"  l0 run 4294967295; b\"b\"  l0 7:0>6:0; b\"c\" 1:2 l0; ",
-        " 8:1 6:0 4:2 2:1 2:2",
+        (
+            "all -1 false 1 2 3 4 6 Some(\"x\")",
+            "5 1 None 0 None; ",
+            "1:1 l0 9:1>8:1 5:2>4:2 3:3>8:1 run 7 2:1>2:1 2:2>2:2 run 3 4:2>4:2",
+            "b\"ab\"  l0 run 4294967295; b\"b\"  l0 7:0>6:0; b\"c\" 1:2 l0; ",
+            " 8:1 6:0 4:2 2:1 2:2",
+        ),
     ),
     (
         r#"{"path":"d"}"#,
-        "d 0 true 0 0 0 0 1 None",
-        "",
-        " l0",
-        "",
-        "",
+        ("d 0 true 0 0 0 0 1 None", "", " l0", "", ""),
     ),
     (
         SEGMENTS,
-        "d 0 true 0 0 0 0 1 None",
-        "",
-        " l0 run 1",
-        "b\"Z\" 7:0 l0; b\"a\"  l0 run 0 6:0>6:0; b\"ab\" 9:0 l0; b\"abc\" 8:0 l0 run 2 5:0>5:0 4:0>4:0; b\"b\"  l0 1:0>1:0 3:0>3:0; b\"\\xc3\\xa9\"  l0 2:0>2:0; ",
-        " 1:0 2:0 3:0 5:0 4:0 6:0",
+        (
+            "d 0 true 0 0 0 0 1 None",
+            "",
+            " l0 run 1",
+            "b\"Z\" 7:0 l0; b\"a\"  l0 run 0 6:0>6:0; b\"ab\" 9:0 l0; b\"abc\" 8:0 l0 run 2 5:0>5:0 4:0>4:0; b\"b\"  l0 1:0>1:0 3:0>3:0; b\"\\xc3\\xa9\"  l0 2:0>2:0; ",
+            " 1:0 2:0 3:0 5:0 4:0 6:0",
+        ),
     ),
     (
         r#"{"path":"a","modified":-5,"checkpoints":[{"id":1},{"id":18446744073709551615,"expire":-7,"name":"x"}]}"#,
-        "a -5 true 0 0 0 0 1 None",
-        "1 1 None 0 None; 18446744073709551615 1 Some(-7) 0 Some(\"x\"); ",
-        " l0",
-        "",
-        "",
+        (
+            "a -5 true 0 0 0 0 1 None",
+            "1 1 None 0 None; 18446744073709551615 1 Some(-7) 0 Some(\"x\"); ",
+            " l0",
+            "",
+            "",
+        ),
     ),
     (
         r#"{"path":"b-1","checkpoints":[]}"#,
-        "b-1 0 true 0 0 0 0 1 None",
-        "",
-        " l0",
-        "",
-        "",
+        ("b-1 0 true 0 0 0 0 1 None", "", " l0", "", ""),
     ),
 ];
 
@@ -143,7 +150,7 @@ fn push_fields(out: &mut String, spec: &DbSpec) -> Result<(), AllocError> {
 fn has_fields(rt: &impl Abort, alloc: Global, spec: &DbSpec, text: &str) -> bool {
     let mut out = String::new(alloc);
     push_fields(&mut out, spec).expect(rt, "memory");
-    out.as_str() == text
+    is_text(out, text)
 }
 
 fn has_checkpoints(rt: &impl Abort, alloc: Global, spec: &DbSpec, text: &str) -> bool {
@@ -151,13 +158,13 @@ fn has_checkpoints(rt: &impl Abort, alloc: Global, spec: &DbSpec, text: &str) ->
     for checkpoint in spec.manifest.core.checkpoints.as_slice() {
         push_checkpoint(&mut out, checkpoint).expect(rt, "memory");
     }
-    out.as_str() == text
+    is_text(out, text)
 }
 
 fn has_tree(rt: &impl Abort, alloc: Global, spec: &DbSpec, text: &str) -> bool {
     let mut out = String::new(alloc);
     push_tree(&mut out, &spec.manifest.core.tree).expect(rt, "memory");
-    out.as_str() == text
+    is_text(out, text)
 }
 
 fn has_segments(rt: &impl Abort, alloc: Global, spec: &DbSpec, text: &str) -> bool {
@@ -165,7 +172,7 @@ fn has_segments(rt: &impl Abort, alloc: Global, spec: &DbSpec, text: &str) -> bo
     for segment in spec.manifest.core.segments() {
         push_segment(&mut out, segment).expect(rt, "memory");
     }
-    out.as_str() == text
+    is_text(out, text)
 }
 
 fn has_tables(rt: &impl Abort, alloc: Global, spec: &DbSpec, text: &str) -> bool {
@@ -173,7 +180,7 @@ fn has_tables(rt: &impl Abort, alloc: Global, spec: &DbSpec, text: &str) -> bool
     for table in spec.tables.as_slice() {
         push_ulid(&mut out, " ", table.0).expect(rt, "memory");
     }
-    out.as_str() == text
+    is_text(out, text)
 }
 
 fn info() -> SsTableInfo {
@@ -192,9 +199,17 @@ fn info() -> SsTableInfo {
     }
 }
 
+// Whether this is what is known of a table.
+fn is_known(found: &SsTableInfo) -> bool {
+    let wanted = info();
+    let same = found.is(&wanted);
+    drop(wanted);
+    same
+}
+
 // Whether a view shows all of a table of which this is known.
 fn is_whole(view: &SsTableView) -> bool {
-    view.visible_range().is_none() && view.sst.format_version == 1 && view.sst.info.is(&info())
+    view.visible_range().is_none() && view.sst.format_version == 1 && is_known(&view.sst.info)
 }
 
 fn are_whole(views: &[SsTableView]) -> bool {
@@ -225,49 +240,52 @@ fn has_infos(spec: &DbSpec) -> bool {
             .tables
             .as_slice()
             .iter()
-            .all(|table| table.1.is(&info()))
+            .all(|table| is_known(&table.1))
 }
 
-fn script_with(rt: &impl Abort, alloc: Global, item: &str) -> Script {
-    let text = text_of(rt, alloc, BEFORE, item, AFTER);
-    script_of(rt, alloc, text.as_str())
+// Whether a database has all that its text says.
+fn is_read(rt: &impl Abort, alloc: Global, spec: &DbSpec, read: Read) -> bool {
+    let (fields, checkpoints, tree, segments, tables) = read;
+    has_fields(rt, alloc, spec, fields)
+        && has_checkpoints(rt, alloc, spec, checkpoints)
+        && has_tree(rt, alloc, spec, tree)
+        && has_segments(rt, alloc, spec, segments)
+        && has_tables(rt, alloc, spec, tables)
+        && has_infos(spec)
+}
+
+// Whether an item is read as one database, with all that its text says.
+fn reads(rt: &impl Abort, alloc: Global, item: &str, read: Read) -> bool {
+    let script = script_within(rt, alloc, BEFORE, item, AFTER);
+    let good = match script.databases.as_slice() {
+        [spec] => is_read(rt, alloc, spec, read),
+        _ => false,
+    };
+    drop(script);
+    good
 }
 
 #[test]
 fn databases_as_they_are_read(rt: HostRuntime) {
-    let alloc = rt.alloc();
-    for (item, fields, checkpoints, tree, segments, tables) in &DATABASES {
-        let script = script_with(&rt, alloc, *item);
-        assert!(rt; script.databases.as_slice().len() == 1);
-        for spec in script.databases.as_slice() {
-            assert!(rt; has_fields(&rt, alloc, spec, *fields), "fields of {item}");
-            assert!(rt;
-                has_checkpoints(&rt, alloc, spec, *checkpoints),
-                "checkpoints of {item}"
-            );
-            assert!(rt; has_tree(&rt, alloc, spec, *tree), "tree of {item}");
-            assert!(rt;
-                has_segments(&rt, alloc, spec, *segments),
-                "segments of {item}"
-            );
-            assert!(rt; has_tables(&rt, alloc, spec, *tables), "tables of {item}");
-            assert!(rt; has_infos(spec), "infos of {item}");
-        }
+    for (item, read) in &DATABASES {
+        assert!(rt; reads(&rt, rt.alloc(), item, *read), "at {item}");
     }
 }
 
-fn new_manifest(alloc: Global) -> Manifest {
-    Manifest::initial(alloc, ManifestCore::new(alloc))
+fn is_new(alloc: Global, spec: &DbSpec) -> bool {
+    let new = Manifest::initial(alloc, ManifestCore::new(alloc));
+    let same = spec.manifest.is(&new);
+    drop(new);
+    same
 }
 
 // Without optional fields a database has the manifest of a new one.
 #[test]
 fn a_database_with_its_path_alone(rt: HostRuntime) {
-    let alloc = rt.alloc();
-    let script = script_with(&rt, alloc, r#"{"path":"d"}"#);
-    for spec in script.databases.as_slice() {
-        assert!(rt; spec.manifest.is(&new_manifest(alloc)));
-    }
+    let script = script_within(&rt, rt.alloc(), BEFORE, r#"{"path":"d"}"#, AFTER);
+    let spec = script.databases.as_slice().first();
+    assert!(rt; is_new(rt.alloc(), spec.expect(&rt, "a database")));
+    drop(script);
 }
 
 /// Ids that are written in another way, and what they are.
@@ -281,21 +299,26 @@ const IDS: [(&str, &str); 4] = [
     ),
 ];
 
+/// What stands before and after the id of a table of a run.
+const BEFORE_ID: &str = r#"{"databases":[{"path":"d","runs":[{"id":1,"tables":[""#;
+
+const AFTER_ID: &str = r#""]}]}],"events":[]}"#;
+
+// Whether a table with an id that is written so stands under this one.
+fn is_id(rt: &impl Abort, alloc: Global, written: &str, id: &str) -> bool {
+    let script = script_within(rt, alloc, BEFORE_ID, written, AFTER_ID);
+    let good = match script.databases.as_slice() {
+        [spec] => has_tables(rt, alloc, spec, id),
+        _ => false,
+    };
+    drop(script);
+    good
+}
+
 #[test]
 fn ids_as_they_are_written(rt: HostRuntime) {
-    let alloc = rt.alloc();
     for (written, id) in &IDS {
-        let item = text_of(
-            &rt,
-            alloc,
-            r#"{"path":"d","runs":[{"id":1,"tables":[""#,
-            *written,
-            r#""]}]}"#,
-        );
-        let script = script_with(&rt, alloc, item.as_str());
-        for spec in script.databases.as_slice() {
-            assert!(rt; has_tables(&rt, alloc, spec, *id), "at {written}");
-        }
+        assert!(rt; is_id(&rt, rt.alloc(), written, id), "at {written}");
     }
 }
 
@@ -359,14 +382,11 @@ const AROUND_IDS: [(&str, &str); 7] = [
 
 #[test]
 fn texts_that_are_no_ids(rt: HostRuntime) {
-    let alloc = rt.alloc();
+    let place = ScriptPlace::Database(0);
     for (before, after) in &AROUND_IDS {
         for id in &BAD_IDS {
-            let refusal = refusal_within(&rt, alloc, *before, *id, *after);
-            assert!(rt;
-                refusal == Some(ScriptError::BadScript(ScriptPlace::Database(0))),
-                "at {before}{id}"
-            );
+            let bad = is_bad_within(&rt, rt.alloc(), before, id, after, place);
+            assert!(rt; bad, "at {before}{id}");
         }
     }
 }
@@ -396,13 +416,10 @@ const BAD_DATABASES: [(&str, u64); 12] = [
 // A database that is none comes before an event that is none.
 #[test]
 fn databases_that_are_none(rt: HostRuntime) {
-    let alloc = rt.alloc();
     for (items, place) in &BAD_DATABASES {
-        let refusal = refusal_within(&rt, alloc, BEFORE, *items, BEFORE_NO_EVENT);
-        assert!(rt;
-            refusal == Some(ScriptError::BadScript(ScriptPlace::Database(*place))),
-            "at {items}"
-        );
+        let place = ScriptPlace::Database(*place);
+        let bad = is_bad_within(&rt, rt.alloc(), BEFORE, items, BEFORE_NO_EVENT, place);
+        assert!(rt; bad, "at {items}");
     }
 }
 
@@ -487,21 +504,21 @@ const BAD_FIELDS: [&str; 77] = [
     r#""markers":[{"prefix":"a","view":"1:1"},{"view":"2:1"},{"prefix":"a","view":"3:1"}]"#,
 ];
 
+/// What stands before and after fields of a database, where the first event is none.
+const BEFORE_FIELDS: &str = r#"{"databases":[{"path":"b"},{"path":"a","#;
+
+const AFTER_FIELDS: &str = r#"}],"events":[0]}"#;
+
+// Whether a script whose second database has these fields is none for what is at this place.
+fn is_bad(rt: &impl Abort, alloc: Global, fields: &str, place: ScriptPlace) -> bool {
+    is_bad_within(rt, alloc, BEFORE_FIELDS, fields, AFTER_FIELDS, place)
+}
+
 #[test]
 fn fields_that_are_none(rt: HostRuntime) {
-    let alloc = rt.alloc();
     for fields in &BAD_FIELDS {
-        let refusal = refusal_within(
-            &rt,
-            alloc,
-            r#"{"databases":[{"path":"b"},{"path":"a","#,
-            *fields,
-            r#"}],"events":[0]}"#,
-        );
-        assert!(rt;
-            refusal == Some(ScriptError::BadScript(ScriptPlace::Database(1))),
-            "at {fields}"
-        );
+        let bad = is_bad(&rt, rt.alloc(), fields, ScriptPlace::Database(1));
+        assert!(rt; bad, "at {fields}");
     }
 }
 
@@ -519,18 +536,8 @@ const READ_FIELDS: [&str; 8] = [
 
 #[test]
 fn fields_that_are_read(rt: HostRuntime) {
-    let alloc = rt.alloc();
     for fields in &READ_FIELDS {
-        let refusal = refusal_within(
-            &rt,
-            alloc,
-            r#"{"databases":[{"path":"a","#,
-            *fields,
-            r#"}],"events":[0]}"#,
-        );
-        assert!(rt;
-            refusal == Some(ScriptError::BadScript(ScriptPlace::Event(0))),
-            "at {fields}"
-        );
+        let bad = is_bad(&rt, rt.alloc(), fields, ScriptPlace::Event(0));
+        assert!(rt; bad, "at {fields}");
     }
 }

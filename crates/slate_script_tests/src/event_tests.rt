@@ -1,8 +1,8 @@
 //! Events of scripts, and texts that are no script.
 
-use crate::test_scripts::{push_ulid, refusal_of, refusal_within, script_of, text_of};
+use crate::test_scripts::{is_bad_within, is_text, push_ulid, refusal_within, script_of};
 use slate_ids::{CheckpointId, Text};
-use slate_script::{Call, Event, FilterWord, FlushTable, ScriptError, ScriptPlace};
+use slate_script::{Call, Event, FilterWord, FlushTable, ScriptPlace};
 use std::alloc::{AllocError, Global};
 use std::mem::size_of;
 use std::process::Abort;
@@ -256,18 +256,21 @@ fn is_told(rt: &impl Abort, alloc: Global, event: &Event, text: &str) -> bool {
     let copied = event.copy(alloc).expect(rt, "memory");
     let mut other = String::new(alloc);
     push_event(&mut other, &copied).expect(rt, "memory");
-    one.as_str() == text && other.as_str() == text
+    drop(copied);
+    let first = is_text(one, text);
+    let second = is_text(other, text);
+    first && second
 }
 
 #[test]
 fn events_of_each_kind(rt: HostRuntime) {
-    let alloc = rt.alloc();
-    let script = script_of(&rt, alloc, WHOLE);
+    let script = script_of(&rt, rt.alloc(), WHOLE);
     let events = script.events.as_slice();
     assert!(rt; events.len() == EVENTS.len());
     for (event, text) in events.iter().zip(&EVENTS) {
-        assert!(rt; is_told(&rt, alloc, event, *text), "at {text}");
+        assert!(rt; is_told(&rt, rt.alloc(), event, text), "at {text}");
     }
+    drop(script);
 }
 
 /// Texts that are no script as a whole.
@@ -287,11 +290,8 @@ const BAD_TEXTS: [(&str, ScriptPlace); 7] = [
 #[test]
 fn texts_that_are_no_script(rt: HostRuntime) {
     for (text, place) in &BAD_TEXTS {
-        let refusal = refusal_of(rt.alloc(), *text);
-        assert!(rt;
-            refusal == Some(ScriptError::BadScript(*place)),
-            "at {text}"
-        );
+        let bad = is_bad_within(&rt, rt.alloc(), "", text, "", *place);
+        assert!(rt; bad, "at {text}");
     }
 }
 
@@ -340,15 +340,15 @@ const BAD_EVENTS: [(&str, u64); 23] = [
     ),
 ];
 
+/// What stands before events.
+const BEFORE_EVENTS: &str = r#"{"databases":[],"events":["#;
+
 #[test]
 fn events_that_are_none(rt: HostRuntime) {
-    let alloc = rt.alloc();
     for (items, place) in &BAD_EVENTS {
-        let refusal = refusal_within(&rt, alloc, r#"{"databases":[],"events":["#, *items, "]}");
-        assert!(rt;
-            refusal == Some(ScriptError::BadScript(ScriptPlace::Event(*place))),
-            "at {items}"
-        );
+        let place = ScriptPlace::Event(*place);
+        let bad = is_bad_within(&rt, rt.alloc(), BEFORE_EVENTS, items, "]}", place);
+        assert!(rt; bad, "at {items}");
     }
 }
 
@@ -413,13 +413,10 @@ const BAD_CALLS: [&str; 52] = [
 
 #[test]
 fn calls_that_are_none(rt: HostRuntime) {
-    let alloc = rt.alloc();
+    let place = ScriptPlace::Event(1);
     for fields in &BAD_CALLS {
-        let refusal = refusal_within(&rt, alloc, BEFORE_CALL, *fields, "}]}");
-        assert!(rt;
-            refusal == Some(ScriptError::BadScript(ScriptPlace::Event(1))),
-            "at {fields}"
-        );
+        let bad = is_bad_within(&rt, rt.alloc(), BEFORE_CALL, fields, "}]}", place);
+        assert!(rt; bad, "at {fields}");
     }
 }
 
@@ -460,13 +457,10 @@ const BAD_PASSES: [&str; 28] = [
 
 #[test]
 fn passes_that_are_none(rt: HostRuntime) {
-    let alloc = rt.alloc();
+    let place = ScriptPlace::Event(1);
     for fields in &BAD_PASSES {
-        let refusal = refusal_within(&rt, alloc, BEFORE_PASS, *fields, "}]}");
-        assert!(rt;
-            refusal == Some(ScriptError::BadScript(ScriptPlace::Event(1))),
-            "at {fields}"
-        );
+        let bad = is_bad_within(&rt, rt.alloc(), BEFORE_PASS, fields, "}]}", place);
+        assert!(rt; bad, "at {fields}");
     }
 }
 
@@ -482,30 +476,20 @@ fn many_events(rt: &impl Abort, alloc: Global) -> String {
     text
 }
 
+/// What comes after many events: the most that there may be, and one more.
+const FITS: &str = r#",{"step":1,"at":1,"times":999}]}"#;
+
+const OVER: &str = r#",{"step":1,"at":1,"times":1000}]}"#;
+
 // A script has at most 1,000,000 events.
 #[test]
 fn the_most_events(rt: HostRuntime) {
-    let alloc = rt.alloc();
-    let many = many_events(&rt, alloc);
-    let fits = text_of(
-        &rt,
-        alloc,
-        many.as_str(),
-        r#",{"step":1,"at":1,"times":999}"#,
-        "]}",
-    );
-    assert!(rt; refusal_of(alloc, fits.as_str()) == None);
-    let over = text_of(
-        &rt,
-        alloc,
-        many.as_str(),
-        r#",{"step":1,"at":1,"times":1000}"#,
-        "]}",
-    );
-    assert!(rt;
-        refusal_of(alloc, over.as_str())
-            == Some(ScriptError::BadScript(ScriptPlace::Event(1_000_000)))
-    );
+    let many = many_events(&rt, rt.alloc());
+    let fits = refusal_within(&rt, rt.alloc(), many.as_str(), FITS, "");
+    assert!(rt; fits.is_none());
+    let place = ScriptPlace::Event(1_000_000);
+    assert!(rt; is_bad_within(&rt, rt.alloc(), many.as_str(), OVER, "", place));
+    drop(many);
 }
 
 /// A script may have a million events, so that each takes few bytes, whatever its call.

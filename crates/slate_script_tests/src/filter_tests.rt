@@ -1,9 +1,9 @@
 //! Filters of passes that scripts say, asked which of some candidates may go.
 
-use crate::test_scripts::{script_of, text_of};
+use crate::test_scripts::script_within;
 use slate_ids::{DbPath, ObjectPath};
 use slate_picks::GcFilter;
-use slate_script::{Call, Event, Script};
+use slate_script::{Call, Event};
 use slate_store::ObjectMetadata;
 use std::alloc::Global;
 use std::process::Abort;
@@ -54,14 +54,13 @@ fn candidates(rt: &impl Abort, alloc: Global) -> Vec<ObjectMetadata> {
         .expect(rt, "a path");
     let mut objects = Vec::new(alloc);
     for number in &CANDIDATES {
-        objects
-            .push(ObjectMetadata {
-                location: ObjectPath::Manifest(db, *number),
-                last_modified: 0,
-                size: 1,
-                e_tag: *number,
-            })
-            .expect(rt, "memory");
+        let object = ObjectMetadata {
+            location: ObjectPath::Manifest(db, *number),
+            last_modified: 0,
+            size: 1,
+            e_tag: *number,
+        };
+        objects.push(object).expect(rt, "memory");
     }
     objects
 }
@@ -87,26 +86,29 @@ fn returns(rt: &impl Abort, alloc: Global, call: &Call, wanted: &[u64]) -> bool 
         Call::Pass { filter, .. } => {
             let asked = candidates(rt, alloc);
             let returned = filter.filter(alloc, asked.as_slice()).expect(rt, "memory");
-            are(returned.as_slice(), wanted)
+            drop(asked);
+            let good = are(returned.as_slice(), wanted);
+            drop(returned);
+            good
         }
         _ => false,
     }
 }
 
-// Whether the filter of the one event of a script, a start of a pass, returns the candidates of these numbers.
-fn says(rt: &impl Abort, alloc: Global, script: &Script, wanted: &[u64]) -> bool {
-    match script.events.as_slice().first() {
+// Whether a filter, that of the one event of a script, a start of a pass, returns the candidates of these numbers.
+fn says(rt: &impl Abort, alloc: Global, filter: &str, wanted: &[u64]) -> bool {
+    let script = script_within(rt, alloc, BEFORE, filter, "}]}");
+    let good = match script.events.as_slice().first() {
         Some(Event::Start { call, .. }) => returns(rt, alloc, call.get(), wanted),
         _ => false,
-    }
+    };
+    drop(script);
+    good
 }
 
 #[test]
 fn filters_of_scripts_return_candidates(rt: HostRuntime) {
-    let alloc = rt.alloc();
     for (filter, wanted) in &FILTERS {
-        let text = text_of(&rt, alloc, BEFORE, *filter, "}]}");
-        let script = script_of(&rt, alloc, text.as_str());
-        assert!(rt; says(&rt, alloc, &script, *wanted), "at {filter}");
+        assert!(rt; says(&rt, rt.alloc(), filter, wanted), "at {filter}");
     }
 }

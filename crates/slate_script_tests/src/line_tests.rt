@@ -1,6 +1,6 @@
 //! The lines of a report.
 
-use crate::test_scripts::text_of;
+use crate::test_scripts::{is_text, text_of};
 use slate_ids::{
     ByteList, CheckpointId, DbPath, Listed, ObjectPath, SlateDBError, StateCause, UpdateRule,
 };
@@ -30,12 +30,19 @@ fn bytes(rt: &impl Abort, alloc: Global, bytes: &[u8]) -> ByteList {
     ByteList::copy_of(alloc, bytes).expect(rt, "memory")
 }
 
+// Whether this is the line of an entry.
+fn has_line(rt: &impl Abort, alloc: Global, place: u64, entry: Entry, line: &str) -> bool {
+    let found = entry_line(alloc, place, &entry).expect(rt, "memory");
+    drop(entry);
+    is_text(found, line)
+}
+
 // Whether this is the line of an entry, and of a copy.
-fn is_line(rt: &impl Abort, alloc: Global, place: u64, entry: &Entry, line: &str) -> bool {
-    let one = entry_line(alloc, place, entry).expect(rt, "memory");
+fn is_line(rt: &impl Abort, alloc: Global, place: u64, entry: Entry, line: &str) -> bool {
     let copied = entry.copy(alloc).expect(rt, "memory");
-    let other = entry_line(alloc, place, &copied).expect(rt, "memory");
-    one.as_str() == line && other.as_str() == line
+    let one = has_line(rt, alloc, place, entry, line);
+    let other = has_line(rt, alloc, place, copied, line);
+    one && other
 }
 
 // Whether a call, its answer and its reply have this line.
@@ -55,65 +62,45 @@ fn tells(
         answer,
         reply,
     };
-    is_line(rt, alloc, 4, &entry, line)
+    is_line(rt, alloc, 4, entry, line)
 }
 
 // Whether a start with this reply has this line.
 fn starts(rt: &impl Abort, alloc: Global, reply: Option<Reply>, line: &str) -> bool {
-    is_line(rt, alloc, 4, &Entry::Started { party: 1, reply }, line)
+    is_line(rt, alloc, 4, Entry::Started { party: 1, reply }, line)
 }
 
 #[test]
 fn entries_without_a_store_call(rt: HostRuntime) {
     let alloc = rt.alloc();
-    assert!(rt; is_line(&rt, alloc, 0, &Entry::Opened { party: 7 }, "0 open 7\n"));
-    assert!(rt; is_line(&rt, alloc, 6, &Entry::Stopped { party: 7 }, "6 stop 7\n"));
-    assert!(rt; is_line(&rt, alloc, 12, &Entry::Idle { party: 7 }, "12 idle 7\n"));
+    assert!(rt; is_line(&rt, alloc, 0, Entry::Opened { party: 7 }, "0 open 7\n"));
+    assert!(rt; is_line(&rt, alloc, 6, Entry::Stopped { party: 7 }, "6 stop 7\n"));
+    assert!(rt; is_line(&rt, alloc, 12, Entry::Idle { party: 7 }, "12 idle 7\n"));
     assert!(rt; starts(&rt, alloc, None, "4 start 1\n"));
 }
 
 // Whether this is the text of a store call.
 fn calls(rt: &impl Abort, alloc: Global, call: StoreCall, text: &str) -> bool {
     let line = text_of(rt, alloc, "4 call 1 ", text, " -> fault\n");
-    tells(rt, alloc, call, StoreAnswer::Fault, None, line.as_str())
+    let good = tells(rt, alloc, call, StoreAnswer::Fault, None, line.as_str());
+    drop(line);
+    good
 }
 
 #[test]
 fn lists(rt: HostRuntime) {
-    let (alloc, db) = (rt.alloc(), db(&rt));
-    assert!(rt;
-        calls(
-            &rt,
-            alloc,
-            StoreCall::List(ListDir::Manifests(db)),
-            "list db/manifest/"
-        )
-    );
-    assert!(rt;
-        calls(
-            &rt,
-            alloc,
-            StoreCall::List(ListDir::Records(db)),
-            "list db/compactions/"
-        )
-    );
-    assert!(rt;
-        calls(
-            &rt,
-            alloc,
-            StoreCall::List(ListDir::Tables(db)),
-            "list db/compacted/"
-        )
-    );
-    assert!(rt;
-        calls(
-            &rt,
-            alloc,
-            StoreCall::List(ListDir::Wals(db)),
-            "list db/wal/"
-        )
-    );
-    assert!(rt; calls(&rt, alloc, StoreCall::List(ListDir::All(db)), "list db/"));
+    let db = db(&rt);
+    let dirs = [
+        (ListDir::Manifests(db), "list db/manifest/"),
+        (ListDir::Records(db), "list db/compactions/"),
+        (ListDir::Tables(db), "list db/compacted/"),
+        (ListDir::Wals(db), "list db/wal/"),
+        (ListDir::All(db), "list db/"),
+    ];
+    for (dir, text) in &dirs {
+        let call = StoreCall::List(*dir);
+        assert!(rt; calls(&rt, rt.alloc(), call, text), "at {text}");
+    }
 }
 
 fn put_new(rt: &impl Abort, alloc: Global) -> StoreCall {
@@ -176,7 +163,9 @@ fn answers(rt: &impl Abort, alloc: Global, answer: StoreAnswer, text: &str) -> b
         "\n",
     );
     let call = StoreCall::Delete(boundary(rt));
-    tells(rt, alloc, call, answer, None, line.as_str())
+    let good = tells(rt, alloc, call, answer, None, line.as_str());
+    drop(line);
+    good
 }
 
 fn found_one(rt: &impl Abort, alloc: Global) -> StoreAnswer {
@@ -226,15 +215,12 @@ fn replies(rt: &impl Abort, alloc: Global, reply: Reply, text: &str) -> bool {
         "\n",
     );
     let call = StoreCall::Get(boundary(rt));
-    starts(rt, alloc, Some(reply), started.as_str())
-        && tells(
-            rt,
-            alloc,
-            call,
-            StoreAnswer::Got(None),
-            Some(other),
-            called.as_str(),
-        )
+    let none = StoreAnswer::Got(None);
+    let first = starts(rt, alloc, Some(reply), started.as_str());
+    let second = tells(rt, alloc, call, none, Some(other), called.as_str());
+    drop(started);
+    drop(called);
+    first && second
 }
 
 #[test]
@@ -260,10 +246,11 @@ fn replies_of_calls(rt: HostRuntime) {
 }
 
 // Whether this is the text of a refusal.
-fn refuses(rt: &impl Abort, alloc: Global, refusal: &SlateDBError, text: &str) -> bool {
-    let refusal = refusal.copy(alloc).expect(rt, "memory");
+fn refuses(rt: &impl Abort, alloc: Global, refusal: SlateDBError, text: &str) -> bool {
     let line = text_of(rt, alloc, "4 start 1 reply refused ", text, "\n");
-    starts(rt, alloc, Some(Reply::Refused(refusal)), line.as_str())
+    let good = starts(rt, alloc, Some(Reply::Refused(refusal)), line.as_str());
+    drop(line);
+    good
 }
 
 /// Refusals with their numbers, and one without.
@@ -304,14 +291,15 @@ const REFUSALS: [(SlateDBError, &str); 9] = [
 fn refusals_of_calls(rt: HostRuntime) {
     let alloc = rt.alloc();
     for (refusal, text) in &REFUSALS {
-        assert!(rt; refuses(&rt, alloc, refusal, *text), "at {text}");
+        let refusal = refusal.copy(alloc).expect(&rt, "memory");
+        assert!(rt; refuses(&rt, alloc, refusal, text), "at {text}");
     }
     let missing = SlateDBError::CheckpointMissing(CheckpointId::from_u64(8));
     assert!(rt;
         refuses(
             &rt,
             alloc,
-            &missing,
+            missing,
             "5 CheckpointMissing 00000000-0000-0000-0000-000000000008",
         )
     );
@@ -322,20 +310,26 @@ fn lines_of_all_entries(rt: HostRuntime) {
     let entries = [Entry::Opened { party: 7 }, Entry::Stopped { party: 7 }];
     let mut out = String::new(rt.alloc());
     push_entries(&mut out, &entries).expect(&rt, "memory");
-    push_entry(&mut out, 9, &Entry::Idle { party: 7 }).expect(&rt, "memory");
-    assert!(rt; out.as_str() == "0 open 7\n1 stop 7\n9 idle 7\n");
+    let idle = Entry::Idle { party: 7 };
+    push_entry(&mut out, 9, &idle).expect(&rt, "memory");
+    drop(idle);
+    drop(entries);
+    assert!(rt; is_text(out, "0 open 7\n1 stop 7\n9 idle 7\n"));
 }
+
+const LEFT: &str =
+    "left db/manifest/00000000000000000001.manifest\nleft db/gc/manifest.boundary\ndb/gc/manifest.boundary";
 
 #[test]
 fn lines_of_what_is_left(rt: HostRuntime) {
     let paths = [manifest(&rt, 1), boundary(&rt)];
     let mut out = String::new(rt.alloc());
     push_left(&mut out, &paths).expect(&rt, "memory");
-    push_path(&mut out, &boundary(&rt)).expect(&rt, "memory");
-    assert!(rt;
-        out.as_str()
-            == "left db/manifest/00000000000000000001.manifest\nleft db/gc/manifest.boundary\ndb/gc/manifest.boundary"
-    );
+    drop(paths);
+    let path = boundary(&rt);
+    push_path(&mut out, &path).expect(&rt, "memory");
+    drop(path);
+    assert!(rt; is_text(out, LEFT));
 }
 
 const PLACES: [(ScriptPlace, &str); 4] = [
@@ -348,7 +342,7 @@ const PLACES: [(ScriptPlace, &str); 4] = [
 fn is_place(rt: &impl Abort, alloc: Global, place: ScriptPlace, text: &str) -> bool {
     let mut out = String::new(alloc);
     push_place(&mut out, place).expect(rt, "memory");
-    out.as_str() == text
+    is_text(out, text)
 }
 
 const CAUSES: [(ClusterCause, &str); 7] = [
@@ -364,7 +358,7 @@ const CAUSES: [(ClusterCause, &str); 7] = [
 fn is_cause(rt: &impl Abort, alloc: Global, cause: ClusterCause, text: &str) -> bool {
     let mut out = String::new(alloc);
     push_cause(&mut out, cause).expect(rt, "memory");
-    out.as_str() == text
+    is_text(out, text)
 }
 
 #[test]

@@ -1,6 +1,6 @@
 //! First records of scripts.
 
-use crate::test_scripts::{push_ulid, script_of, text_of};
+use crate::test_scripts::{is_text, push_ulid, script_of, script_within, text_of};
 use slate_model::{Compaction, CompactionSpec, Compactions, SourceId, SsTableId};
 use slate_script::DbSpec;
 use std::alloc::{AllocError, Global};
@@ -93,7 +93,7 @@ fn has_record(rt: &impl Abort, alloc: Global, spec: &DbSpec, text: &str) -> bool
     if let Some(record) = &spec.compactions {
         push_record(&mut out, record).expect(rt, "memory");
     }
-    out.as_str() == text
+    is_text(out, text)
 }
 
 // Whether these tables stand in the store, after those of the run.
@@ -103,33 +103,36 @@ fn has_outputs(rt: &impl Abort, alloc: Global, spec: &DbSpec, text: &str) -> boo
         push_ulid(&mut out, " ", table.0).expect(rt, "memory");
     }
     let wanted = text_of(rt, alloc, " 7:7 9:2", text, "");
-    out.as_str() == wanted.as_str()
+    let same = is_text(out, wanted.as_str());
+    drop(wanted);
+    same
+}
+
+// Whether the one database has this record and these tables.
+fn reads(rt: &impl Abort, alloc: Global, record: &str, wanted: &str, tables: &str) -> bool {
+    let script = script_within(rt, alloc, BEFORE, record, AFTER);
+    let good = match script.databases.as_slice() {
+        [spec] => has_record(rt, alloc, spec, wanted) && has_outputs(rt, alloc, spec, tables),
+        _ => false,
+    };
+    drop(script);
+    good
 }
 
 #[test]
 fn records_as_they_are_read(rt: HostRuntime) {
-    let alloc = rt.alloc();
     for (record, wanted, tables) in &RECORDS {
-        let text = text_of(&rt, alloc, BEFORE, *record, AFTER);
-        let script = script_of(&rt, alloc, text.as_str());
-        for spec in script.databases.as_slice() {
-            assert!(rt; has_record(&rt, alloc, spec, *wanted), "at {record}");
-            assert!(rt; has_outputs(&rt, alloc, spec, *tables), "at {record}");
-        }
-        drop(script);
-        drop(text);
+        let good = reads(&rt, rt.alloc(), record, wanted, tables);
+        assert!(rt; good, "at {record}");
     }
 }
 
+const NEW: &str = r#"{"databases":[{"path":"a"}],"events":[]}"#;
+
 #[test]
 fn a_database_without_a_record(rt: HostRuntime) {
-    let script = script_of(
-        &rt,
-        rt.alloc(),
-        r#"{"databases":[{"path":"a"}],"events":[]}"#,
-    );
-    for spec in script.databases.as_slice() {
-        assert!(rt; spec.compactions.is_none());
-    }
+    let script = script_of(&rt, rt.alloc(), NEW);
+    let spec = script.databases.as_slice().first();
+    assert!(rt; spec.expect(&rt, "a database").compactions.is_none());
     drop(script);
 }

@@ -1,7 +1,7 @@
 //! Texts as scripts.
 
 use slate_ids::Ulid;
-use slate_script::{Script, ScriptError, read_script};
+use slate_script::{Script, ScriptError, ScriptPlace, read_script};
 use std::alloc::{AllocError, Global};
 use std::process::Abort;
 
@@ -25,6 +25,13 @@ pub(crate) fn push_ulid(out: &mut String, before: &str, id: Ulid) -> Result<(), 
     write!(out, "{before}{ms}:{tail}")
 }
 
+/// Whether this is the text.
+pub(crate) fn is_text(out: String, text: &str) -> bool {
+    let same = out.as_str() == text;
+    drop(out);
+    same
+}
+
 /// The script of a text that is one.
 pub(crate) fn script_of(rt: &impl Abort, alloc: Global, text: &str) -> Script {
     read_script(alloc, text.as_bytes()).expect(rt, "a script")
@@ -33,7 +40,10 @@ pub(crate) fn script_of(rt: &impl Abort, alloc: Global, text: &str) -> Script {
 /// Why a text is no script.
 pub(crate) fn refusal_of(alloc: Global, text: &str) -> Option<ScriptError> {
     match read_script(alloc, text.as_bytes()) {
-        Ok(_) => None,
+        Ok(script) => {
+            drop(script);
+            None
+        }
         Err(refusal) => Some(refusal),
     }
 }
@@ -47,5 +57,36 @@ pub(crate) fn refusal_within(
     after: &str,
 ) -> Option<ScriptError> {
     let whole = text_of(rt, alloc, before, text, after);
-    refusal_of(alloc, whole.as_str())
+    let refusal = refusal_of(alloc, whole.as_str());
+    drop(whole);
+    refusal
+}
+
+/// The script of a text that is one, with what stands before and after it.
+pub(crate) fn script_within(
+    rt: &impl Abort,
+    alloc: Global,
+    before: &str,
+    text: &str,
+    after: &str,
+) -> Script {
+    let whole = text_of(rt, alloc, before, text, after);
+    let script = script_of(rt, alloc, whole.as_str());
+    drop(whole);
+    script
+}
+
+/// Whether a text is no script for an item at this place, with what stands before and after it.
+pub(crate) fn is_bad_within(
+    rt: &impl Abort,
+    alloc: Global,
+    before: &str,
+    text: &str,
+    after: &str,
+    place: ScriptPlace,
+) -> bool {
+    match refusal_within(rt, alloc, before, text, after) {
+        Some(ScriptError::BadScript(found)) => found == place,
+        _ => false,
+    }
 }

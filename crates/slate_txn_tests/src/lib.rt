@@ -1,19 +1,36 @@
-//! Tests of logs and their holders, on public calls alone.
+//! Tests of ids, paths, ranges, refusals and stores, of logs and of their holders, on public calls alone. A case has rows of a call and
+//! its answer, which one interpreter goes through in order.
 #![tactic(auto)]
 
 #[cfg(test)]
-mod apply_tests;
+mod bytes_range_tests;
 #[cfg(test)]
-mod boundary_tests;
+mod call_tests;
 #[cfg(test)]
-mod create_tests;
+mod calls;
 #[cfg(test)]
-mod fenced_tests;
+mod copy_tests;
 #[cfg(test)]
-mod holder_tests;
+mod db_path_tests;
 #[cfg(test)]
-mod log_tests;
+mod error_tests;
 #[cfg(test)]
-mod raise_tests;
+mod memory_store_tests;
+#[cfg(test)]
+mod object_path_tests;
+#[cfg(test)]
+mod performing_tests;
+#[cfg(test)]
+mod phase_tests;
+#[cfg(test)]
+mod reading_tests;
+#[cfg(test)]
+mod steps;
 #[cfg(test)]
 mod test_logs;
+#[cfg(test)]
+mod test_values;
+#[cfg(test)]
+mod ulid_tests;
+#[cfg(test)]
+mod writing_tests;

@@ -7,7 +7,7 @@ use slate_ids::{
 };
 use slate_log::{CommitPhase, LogKind, Right, Rules, Sequenced, prepare};
 use slate_store::{MemoryStore, ObjectStore, Step, StoreCall};
-use slate_txn::Stored;
+use slate_txn::{Fenced, Stored};
 use std::alloc::Global;
 use std::process::Abort;
 
@@ -94,15 +94,26 @@ pub(crate) type Log = Sequenced<(u64, u64), Codec>;
 
 pub(crate) type Holder = Stored<(u64, u64), Codec, Rising>;
 
+pub(crate) type FencedHolder = Fenced<Value, Codec, Rising, First>;
+
 /// The numbers of versions, and their bytes.
 pub(crate) type Versions = &'static [(u64, [u8; 2])];
 
+/// The path of the database.
+pub(crate) fn db(rt: &impl Abort) -> DbPath {
+    DbPath::from_text("db")
+        .expect(rt, "memory")
+        .expect(rt, "a path of a database")
+}
+
 /// The log of manifests of a database.
 pub(crate) fn log(rt: &impl Abort) -> Log {
-    let db = DbPath::from_text("db")
-        .expect(rt, "memory")
-        .expect(rt, "a path of a database");
-    Sequenced::new(db, LogKind::Manifest, Codec)
+    Sequenced::new(db(rt), LogKind::Manifest, Codec)
+}
+
+fn put(rt: &impl Abort, alloc: Global, store: &mut MemoryStore, path: ObjectPath, bytes: &[u8]) {
+    store.put(alloc, &path, bytes, 7).expect(rt, "memory");
+    drop(path);
 }
 
 /// A store in which the log has these versions, and the boundary where there is one.
@@ -112,32 +123,22 @@ pub(crate) fn store_with(
     versions: &[(u64, [u8; 2])],
     boundary: Option<&str>,
 ) -> MemoryStore {
-    let db = log(rt).db;
+    let db = db(rt);
     let mut store = MemoryStore::new(alloc, Vec::new(alloc));
     for (number, bytes) in versions {
-        store
-            .put(alloc, &ObjectPath::Manifest(db, *number), bytes, 7)
-            .expect(rt, "memory");
+        put(
+            rt,
+            alloc,
+            &mut store,
+            ObjectPath::Manifest(db, *number),
+            bytes,
+        );
     }
     if let Some(text) = boundary {
-        store
-            .put(alloc, &ObjectPath::ManifestBoundary(db), text.as_bytes(), 7)
-            .expect(rt, "memory");
+        let path = ObjectPath::ManifestBoundary(db);
+        put(rt, alloc, &mut store, path, text.as_bytes());
     }
     store
-}
-
-/// The latest version of the log.
-pub(crate) fn latest(rt: &impl Abort, alloc: Global, store: &mut MemoryStore) -> (u64, Value) {
-    log(rt)
-        .read_latest(alloc, store, 1)
-        .expect(rt, "memory")
-        .expect(rt, "a version")
-}
-
-/// A holder of the log's latest version.
-pub(crate) fn load(rt: &impl Abort, alloc: Global, store: &mut MemoryStore) -> Holder {
-    Stored::load(alloc, store, log(rt), Rising, 1).expect(rt, "memory")
 }
 
 /// The commit of a value that follows `(0, 5)`, version 1.
@@ -155,26 +156,26 @@ pub(crate) fn puts(call: &StoreCall, number: Option<u64>, bytes: &[u8]) -> bool 
     }
 }
 
-/// The number of the refusal, or 0.
-pub(crate) fn code<T: Drop>(reply: Result<T, SlateDBError>) -> u8 {
-    match reply {
-        Ok(_) => 0,
-        Err(e) => e.code(),
-    }
-}
-
 /// Whether a machine goes on.
 pub(crate) fn goes_on<T: Drop>(step: Step<T>) -> bool {
     match step {
         Step::Again => true,
-        Step::Done(_) => false,
+        Step::Done(reply) => {
+            drop(reply);
+            false
+        }
     }
 }
 
 /// What a machine answers that ends here.
-pub(crate) fn ended<T: Drop>(rt: &impl Abort, step: Step<T>) -> T {
+pub(crate) fn end<T: Drop>(rt: &impl Abort, step: Step<T>) -> Result<T, SlateDBError> {
     match step {
-        Step::Done(reply) => reply.expect(rt, "an answer"),
+        Step::Done(reply) => reply,
         Step::Again => None.expect(rt, "an end"),
     }
+}
+
+/// What it answers well.
+pub(crate) fn ended<T: Drop>(rt: &impl Abort, step: Step<T>) -> T {
+    end(rt, step).expect(rt, "an answer")
 }

@@ -1,15 +1,18 @@
 //! Changes of a manifest: their floors and their fences.
 
-use slate_ids::{CheckpointId, Listed, SlateDBError, Ulid};
+use crate::number_tests::no_tables;
+use crate::test_values::With::{Expires, Floor, Marker, Writer};
+use crate::test_values::manifest_of;
+use slate_ids::{CheckpointId, SlateDBError};
 use slate_layout::ManifestCodec;
 use slate_log::{CommitPhase, Right};
-use slate_model::{Checkpoint, CheckpointOptions, Manifest, ManifestCore};
-use slate_updates::{FlushBatch, ManifestChange};
+use slate_model::{CheckpointOptions, Manifest};
+use slate_updates::ManifestChange;
 use std::alloc::Global;
 use std::process::Abort;
 
 /// A change of a manifest that has checkpoint 3.
-#[derive(Clone, Copy, Debug)]
+#[derive(Clone, Copy)]
 enum Put {
     Raise,
     /// By the writer of this epoch.
@@ -48,17 +51,6 @@ fn plain() -> CheckpointOptions {
     }
 }
 
-/// A flush of no table, at the number 6 and the tick 50.
-fn no_tables(alloc: Global) -> FlushBatch {
-    FlushBatch {
-        tables: Listed::new(alloc),
-        replay_after: 0,
-        next_wal: 1,
-        seq: 6,
-        tick: 50,
-    }
-}
-
 fn change(alloc: Global, put: Put) -> ManifestChange {
     let three = CheckpointId::from_u64(3);
     let nine = CheckpointId::from_u64(9);
@@ -66,7 +58,7 @@ fn change(alloc: Global, put: Put) -> ManifestChange {
         Put::Raise => ManifestChange::RaiseWriter,
         Put::Flush(writer) => ManifestChange::Flush {
             writer,
-            batch: no_tables(alloc),
+            batch: no_tables(alloc, 6, 50),
         },
         Put::Write => ManifestChange::WriteCheckpoint {
             id: nine,
@@ -88,23 +80,8 @@ fn change(alloc: Global, put: Put) -> ManifestChange {
 
 /// A manifest with writer epoch 2, this floor, watermark 5, and checkpoint 3.
 fn marked(rt: &impl Abort, alloc: Global, floor: u64) -> Manifest {
-    let mut manifest = Manifest::initial(alloc, ManifestCore::new(alloc));
-    manifest.writer_epoch = 2;
-    manifest.core.floor = floor;
-    manifest.core.tree.last_compacted_l0_sst_view_id = Some(Ulid::from_parts(5, 1));
-    let checkpoint = Checkpoint {
-        id: CheckpointId::from_u64(3),
-        manifest_id: 3,
-        expire_time: Some(1000),
-        create_time: 0,
-        name: None,
-    };
-    manifest
-        .core
-        .checkpoints
-        .push(checkpoint)
-        .expect(rt, "memory");
-    manifest
+    let parts = [Writer(2), Floor(floor), Marker(5), Expires(3, 1000)];
+    manifest_of(rt, alloc, &[&parts])
 }
 
 fn floor_of(made: &Result<Option<Manifest>, SlateDBError>) -> Option<u64> {
@@ -117,14 +94,18 @@ fn floor_of(made: &Result<Option<Manifest>, SlateDBError>) -> Option<u64> {
 /// The floor of what a change makes of version 7.
 fn floor_after(rt: &impl Abort, alloc: Global, put: Put, floor: u64) -> Option<u64> {
     let manifest = marked(rt, alloc, floor);
-    floor_of(&change(alloc, put).make(alloc, 1000, 7, &manifest))
+    let made = change(alloc, put).make(alloc, 1000, 7, &manifest);
+    drop(manifest);
+    let floor = floor_of(&made);
+    drop(made);
+    floor
 }
 
 #[test]
 fn changes_raise_the_floor(rt: HostRuntime) {
-    for (put, floor, wanted) in &FLOORS {
+    for (row, (put, floor, wanted)) in FLOORS.iter().enumerate() {
         let made = floor_after(&rt, rt.alloc(), *put, *floor);
-        assert!(rt; made == Some(*wanted), "{put:?} {floor}");
+        assert!(rt; made == Some(*wanted), "at row {row}");
     }
 }
 
@@ -147,7 +128,11 @@ fn told(commit: &Result<Option<CommitPhase<Manifest>>, SlateDBError>) -> u8 {
 /// The number of the refusal of a change's commit after version 7.
 fn refusal_of(rt: &impl Abort, alloc: Global, put: Put) -> u8 {
     let manifest = marked(rt, alloc, 0);
-    told(&change(alloc, put).commit(alloc, &ManifestCodec, 1000, 7, &manifest))
+    let commit = change(alloc, put).commit(alloc, &ManifestCodec, 1000, 7, &manifest);
+    drop(manifest);
+    let code = told(&commit);
+    drop(commit);
+    code
 }
 
 #[test]
@@ -162,9 +147,14 @@ fn stale_writers_are_refused(rt: HostRuntime) {
 
 /// Whether a version with writer epoch 2 has no fence for a change.
 fn passes(rt: &impl Abort, alloc: Global, put: Put) -> bool {
-    change(alloc, put)
-        .refusal_at(&marked(rt, alloc, 0))
-        .is_none()
+    let change = change(alloc, put);
+    let manifest = marked(rt, alloc, 0);
+    let refusal = change.refusal_at(&manifest);
+    drop(manifest);
+    drop(change);
+    let is_none = refusal.is_none();
+    drop(refusal);
+    is_none
 }
 
 #[test]
@@ -174,7 +164,16 @@ fn flushes_alone_have_a_fence(rt: HostRuntime) {
     assert!(rt; !passes(&rt, rt.alloc(), Put::Flush(Some(1))));
 }
 
+fn is_plain(alloc: Global, put: Put) -> bool {
+    let change = change(alloc, put);
+    let right = change.right();
+    drop(change);
+    let is_so = matches!(&right, Right::Plain);
+    drop(right);
+    is_so
+}
+
 #[test]
 fn changes_have_the_plain_right(rt: HostRuntime) {
-    assert!(rt; matches!(change(rt.alloc(), Put::Write).right(), Right::Plain));
+    assert!(rt; is_plain(rt.alloc(), Put::Write));
 }

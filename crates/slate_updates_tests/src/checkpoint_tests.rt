@@ -1,5 +1,7 @@
 //! What the checkpoint calls and a pass make of a manifest.
 
+use crate::test_values::With::{Expires, Names};
+use crate::test_values::manifest_of;
 use slate_ids::{CheckpointId, Millis, SlateDBError, Text};
 use slate_model::{Checkpoint, CheckpointOptions, Manifest, ManifestCore};
 use slate_updates::{
@@ -50,39 +52,16 @@ const MADE: [(Call, Option<Ends>, u8); 17] = [
     (Call::Expire(101), Some((1, 5, None, 5)), 0),
 ];
 
-/// Adds a checkpoint that names the version of its number.
-fn add(rt: &impl Abort, manifest: &mut Manifest, number: u64, expire_time: Option<Millis>) {
-    let checkpoint = Checkpoint {
-        id: CheckpointId::from_u64(number),
-        manifest_id: number,
-        expire_time,
-        create_time: 0,
-        name: None,
-    };
-    manifest
-        .core
-        .checkpoints
-        .push(checkpoint)
-        .expect(rt, "memory");
-}
-
 /// A manifest with checkpoints 3 and 5, of which 3 expires at moment 100.
 fn with_two(rt: &impl Abort, alloc: Global) -> Manifest {
-    let mut manifest = Manifest::initial(alloc, ManifestCore::new(alloc));
-    add(rt, &mut manifest, 3, Some(100));
-    add(rt, &mut manifest, 5, None);
-    manifest
+    manifest_of(rt, alloc, &[&[Expires(3, 100), Names(5)]])
 }
 
 /// Options with this source.
 fn of_source(source: Option<u64>) -> CheckpointOptions {
-    let source = match source {
-        None => None,
-        Some(number) => Some(CheckpointId::from_u64(number)),
-    };
     CheckpointOptions {
         lifetime: None,
-        source,
+        source: source.map(CheckpointId::from_u64),
         name: None,
     }
 }
@@ -131,11 +110,25 @@ fn told(made: &Result<Option<Manifest>, SlateDBError>) -> (Option<Ends>, u8) {
     }
 }
 
+/// What a call tells, which is used up.
+fn told_by(made: Result<Option<Manifest>, SlateDBError>) -> (Option<Ends>, u8) {
+    let all = told(&made);
+    drop(made);
+    all
+}
+
+/// What a call on the manifest with two checkpoints makes.
+fn made(rt: &impl Abort, alloc: Global, call: Call) -> (Option<Ends>, u8) {
+    let manifest = with_two(rt, alloc);
+    let made = makes(alloc, call, &manifest);
+    drop(manifest);
+    told_by(made)
+}
+
 #[test]
 fn calls_make_these_checkpoints(rt: HostRuntime) {
-    let manifest = with_two(&rt, rt.alloc());
     for (row, (call, ends, refusal)) in MADE.iter().enumerate() {
-        let made = told(&makes(rt.alloc(), *call, &manifest));
+        let made = made(&rt, rt.alloc(), *call);
         assert!(rt; made.0 == *ends && made.1 == *refusal, "at row {row}");
     }
 }
@@ -149,26 +142,11 @@ fn without(alloc: Global, initialized: bool) -> Manifest {
 
 /// The refusal's number of a write of checkpoint 9 into a manifest without checkpoints.
 fn write_into(alloc: Global, initialized: bool, n: u64) -> u8 {
-    refusal_of(alloc, n, &without(alloc, initialized))
-}
-
-fn refusal_of(alloc: Global, n: u64, manifest: &Manifest) -> u8 {
-    told(&makes_of_version(alloc, n, manifest)).1
-}
-
-fn makes_of_version(
-    alloc: Global,
-    n: u64,
-    manifest: &Manifest,
-) -> Result<Option<Manifest>, SlateDBError> {
-    write_checkpoint(
-        alloc,
-        CheckpointId::from_u64(9),
-        of_source(None),
-        1000,
-        n,
-        manifest,
-    )
+    let manifest = without(alloc, initialized);
+    let id = CheckpointId::from_u64(9);
+    let made = write_checkpoint(alloc, id, of_source(None), 1000, n, &manifest);
+    drop(manifest);
+    told_by(made).1
 }
 
 #[test]
@@ -216,22 +194,18 @@ fn ends_with_that(made: &Result<Option<Manifest>, SlateDBError>, name: &str) -> 
     }
 }
 
-/// Whether a checkpoint of these options is written.
-fn is_written(alloc: Global, options: CheckpointOptions, manifest: &Manifest) -> bool {
-    let id = CheckpointId::from_u64(9);
-    ends_with_that(
-        &write_checkpoint(alloc, id, options, 1000, 7, manifest),
-        "pin",
-    )
-}
-
 /// Whether a checkpoint with a name and a lifetime is written.
-fn is_pinned(rt: &impl Abort, alloc: Global, manifest: &Manifest) -> bool {
-    is_written(alloc, named(rt, alloc, "pin"), manifest)
+fn is_pinned(rt: &impl Abort, alloc: Global) -> bool {
+    let manifest = with_two(rt, alloc);
+    let id = CheckpointId::from_u64(9);
+    let made = write_checkpoint(alloc, id, named(rt, alloc, "pin"), 1000, 7, &manifest);
+    drop(manifest);
+    let is_so = ends_with_that(&made, "pin");
+    drop(made);
+    is_so
 }
 
 #[test]
 fn a_written_checkpoint_has_its_options(rt: HostRuntime) {
-    let manifest = with_two(&rt, rt.alloc());
-    assert!(rt; is_pinned(&rt, rt.alloc(), &manifest));
+    assert!(rt; is_pinned(&rt, rt.alloc()));
 }

@@ -65,28 +65,38 @@ const CUTOFF: [(&[With], &[With], Option<(i64, i64)>); 18] = [
     (&[Floor(400)], &[Run(100)], None),
 ];
 
+/// The ticks of a refusal; (-1, -1) for another refusal.
+fn ticks_in(checked: &Result<(), SlateDBError>) -> Option<(i64, i64)> {
+    match checked {
+        Ok(()) => None,
+        Err(e) => match e {
+            SlateDBError::InvalidClockTick {
+                last_tick,
+                next_tick,
+            } => Some((*last_tick, *next_tick)),
+            _ => Some((-1, -1)),
+        },
+    }
+}
+
 /// The ticks of the refusal of a dirty manifest after the current one; (-1, -1) for another refusal.
 fn ticks(rt: &impl Abort, alloc: Global, current: &[With], dirty: &[With]) -> Option<(i64, i64)> {
     let current = manifest_of(rt, alloc, &[current]);
     let dirty = manifest_of(rt, alloc, &[dirty]);
-    match l0_ulid_cutoff(alloc, &dirty, &current) {
-        Ok(()) => None,
-        Err(
-            SlateDBError::InvalidClockTick {
-                last_tick,
-                next_tick,
-            },
-        ) => { Some((last_tick, next_tick)) }
-        Err(_) => Some((-1, -1)),
-    }
+    let checked = l0_ulid_cutoff(alloc, &dirty, &current);
+    drop(dirty);
+    drop(current);
+    let found = ticks_in(&checked);
+    drop(checked);
+    found
 }
 
 #[test]
 fn new_tables_are_from_the_floor_and_the_watermark_on(rt: HostRuntime) {
-    for (current, dirty, refused) in &CUTOFF {
+    for (row, (current, dirty, refused)) in CUTOFF.iter().enumerate() {
         assert!(rt;
             ticks(&rt, rt.alloc(), current, dirty) == *refused,
-            "{current:?}, then {dirty:?}"
+            "at row {row}"
         );
     }
 }

@@ -1,10 +1,8 @@
 //! Entries of other databases: none is new, none gains a table, and none loses one in use.
 
 use crate::test_values::With::{Entry, Run, Segment, Table};
-use crate::test_values::{With, broken, manifest_of};
+use crate::test_values::{With, broken};
 use slate_log::Right;
-use std::alloc::Global;
-use std::process::Abort;
 
 /// What the old manifest has, what the new one has, and whether it passes.
 const ENTRIES: [(&[With], &[With], bool); 18] = [
@@ -109,26 +107,23 @@ const ENTRIES: [(&[With], &[With], bool); 18] = [
     ),
 ];
 
-/// The rule that is broken under a right.
-fn broken_with(rt: &impl Abort, alloc: Global, old: &[With], new: &[With], right: &Right) -> u8 {
-    let old = manifest_of(rt, alloc, &[old]);
-    let new = manifest_of(rt, alloc, &[new]);
-    broken(alloc, &old, &new, right)
-}
-
 #[test]
 fn entries_are_kept(rt: HostRuntime) {
-    for (old, new, passes) in &ENTRIES {
+    for (row, (old, new, passes)) in ENTRIES.iter().enumerate() {
         let rule = if *passes { 0 } else { 3 };
-        assert!(rt;
-            broken_with(&rt, rt.alloc(), old, new, &Right::Plain) == rule,
-            "{old:?}, then {new:?}"
-        );
+        let found = broken(&rt, rt.alloc(), &[*old], &[*new], &Right::Plain);
+        assert!(rt; found == rule, "at row {row}");
     }
 }
 
 #[test]
 fn an_entry_is_as_new_under_the_right_to_attach(rt: HostRuntime) {
-    let new = [Entry("src", None, 1, &[5])];
-    assert!(rt; broken_with(&rt, rt.alloc(), &[], &new, &Right::Attach) == 3);
+    let found = broken(
+        &rt,
+        rt.alloc(),
+        &[],
+        &[&[Entry("src", None, 1, &[5])]],
+        &Right::Attach,
+    );
+    assert!(rt; found == 3);
 }

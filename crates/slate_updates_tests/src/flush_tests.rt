@@ -76,15 +76,15 @@ fn push_tree(rt: &impl Abort, text: &mut String, prefix: &str, tree: &LsmTreeSta
     text.push_str(prefix).expect(rt, "memory");
     text.push_str(": ").expect(rt, "memory");
     for view in tree.l0.as_deque().iter() {
-        let written = match view.sst.id {
-            SsTableId::Wal(number) => format!(in *text.allocator(); "w{number} "),
-            SsTableId::Compacted(id) => {
-                let moment = id.timestamp_ms();
-                format!(in *text.allocator(); "{moment} ")
-            }
-        };
-        let written = written.expect(rt, "memory");
-        text.push_str(written.as_str()).expect(rt, "memory");
+        push_table(rt, text, view.sst.id);
+    }
+}
+
+/// Adds a file's number after `w`, or a table's moment.
+fn push_table(rt: &impl Abort, text: &mut String, id: SsTableId) {
+    match id {
+        SsTableId::Wal(number) => write!(text, "w{number} ").expect(rt, "memory"),
+        SsTableId::Compacted(id) => write!(text, "{} ", id.timestamp_ms()).expect(rt, "memory"),
     }
 }
 
@@ -113,13 +113,23 @@ fn has_numbers(manifest: &Manifest) -> bool {
 fn flushes_to(
     rt: &impl Abort,
     alloc: Global,
-    withs: &&[With],
+    withs: &[With],
     rows: &[Row],
     expected: &str,
 ) -> bool {
-    let old = manifest_of(rt, alloc, &[*withs]);
+    let old = manifest_of(rt, alloc, &[withs]);
     let new = flush_tables(alloc, batch(rt, alloc, rows), &old).expect(rt, "memory");
-    has_numbers(&new) && trees_text(rt, alloc, &new).as_str() == expected
+    drop(old);
+    has_numbers(&new) & has_trees(rt, alloc, new, expected)
+}
+
+/// Whether a manifest, which is used up, has trees of this text.
+fn has_trees(rt: &impl Abort, alloc: Global, manifest: Manifest, expected: &str) -> bool {
+    let text = trees_text(rt, alloc, &manifest);
+    drop(manifest);
+    let is_so = text.as_str() == expected;
+    drop(text);
+    is_so
 }
 
 #[test]
@@ -136,7 +146,10 @@ fn a_flush_puts_new_tables_in_front_of_their_prefixes(rt: HostRuntime) {
 fn a_flush_may_lower_what_the_rules_then_refuse(rt: HostRuntime) {
     let old = manifest_of(&rt, rt.alloc(), &[&[With::Replay(9)]]);
     let new = flush_tables(rt.alloc(), batch(&rt, rt.alloc(), &[]), &old).expect(&rt, "memory");
-    assert!(rt; new.core.replay_after_wal_id == 3);
+    drop(old);
+    let replay = new.core.replay_after_wal_id;
+    drop(new);
+    assert!(rt; replay == 3);
 }
 
 #[test]
@@ -145,11 +158,12 @@ fn a_flush_first_merges_the_manifest_with_itself(rt: HostRuntime) {
     old.core.tree.last_compacted_l0_sst_id = Some(Ulid::from_parts(4, 0));
     let rows = [(5, 50, ""), (6, 60, ""), (4, 70, "")];
     let new = flush_tables(rt.alloc(), batch(&rt, rt.alloc(), &rows), &old).expect(&rt, "memory");
-    assert!(rt; trees_text(&rt, rt.alloc(), &new).as_str() == ": 4 5 6 ");
+    drop(old);
+    assert!(rt; has_trees(&rt, rt.alloc(), new, ": 4 5 6 "));
 }
 
 /// What a commit comes to.
-#[derive(Clone, Copy, Debug)]
+#[derive(Clone, Copy)]
 enum Told {
     /// It puts the next version.
     Put,
@@ -196,17 +210,37 @@ const COMMITS: [(&[With], &[Row], Told); 9] = [
 
 /// Whether a refusal is this one.
 fn is_refusal(e: &SlateDBError, told: Told) -> bool {
-    match (e, told) {
-        (SlateDBError::UpdateRefused(UpdateRule::U1), Told::Lowered) => true,
-        (
-            SlateDBError::InvalidClockTick {
-                last_tick,
-                next_tick,
-            },
-            Told::Late(least, late),
-        ) => { *last_tick == least && *next_tick == late }
-        (SlateDBError::InvalidSegmentPrefix { prefix, conflict }, Told::Nested(longer, shorter)) =>
-            { prefix.as_slice() == longer.as_bytes() && conflict.as_slice() == shorter.as_bytes() }
+    match told {
+        Told::Put => false,
+        Told::Lowered => is_lowered(e),
+        Told::Late(least, late) => is_late(e, least, late),
+        Told::Nested(longer, shorter) => is_nested(e, longer, shorter),
+    }
+}
+
+fn is_lowered(e: &SlateDBError) -> bool {
+    match e {
+        SlateDBError::UpdateRefused(rule) => *rule == UpdateRule::U1,
+        _ => false,
+    }
+}
+
+fn is_late(e: &SlateDBError, least: i64, late: i64) -> bool {
+    match e {
+        SlateDBError::InvalidClockTick {
+            last_tick,
+            next_tick,
+        } => *last_tick == least && *next_tick == late,
+        _ => false,
+    }
+}
+
+/// Whether a refusal names this pair of prefixes.
+pub(crate) fn is_nested(e: &SlateDBError, longer: &str, shorter: &str) -> bool {
+    match e {
+        SlateDBError::InvalidSegmentPrefix { prefix, conflict } => {
+            prefix.as_slice() == longer.as_bytes() && conflict.as_slice() == shorter.as_bytes()
+        }
         _ => false,
     }
 }
@@ -223,23 +257,39 @@ fn comes_to(commit: &Result<Option<CommitPhase<Manifest>>, SlateDBError>, told: 
 fn commit_of(
     rt: &impl Abort,
     alloc: Global,
-    withs: &&[With],
+    withs: &[With],
     rows: &[Row],
 ) -> Result<Option<CommitPhase<Manifest>>, SlateDBError> {
-    let old = manifest_of(rt, alloc, &[*withs]);
+    let old = manifest_of(rt, alloc, &[withs]);
     let change = ManifestChange::Flush {
         writer: Some(0),
         batch: batch(rt, alloc, rows),
     };
-    change.commit(alloc, &ManifestCodec, 1000, 7, &old)
+    let commit = change.commit(alloc, &ManifestCodec, 1000, 7, &old);
+    drop(old);
+    commit
+}
+
+/// Whether the commit of a flush of these tables after version 7 comes to this.
+fn flush_comes_to(
+    rt: &impl Abort,
+    alloc: Global,
+    withs: &[With],
+    rows: &[Row],
+    told: Told,
+) -> bool {
+    let commit = commit_of(rt, alloc, withs, rows);
+    let is_so = comes_to(&commit, told);
+    drop(commit);
+    is_so
 }
 
 #[test]
 fn the_rules_see_what_a_flush_puts(rt: HostRuntime) {
-    for (withs, rows, told) in &COMMITS {
+    for (row, (withs, rows, told)) in COMMITS.iter().enumerate() {
         assert!(rt;
-            comes_to(&commit_of(&rt, rt.alloc(), withs, rows), *told),
-            "{told:?}"
+            flush_comes_to(&rt, rt.alloc(), withs, rows, *told),
+            "at row {row}"
         );
     }
 }

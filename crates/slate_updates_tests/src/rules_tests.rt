@@ -1,5 +1,6 @@
 //! The rules alone and in pairs: the first that is broken is answered.
 
+use crate::flush_tests::is_nested;
 use crate::test_values::With::{
     Compactor, Entry, Floor, Names, Replay, Run, Segment, Table, Writer,
 };
@@ -70,27 +71,22 @@ const NESTED: [(&[With], Option<(&str, &str)>); 5] = [
 
 /// The rule that version 7 with these breaks after version 7.
 fn broken_by(rt: &impl Abort, alloc: Global, one: &[With], other: &[With]) -> u8 {
-    let old = manifest_of(rt, alloc, &[&OLD]);
-    let new = manifest_of(rt, alloc, &[&OLD, one, other]);
-    broken(alloc, &old, &new, &Right::Plain)
+    broken(rt, alloc, &[&OLD], &[&OLD, one, other], &Right::Plain)
 }
 
 #[test]
 fn what_keeps_the_rules_passes(rt: HostRuntime) {
-    for keeps in &KEEPS {
-        assert!(rt;
-            broken_by(&rt, rt.alloc(), keeps, &[]) == 0,
-            "with {keeps:?}"
-        );
+    for (row, keeps) in KEEPS.iter().enumerate() {
+        assert!(rt; broken_by(&rt, rt.alloc(), keeps, &[]) == 0, "at row {row}");
     }
 }
 
 #[test]
 fn a_rule_that_is_broken_alone_is_answered(rt: HostRuntime) {
-    for (rule, breaks) in &BREAKS {
+    for (row, (rule, breaks)) in BREAKS.iter().enumerate() {
         assert!(rt;
             broken_by(&rt, rt.alloc(), breaks, &[]) == *rule,
-            "with {breaks:?}"
+            "at row {row}"
         );
     }
 }
@@ -107,31 +103,38 @@ fn first_is_answered(rt: &impl Abort, alloc: Global, rule: u8, breaks: &[With]) 
 
 #[test]
 fn of_two_broken_rules_the_first_is_answered(rt: HostRuntime) {
-    for (rule, breaks) in &BREAKS {
+    for (row, (rule, breaks)) in BREAKS.iter().enumerate() {
         assert!(rt;
             first_is_answered(&rt, rt.alloc(), *rule, breaks),
-            "with {breaks:?}"
+            "at row {row}"
         );
+    }
+}
+
+/// Whether an answer refuses this pair of prefixes, or none.
+fn tells(answer: &Result<(), SlateDBError>, pair: Option<(&str, &str)>) -> bool {
+    match answer {
+        Ok(()) => pair.is_none(),
+        Err(e) => match pair {
+            None => false,
+            Some((longer, shorter)) => is_nested(e, longer, shorter),
+        },
     }
 }
 
 /// Whether these segments are refused with this pair of prefixes, or pass without one.
 fn is_refused(rt: &impl Abort, alloc: Global, parts: &[With], pair: Option<(&str, &str)>) -> bool {
-    match (
-        check_prefixes(alloc, &manifest_of(rt, alloc, &[parts])),
-        pair,
-    ) {
-        (Ok(()), None) => true,
-        (Err(SlateDBError::InvalidSegmentPrefix { prefix, conflict }), Some((longer, shorter))) => {
-            prefix.as_slice() == longer.as_bytes() && conflict.as_slice() == shorter.as_bytes()
-        }
-        _ => false,
-    }
+    let manifest = manifest_of(rt, alloc, &[parts]);
+    let answer = check_prefixes(alloc, &manifest);
+    drop(manifest);
+    let is_so = tells(&answer, pair);
+    drop(answer);
+    is_so
 }
 
 #[test]
 fn the_first_prefix_that_begins_with_the_one_before_is_named(rt: HostRuntime) {
-    for (parts, pair) in &NESTED {
-        assert!(rt; is_refused(&rt, rt.alloc(), parts, *pair), "with {parts:?}");
+    for (row, (parts, pair)) in NESTED.iter().enumerate() {
+        assert!(rt; is_refused(&rt, rt.alloc(), parts, *pair), "at row {row}");
     }
 }

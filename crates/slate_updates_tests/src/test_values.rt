@@ -1,7 +1,7 @@
 //! Manifests, for tests of the rules on new versions.
 
 use bytes::Bytes;
-use slate_ids::{CheckpointId, DbPath, Listed, SlateDBError, Ulid, UpdateRule};
+use slate_ids::{CheckpointId, DbPath, Listed, Millis, SlateDBError, Ulid, UpdateRule};
 use slate_log::{Right, Rules};
 use slate_model::{
     Checkpoint, ExternalDb, LsmTreeState, Manifest, ManifestCore, Segment, SortedRun,
@@ -12,7 +12,7 @@ use std::alloc::Global;
 use std::process::Abort;
 
 /// What a manifest has beside what a new one has.
-#[derive(Clone, Copy, Debug)]
+#[derive(Clone, Copy)]
 pub(crate) enum With {
     /// The epoch of the writer.
     Writer(u64),
@@ -24,6 +24,8 @@ pub(crate) enum With {
     Floor(u64),
     /// One checkpoint more, of this version.
     Names(u64),
+    /// The same, which expires then.
+    Expires(u64, Millis),
     /// One older view in the root's L0, of the table of this moment and tail.
     Table(u32, u32),
     /// The same of a file of the write-ahead log.
@@ -60,15 +62,29 @@ fn run_of(rt: &impl Abort, alloc: Global, moment: u32) -> SortedRun {
     SortedRun::new(3, views)
 }
 
-/// A checkpoint of a version.
-fn checkpoint_of(version: u64) -> Checkpoint {
+/// A checkpoint of a version, whose id is its number.
+fn checkpoint_of(version: u64, expire_time: Option<Millis>) -> Checkpoint {
     Checkpoint {
         id: CheckpointId::from_u64(version),
         manifest_id: version,
-        expire_time: None,
+        expire_time,
         create_time: 0,
         name: None,
     }
+}
+
+/// Adds a checkpoint that names the version of its number.
+fn add_checkpoint(
+    rt: &impl Abort,
+    manifest: &mut Manifest,
+    version: u64,
+    expire_time: Option<Millis>,
+) {
+    manifest
+        .core
+        .checkpoints
+        .push(checkpoint_of(version, expire_time))
+        .expect(rt, "memory");
 }
 
 /// A segment with these tables in its L0.
@@ -150,12 +166,8 @@ fn add_table(rt: &impl Abort, alloc: Global, tree: &mut LsmTreeState, with: With
 /// Adds a checkpoint or an entry, where it is one.
 fn add_item(rt: &impl Abort, alloc: Global, manifest: &mut Manifest, with: With) {
     match with {
-        With::Names(version) => {
-            let checkpoints = &mut manifest.core.checkpoints;
-            checkpoints
-                .push(checkpoint_of(version))
-                .expect(rt, "memory");
-        }
+        With::Names(version) => add_checkpoint(rt, manifest, version, None),
+        With::Expires(version, moment) => add_checkpoint(rt, manifest, version, Some(moment)),
         With::Entry(path, pin, source, moments) => {
             let entry = entry_of(rt, path, pin, source, tables(rt, alloc, moments));
             manifest.external_dbs.push(entry).expect(rt, "memory");
@@ -168,25 +180,34 @@ fn add_item(rt: &impl Abort, alloc: Global, manifest: &mut Manifest, with: With)
 fn segments_of(rt: &impl Abort, alloc: Global, parts: &[&[With]]) -> Vec<Segment> {
     let mut segments = Vec::new(alloc);
     for part in parts {
-        for with in *part {
-            if let With::Segment(prefix, l0) = with {
-                let segment = segment_of(rt, alloc, prefix, l0);
-                segments.push(segment).expect(rt, "memory");
-            }
-        }
+        add_segments(rt, alloc, &mut segments, part);
     }
     segments
+}
+
+fn add_segments(rt: &impl Abort, alloc: Global, segments: &mut Vec<Segment>, part: &[With]) {
+    for with in part {
+        if let With::Segment(prefix, l0) = with {
+            let segment = segment_of(rt, alloc, prefix, l0);
+            segments.push(segment).expect(rt, "memory");
+        }
+    }
+}
+
+/// Adds all but segments.
+fn add_part(rt: &impl Abort, alloc: Global, manifest: &mut Manifest, part: &[With]) {
+    for with in part {
+        set_number(manifest, *with);
+        add_table(rt, alloc, &mut manifest.core.tree, *with);
+        add_item(rt, alloc, manifest, *with);
+    }
 }
 
 /// A manifest with these, part by part.
 pub(crate) fn manifest_of(rt: &impl Abort, alloc: Global, parts: &[&[With]]) -> Manifest {
     let mut manifest = Manifest::initial(alloc, ManifestCore::new(alloc));
     for part in parts {
-        for with in *part {
-            set_number(&mut manifest, *with);
-            add_table(rt, alloc, &mut manifest.core.tree, *with);
-            add_item(rt, alloc, &mut manifest, *with);
-        }
+        add_part(rt, alloc, &mut manifest, part);
     }
     let segments = segments_of(rt, alloc, parts);
     assert!(rt; Segment::are_ascending(segments.as_slice()));
@@ -208,7 +229,20 @@ fn rule_in(checked: &Result<(), SlateDBError>) -> u8 {
     }
 }
 
-/// The number of the rule that a manifest breaks after version 7.
-pub(crate) fn broken(alloc: Global, old: &Manifest, new: &Manifest, right: &Right) -> u8 {
-    rule_in(&ManifestRules.check(alloc, 7, old, new, right))
+/// The number of the rule that a manifest with these breaks after version 7 with those.
+pub(crate) fn broken(
+    rt: &impl Abort,
+    alloc: Global,
+    old: &[&[With]],
+    new: &[&[With]],
+    right: &Right,
+) -> u8 {
+    let old = manifest_of(rt, alloc, old);
+    let new = manifest_of(rt, alloc, new);
+    let checked = ManifestRules.check(alloc, 7, &old, &new, right);
+    drop(new);
+    drop(old);
+    let rule = rule_in(&checked);
+    drop(checked);
+    rule
 }

@@ -28,13 +28,17 @@ fn has_one(found: &[ObjectMetadata]) -> bool {
 /// Whether a list would find that object.
 fn would_list(rt: &impl Abort, alloc: Global, store: &MemoryStore, dir: &ListDir) -> bool {
     let found = store.listed(alloc, dir).expect(rt, "memory");
-    has_one(found.as_slice())
+    let so = has_one(found.as_slice());
+    drop(found);
+    so
 }
 
 /// Whether the store has one object, at this path.
 fn has_path(rt: &impl Abort, alloc: Global, store: &MemoryStore, path: &ObjectPath) -> bool {
     let paths = store.paths(alloc).expect(rt, "memory");
-    paths.len() == 1 && paths[0] == *path
+    let so = paths.len() == 1 && paths[0] == *path;
+    drop(paths);
+    so
 }
 
 fn make_calls(rt: &impl Abort, alloc: Global, store: &mut MemoryStore, path: &ObjectPath) {
@@ -47,5 +51,8 @@ fn make_calls(rt: &impl Abort, alloc: Global, store: &mut MemoryStore, path: &Ob
 #[test]
 fn a_call_fails_and_the_next_ones_are_as_usual(rt: HostRuntime) {
     let file = ObjectPath::Wal(db(&rt), 7);
-    make_calls(&rt, rt.alloc(), &mut failing(&rt, rt.alloc()), &file);
+    let mut store = failing(&rt, rt.alloc());
+    make_calls(&rt, rt.alloc(), &mut store, &file);
+    drop(store);
+    drop(file);
 }

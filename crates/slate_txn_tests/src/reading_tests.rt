@@ -7,7 +7,11 @@ use std::io::Cursor;
 /// Whether a reader of std with these bytes, of which 3 may be there, is read so.
 fn is_read(alloc: Global, bytes: &[u8], wanted: Result<&[u8], ReadError>) -> bool {
     match read_all(alloc, &mut StdSource::new(Cursor::new(bytes)), 3) {
-        Ok(found) => wanted == Ok(found.as_slice()),
+        Ok(found) => {
+            let so = wanted == Ok(found.as_slice());
+            drop(found);
+            so
+        }
         Err(error) => wanted == Err(error),
     }
 }

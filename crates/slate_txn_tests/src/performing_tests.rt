@@ -32,13 +32,17 @@ fn call(rt: &impl Abort, alloc: Global, place: usize) -> StoreCall {
 /// A copy of the call at a place.
 fn copied(rt: &impl Abort, alloc: Global, place: usize) -> StoreCall {
     let call = call(rt, alloc, place);
-    call.copy(alloc).expect(rt, "memory")
+    let copied = call.copy(alloc).expect(rt, "memory");
+    drop(call);
+    copied
 }
 
 /// The answer to the call at a place.
 fn answer(rt: &impl Abort, alloc: Global, store: &mut MemoryStore, place: usize) -> StoreAnswer {
     let call = copied(rt, alloc, place);
-    perform(alloc, store, &call, 5).expect(rt, "memory")
+    let answer = perform(alloc, store, &call, 5).expect(rt, "memory");
+    drop(call);
+    answer
 }
 
 fn first_tag(found: &[ObjectMetadata]) -> Option<u64> {
@@ -65,14 +69,18 @@ fn tag_told(told: &StoreAnswer) -> Option<u64> {
 /// Whether a copy of an answer tells this tag.
 fn tells(rt: &impl Abort, alloc: Global, told: &StoreAnswer, tag: u64) -> bool {
     let copied = told.copy(alloc).expect(rt, "memory");
-    tag_told(&copied) == Some(tag)
+    let so = tag_told(&copied) == Some(tag);
+    drop(copied);
+    so
 }
 
 /// Makes the calls, and compares what they tell.
 fn make_calls(rt: &impl Abort, alloc: Global, store: &mut MemoryStore) {
     for (place, tag) in TAGS.iter().enumerate() {
         let told = answer(rt, alloc, store, place);
-        assert!(rt; tells(rt, alloc, &told, *tag), "at {place}");
+        let so = tells(rt, alloc, &told, *tag);
+        drop(told);
+        assert!(rt; so, "at {place}");
     }
 }
 
@@ -80,4 +88,5 @@ fn make_calls(rt: &impl Abort, alloc: Global, store: &mut MemoryStore) {
 fn calls_tell_their_tags(rt: HostRuntime) {
     let mut store = MemoryStore::new(rt.alloc(), Vec::new(rt.alloc()));
     make_calls(&rt, rt.alloc(), &mut store);
+    drop(store);
 }

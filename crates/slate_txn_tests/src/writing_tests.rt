@@ -7,9 +7,11 @@ use std::io::Cursor;
 /// Whether a sink in memory takes two pieces, one after the other.
 fn takes_two(alloc: Global) -> bool {
     let mut sink = MemorySink::new(alloc, Vec::new(alloc));
-    write_all(&mut sink, b"ab") == Ok(())
+    let so = write_all(&mut sink, b"ab") == Ok(())
         && sink.write(b"c") == Ok(1)
-        && sink.bytes() == b"abc".as_slice()
+        && sink.bytes() == b"abc".as_slice();
+    drop(sink);
+    so
 }
 
 #[test]

@@ -53,19 +53,28 @@ fn kind_of(path: &ObjectPath) -> (&'static str, u64) {
 /// The text of a copy of a path.
 fn text_of(rt: &impl Abort, alloc: Global, path: &ObjectPath) -> String {
     let copied = path.copy(alloc).expect(rt, "memory");
-    copied.to_text(alloc).expect(rt, "memory")
+    let text = copied.to_text(alloc).expect(rt, "memory");
+    drop(copied);
+    text
 }
 
 /// Whether a path is of this kind and number, and a copy of it is written as a text.
 fn is(rt: &impl Abort, alloc: Global, path: &ObjectPath, row: (&str, &str, u64)) -> bool {
     let (kind, number) = kind_of(path);
-    kind == row.1 && number == row.2 && text_of(rt, alloc, path).as_str() == row.0
+    let text = text_of(rt, alloc, path);
+    let so = kind == row.1 && number == row.2 && text.as_str() == row.0;
+    drop(text);
+    so
 }
 
 /// Whether a text is a path of this kind and number, or none.
 fn is_read(rt: &impl Abort, alloc: Global, row: (&str, &str, u64)) -> bool {
     match ObjectPath::from_text(alloc, row.0).expect(rt, "memory") {
-        Some(path) => is(rt, alloc, &path, row),
+        Some(path) => {
+            let so = is(rt, alloc, &path, row);
+            drop(path);
+            so
+        }
         None => row.1 == "none",
     }
 }
@@ -83,4 +92,6 @@ fn rests_have_copies(rt: HostRuntime) {
     let rest = rest.expect(&rt, "a rest of no kind");
     let copied = rest.copy(rt.alloc()).expect(&rt, "memory");
     assert!(rt; copied.as_str() == "some/thing");
+    drop(copied);
+    drop(rest);
 }

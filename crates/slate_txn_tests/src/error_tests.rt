@@ -96,19 +96,26 @@ fn refusal(rt: &impl Abort, alloc: Global, number: usize) -> SlateDBError {
 /// The copy of the refusal of a number.
 fn copied(rt: &impl Abort, alloc: Global, number: usize) -> SlateDBError {
     let refusal = refusal(rt, alloc, number);
-    refusal.copy(alloc).expect(rt, "memory")
+    let copied = refusal.copy(alloc).expect(rt, "memory");
+    drop(refusal);
+    copied
 }
 
 /// Whether a refusal has this text.
 fn is_shown(rt: &impl Abort, alloc: Global, refusal: &SlateDBError, text: &str) -> bool {
     let mut shown = String::new(alloc);
     write!(shown, "{refusal}").expect(rt, "memory");
-    shown.as_str() == text
+    let so = shown.as_str() == text;
+    drop(shown);
+    so
 }
 
 /// Whether the copy of the refusal of a number has this text.
 fn is_copied(rt: &impl Abort, alloc: Global, number: usize, text: &str) -> bool {
-    is_shown(rt, alloc, &copied(rt, alloc, number), text)
+    let copied = copied(rt, alloc, number);
+    let so = is_shown(rt, alloc, &copied, text);
+    drop(copied);
+    so
 }
 
 #[test]

@@ -20,7 +20,9 @@ const NO_IDS: [&str; 9] = [
 /// Whether an id is written as a text, and read from it.
 fn is_written(rt: &impl Abort, alloc: Global, id: Ulid, text: &str) -> bool {
     let written = id.to_text(alloc).expect(rt, "memory");
-    written.as_str() == text && Ulid::from_text(text) == Some(id)
+    let so = written.as_str() == text && Ulid::from_text(text) == Some(id);
+    drop(written);
+    so
 }
 
 #[test]
