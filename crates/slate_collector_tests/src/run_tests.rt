@@ -1,17 +1,20 @@
 //! Runs over ticks: which passes they run, and where they end.
 
-use crate::test_collectors::{Put, Told, collector, numbers, says, store_of};
+use crate::test_collectors::{Told, collector, numbers, told_so};
+use crate::test_filters::database;
+use crate::test_stores::{Put, store_of};
 use slate_collector::{GcMessage, ListTicks, RunEnd, Tick, Ticks};
+use slate_store::MemoryStore;
 use std::alloc::Global;
 use std::process::Abort;
 
 /// Three manifests and two records.
 const BOTH: [Put; 5] = [
-    Put::Plain(1, 0),
-    Put::Plain(2, 0),
-    Put::Plain(3, 0),
-    Put::Record(1, 0),
-    Put::Record(2, 0),
+    Put::Plain(1),
+    Put::Plain(2),
+    Put::Plain(3),
+    Put::Record(1, None),
+    Put::Record(2, None),
 ];
 
 const MANIFEST: Tick = Tick::At(GcMessage::Manifest, 5000);
@@ -23,7 +26,7 @@ const RECORDS: Tick = Tick::At(GcMessage::Compactions, 5000);
 const RUNS: [(&[Put], &[Tick], u64, RunEnd, &[Told], Tick, [u64; 9]); 8] = [
     // a new database
     (
-        &[Put::Plain(1, 0)],
+        &[Put::Plain(1)],
         &[MANIFEST],
         1,
         RunEnd::Turns,
@@ -111,6 +114,26 @@ const RUNS: [(&[Put], &[Tick], u64, RunEnd, &[Told], Tick, [u64; 9]); 8] = [
     ),
 ];
 
+fn ticks_of(rt: &impl Abort, alloc: Global, ticks: &[Tick]) -> ListTicks {
+    ListTicks::new(Vec::from_slice(alloc, ticks).expect(rt, "memory"))
+}
+
+/// How a run ends, whether its report says so, and the statistics afterwards.
+fn run(
+    rt: &impl Abort,
+    alloc: Global,
+    store: &mut MemoryStore,
+    ticks: &mut ListTicks,
+    turns: u64,
+    told: &[Told],
+) -> (RunEnd, bool, [u64; 9]) {
+    let mut gc = collector(rt, &[GcMessage::Manifest, GcMessage::Compactions], 1000);
+    let (found, report) = gc.run(alloc, store, ticks, turns, 3).expect(rt, "memory");
+    let stats = numbers(gc.stats());
+    drop(gc);
+    (found, told_so(report, told), stats)
+}
+
 fn runs_so(
     rt: &impl Abort,
     alloc: Global,
@@ -122,18 +145,18 @@ fn runs_so(
     next: Tick,
     stats: [u64; 9],
 ) -> bool {
-    let mut store = store_of(rt, alloc, puts, None);
-    let mut gc = collector(rt, &[GcMessage::Manifest, GcMessage::Compactions], 1000);
-    let mut ticks = ListTicks::new(Vec::from_slice(alloc, ticks).expect(rt, "memory"));
-    let (found, report) = gc
-        .run(alloc, &mut store, &mut ticks, turns, 3)
-        .expect(rt, "memory");
-    found == end && says(&report, told) && ticks.next() == next && numbers(gc.stats()) == stats
+    let mut store = store_of(rt, alloc, database(rt), puts);
+    let mut list = ticks_of(rt, alloc, ticks);
+    let (found, says_so, numbers) = run(rt, alloc, &mut store, &mut list, turns, told);
+    drop(store);
+    let is_next = list.next() == next;
+    drop(list);
+    found == end && says_so && is_next && numbers == stats
 }
 
 #[test]
 fn ticks_run_passes(rt: HostRuntime) {
-    for (puts, ticks, turns, end, told, next, stats) in &RUNS {
+    for (row, (puts, ticks, turns, end, told, next, stats)) in RUNS.iter().enumerate() {
         assert!(rt;
             runs_so(
                 &rt,
@@ -146,21 +169,33 @@ fn ticks_run_passes(rt: HostRuntime) {
                 *next,
                 *stats
             ),
-            "{ticks:?} {turns}"
+            "at row {row}"
         );
     }
 }
 
+/// How a run of stopped ticks ends, and whether its report is empty.
+fn run_stopped(
+    rt: &impl Abort,
+    alloc: Global,
+    store: &mut MemoryStore,
+    ticks: &mut ListTicks,
+) -> (RunEnd, bool) {
+    let mut gc = collector(rt, &[GcMessage::Manifest], 1000);
+    gc.stop(ticks);
+    let (end, report) = gc.run(alloc, store, ticks, 5, 3).expect(rt, "memory");
+    drop(gc);
+    (end, told_so(report, &[]))
+}
+
 #[test]
 fn ticks_that_were_stopped_run_nothing(rt: HostRuntime) {
-    let mut store = store_of(&rt, rt.alloc(), &BOTH, None);
-    let mut gc = collector(&rt, &[GcMessage::Manifest], 1000);
-    let list = Vec::from_slice(rt.alloc(), &[MANIFEST, MANIFEST]).expect(&rt, "memory");
-    let mut ticks = ListTicks::new(list);
-    gc.stop(&mut ticks);
-    let (end, report) = gc
-        .run(rt.alloc(), &mut store, &mut ticks, 5, 3)
-        .expect(&rt, "memory");
-    assert!(rt; end == RunEnd::Stopped && says(&report, &[]));
-    assert!(rt; ticks.next() == Tick::Stop);
+    let mut store = store_of(&rt, rt.alloc(), database(&rt), &BOTH);
+    let mut ticks = ticks_of(&rt, rt.alloc(), &[MANIFEST, MANIFEST]);
+    let (end, is_empty) = run_stopped(&rt, rt.alloc(), &mut store, &mut ticks);
+    drop(store);
+    let next = ticks.next();
+    drop(ticks);
+    assert!(rt; end == RunEnd::Stopped && is_empty);
+    assert!(rt; next == Tick::Stop);
 }

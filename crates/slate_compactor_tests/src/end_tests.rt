@@ -5,12 +5,12 @@ use crate::test_states::{
 };
 use slate_compactor::LocalState;
 use slate_ids::{SlateDBError, StateCause};
-use slate_model::{CompactionStatus, Compactions};
+use slate_model::{CompactionSpec, CompactionStatus, Compactions};
 use std::alloc::Global;
 use std::process::Abort;
 
 /// What the end of the compaction of tail 1 answers.
-#[derive(Clone, Copy, Debug, PartialEq, Eq)]
+#[derive(Clone, Copy, PartialEq, Eq)]
 enum Answer {
     /// The tails of the L0 that is left, the numbers of the runs, and the tail of the view marker.
     Tree(u64, u64, u128),
@@ -73,11 +73,21 @@ fn held(
     let other = tree(rt, alloc, &[3, 2, 1], &[5, 2]);
     let core = core(rt, alloc, root, Some(other));
     let spec = spec(rt, alloc, segment, sources, into);
+    opened(rt, alloc, core, record_of(rt, alloc, status, spec))
+}
+
+/// The record of one compaction.
+fn record_of(
+    rt: &impl Abort,
+    alloc: Global,
+    status: CompactionStatus,
+    spec: CompactionSpec,
+) -> Compactions {
     let mut record = Compactions::new(alloc, 4);
     record
         .insert(compaction(rt, alloc, 1, status, spec, 2))
         .expect(rt, "memory");
-    opened(rt, alloc, &core, record)
+    record
 }
 
 fn refused(cause: StateCause) -> Answer {
@@ -96,9 +106,31 @@ fn told(rt: &impl Abort, reply: &Result<LocalState, SlateDBError>, segment: &str
             let (l0, runs) = shown(tree);
             Answer::Tree(l0, runs, marker(tree))
         }
-        Err(SlateDBError::InvalidDBState(cause)) => refused(*cause),
-        Err(_) => Answer::Other,
+        Err(e) => match e {
+            SlateDBError::InvalidDBState(cause) => refused(*cause),
+            _ => Answer::Other,
+        },
     }
+}
+
+/// What the end of a compaction answers: that it is finished, or that it failed. What was held is used up.
+fn end_of(
+    rt: &impl Abort,
+    alloc: Global,
+    local: LocalState,
+    tail: u8,
+    fails: bool,
+    segment: &str,
+) -> Answer {
+    let reply = if fails {
+        local.failed(alloc, id(tail))
+    } else {
+        local.finished(alloc, id(tail))
+    };
+    drop(local);
+    let answer = told(rt, &reply, segment);
+    drop(reply);
+    answer
 }
 
 fn ended(rt: &impl Abort, alloc: Global, row: &Row) -> Answer {
@@ -111,13 +143,13 @@ fn ended(rt: &impl Abort, alloc: Global, row: &Row) -> Answer {
         into,
         CompactionStatus::Compacted,
     );
-    told(rt, &local.finished(alloc, id(1)), segment)
+    end_of(rt, alloc, local, 1, false, segment)
 }
 
 #[test]
 fn sources_leave_the_tree_and_a_run_comes(rt: HostRuntime) {
-    for row in &ENDS {
-        assert!(rt; ended(&rt, rt.alloc(), row) == row.3, "{row:?}");
+    for (place, row) in ENDS.iter().enumerate() {
+        assert!(rt; ended(&rt, rt.alloc(), row) == row.3, "at row {place}");
     }
 }
 
@@ -131,22 +163,17 @@ const STATUSES: [(CompactionStatus, bool, bool); 6] = [
     (CompactionStatus::Failed, false, false),
 ];
 
-fn finishes(rt: &impl Abort, alloc: Global, status: CompactionStatus) -> Answer {
+fn ends(rt: &impl Abort, alloc: Global, status: CompactionStatus, fails: bool) -> Answer {
     let local = held(rt, alloc, "", &[V1], Some(0), status);
-    told(rt, &local.finished(alloc, id(1)), "")
-}
-
-fn fails(rt: &impl Abort, alloc: Global, status: CompactionStatus) -> Answer {
-    let local = held(rt, alloc, "", &[V1], Some(0), status);
-    told(rt, &local.failed(alloc, id(1)), "")
+    end_of(rt, alloc, local, 1, fails, "")
 }
 
 #[test]
 fn statuses_decide(rt: HostRuntime) {
     for (status, finishes_it, fails_it) in &STATUSES {
-        let finished = finishes(&rt, rt.alloc(), *status);
+        let finished = ends(&rt, rt.alloc(), *status, false);
         assert!(rt; (finished == Answer::State) != *finishes_it, "{status:?}");
-        let failed = fails(&rt, rt.alloc(), *status);
+        let failed = ends(&rt, rt.alloc(), *status, true);
         assert!(rt; (failed == Answer::State) != *fails_it, "{status:?}");
     }
 }
@@ -154,7 +181,9 @@ fn statuses_decide(rt: HostRuntime) {
 /// What is held once the merge of the view 1 into the run 0 was finished.
 fn after_end(rt: &impl Abort, alloc: Global) -> LocalState {
     let local = held(rt, alloc, "", &[V1], Some(0), CompactionStatus::Compacted);
-    local.finished(alloc, id(1)).expect(rt, "finished")
+    let after = local.finished(alloc, id(1));
+    drop(local);
+    after.expect(rt, "finished")
 }
 
 #[test]
@@ -164,6 +193,7 @@ fn a_finished_compaction_is_completed_and_pending(rt: HostRuntime) {
     assert!(rt; after.pending.as_slice() == [id(1)].as_slice());
     assert!(rt; after.compactions.compactor_epoch == 4);
     assert!(rt; shown(tree_at(&rt, &after, "p")) == (321, 52));
+    assert!(rt; written(&rt, &after) == (0, 2));
     drop(after);
 }
 
@@ -174,38 +204,28 @@ fn written(rt: &impl Abort, local: &LocalState) -> (u32, usize) {
     (last.id, last.sst_views().len())
 }
 
-#[test]
-fn a_run_has_the_outputs(rt: HostRuntime) {
-    let after = after_end(&rt, rt.alloc());
-    assert!(rt; written(&rt, &after) == (0, 2));
-    drop(after);
-}
+/// Once it was finished: the end of a compaction of this tail, whether it fails, and what that answers.
+const AFTER: [(u8, bool, Answer); 3] = [
+    (1, false, Answer::State),
+    (2, false, Answer::NoSuch),
+    (2, true, Answer::NoSuch),
+];
 
 #[test]
-fn a_compaction_ends_once(rt: HostRuntime) {
-    let after = after_end(&rt, rt.alloc());
-    assert!(rt; told(&rt, &after.finished(rt.alloc(), id(1)), "") == Answer::State);
-    drop(after);
-}
-
-#[test]
-fn a_compaction_that_is_not_there_does_not_end(rt: HostRuntime) {
-    let after = after_end(&rt, rt.alloc());
-    assert!(rt; told(&rt, &after.finished(rt.alloc(), id(2)), "") == Answer::NoSuch);
-    drop(after);
-}
-
-#[test]
-fn a_compaction_that_is_not_there_does_not_fail(rt: HostRuntime) {
-    let after = after_end(&rt, rt.alloc());
-    assert!(rt; told(&rt, &after.failed(rt.alloc(), id(2)), "") == Answer::NoSuch);
-    drop(after);
+fn a_compaction_that_is_over_or_not_there_does_not_end(rt: HostRuntime) {
+    for (tail, fails, wanted) in &AFTER {
+        let after = after_end(&rt, rt.alloc());
+        let answer = end_of(&rt, rt.alloc(), after, *tail, *fails, "");
+        assert!(rt; answer == *wanted, "{tail} {fails}");
+    }
 }
 
 /// What is held once the compaction failed.
 fn after_failure(rt: &impl Abort, alloc: Global) -> LocalState {
     let local = held(rt, alloc, "", &[V1], Some(0), CompactionStatus::Running);
-    local.failed(alloc, id(1)).expect(rt, "failed")
+    let after = local.failed(alloc, id(1));
+    drop(local);
+    after.expect(rt, "failed")
 }
 
 #[test]

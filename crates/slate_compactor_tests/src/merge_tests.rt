@@ -4,9 +4,9 @@ use crate::test_states::{
     compaction, core, has_segments, id, opened, record, shown, spec, status, tree, tree_at,
 };
 use slate_compactor::LocalState;
-use slate_ids::SlateDBError;
+use slate_ids::{SlateDBError, Ulid};
 use slate_model::CompactionStatus::{Completed, Failed, Running, Scheduled, Submitted};
-use slate_model::{CompactionStatus, Compactions, Manifest, ManifestCore};
+use slate_model::{Compaction, CompactionStatus, Compactions, Manifest, ManifestCore};
 use std::alloc::Global;
 use std::process::Abort;
 
@@ -30,7 +30,7 @@ fn held(rt: &impl Abort, alloc: Global) -> LocalState {
         4,
         &[(1, Completed), (2, Failed), (3, Running), (4, Completed)],
     );
-    opened(rt, alloc, &first(rt, alloc), own)
+    opened(rt, alloc, first(rt, alloc), own)
 }
 
 #[test]
@@ -71,19 +71,41 @@ fn read(rt: &impl Abort, alloc: Global) -> Compactions {
 
 /// The record that is held after a refresh.
 fn refreshed(rt: &impl Abort, alloc: Global) -> Compactions {
-    let local = held(rt, alloc);
-    let core = first(rt, alloc);
-    let after = local
-        .refreshed(alloc, &read(rt, alloc), &core)
-        .expect(rt, "refreshed");
-    after.compactions
+    let after = refreshed_by(alloc, held(rt, alloc), read(rt, alloc), first(rt, alloc));
+    record_in(after.expect(rt, "refreshed"))
+}
+
+/// What is held after a refresh by a record and a manifest. All are used up.
+fn refreshed_by(
+    alloc: Global,
+    local: LocalState,
+    record: Compactions,
+    core: ManifestCore,
+) -> Result<LocalState, SlateDBError> {
+    let after = local.refreshed(alloc, &record, &core);
+    drop(core);
+    drop(record);
+    drop(local);
+    after
+}
+
+/// The record alone.
+fn record_in(local: LocalState) -> Compactions {
+    let LocalState {
+        compactions,
+        trees,
+        pending,
+    } = local;
+    drop(pending);
+    drop(trees);
+    compactions
 }
 
 /// The record that is held after a schedule.
 fn scheduled(rt: &impl Abort, alloc: Global, committed: &Compactions) -> Compactions {
     let mut local = held(rt, alloc);
     local.take_scheduled(alloc, committed).expect(rt, "memory");
-    local.compactions
+    record_in(local)
 }
 
 #[test]
@@ -123,16 +145,26 @@ fn compacted(rt: &impl Abort, alloc: Global) -> LocalState {
     let mut own = tree(rt, alloc, &[3], &[6, 5]);
     own.last_compacted_l0_sst_view_id = Some(id(2));
     let core = core(rt, alloc, own, None);
-    opened(rt, alloc, &core, record(rt, alloc, 4, &[]))
+    opened(rt, alloc, core, record(rt, alloc, 4, &[]))
 }
 
 /// The root after a refresh by the manifest of a writer that has two newer views.
 fn root_merged(rt: &impl Abort, alloc: Global) -> (u64, u64) {
     let writer = root(rt, alloc, &[5, 4, 3, 2, 1], &[5]);
-    let after = compacted(rt, alloc)
-        .refreshed(alloc, &record(rt, alloc, 4, &[]), &writer)
-        .expect(rt, "refreshed");
-    shown(after.trees.root())
+    let after = refreshed_by(
+        alloc,
+        compacted(rt, alloc),
+        record(rt, alloc, 4, &[]),
+        writer,
+    );
+    root_in(after.expect(rt, "refreshed"))
+}
+
+/// The root's views and runs.
+fn root_in(local: LocalState) -> (u64, u64) {
+    let shown = shown(local.trees.root());
+    drop(local);
+    shown
 }
 
 #[test]
@@ -152,8 +184,10 @@ fn code(reply: &Result<LocalState, SlateDBError>) -> u8 {
 fn without_segment(rt: &impl Abort, alloc: Global) -> u8 {
     let local = held(rt, alloc);
     let writer = root(rt, alloc, &[3], &[]);
-    let read = record(rt, alloc, 4, &[]);
-    code(&local.refreshed(alloc, &read, &writer))
+    let after = refreshed_by(alloc, local, record(rt, alloc, 4, &[]), writer);
+    let code = code(&after);
+    drop(after);
+    code
 }
 
 #[test]
@@ -168,7 +202,9 @@ fn manifest_committed(rt: &impl Abort, alloc: Global) -> LocalState {
     let mut local = held(rt, alloc);
     local.pending.push(id(1)).expect(rt, "memory");
     let committed = root(rt, alloc, &[6], &[8, 7]);
-    local.take_manifest(alloc, &committed).expect(rt, "memory");
+    let taken = local.take_manifest(alloc, &committed);
+    drop(committed);
+    taken.expect(rt, "memory");
     local
 }
 
@@ -202,11 +238,22 @@ fn with_floor(rt: &impl Abort, alloc: Global, floor: u64) -> Manifest {
 /// The root, the floor and the writer's epoch of that manifest once the trees are merged into it.
 fn merged_into(rt: &impl Abort, alloc: Global, floor: u64) -> ((u64, u64), u64, u64) {
     let manifest = with_floor(rt, alloc, floor);
-    let made = compacted(rt, alloc)
-        .trees
-        .merged_manifest(alloc, &manifest)
-        .expect(rt, "merged");
-    (shown(&made.core.tree), made.core.floor, made.writer_epoch)
+    let local = compacted(rt, alloc);
+    let made = local.trees.merged_manifest(alloc, &manifest);
+    drop(local);
+    drop(manifest);
+    numbers_in(made.expect(rt, "merged"))
+}
+
+/// The root, the floor and the writer's epoch of a manifest, which is used up.
+fn numbers_in(manifest: Manifest) -> ((u64, u64), u64, u64) {
+    let numbers = (
+        shown(&manifest.core.tree),
+        manifest.core.floor,
+        manifest.writer_epoch,
+    );
+    drop(manifest);
+    numbers
 }
 
 /// The tables of the trees are all of 300 ms, and so is the watermark: an old floor, and the new one.
@@ -226,22 +273,34 @@ fn a_manifest_gets_the_trees(rt: HostRuntime) {
 fn with_outputs(rt: &impl Abort, alloc: Global) -> Compactions {
     let mut made = record(rt, alloc, 4, &[(1, Completed)]);
     for (tail, outputs) in &[(2u8, 2u8), (3, 1), (4, 3)] {
-        let spec = spec(rt, alloc, "", &[], None);
-        let one = compaction(rt, alloc, *tail, Completed, spec, *outputs);
-        made.insert(one).expect(rt, "memory");
+        made.insert(completed(rt, alloc, *tail, *outputs))
+            .expect(rt, "memory");
     }
     made
 }
 
+fn completed(rt: &impl Abort, alloc: Global, tail: u8, outputs: u8) -> Compaction {
+    let spec = spec(rt, alloc, "", &[], None);
+    compaction(rt, alloc, tail, Completed, spec, outputs)
+}
+
 /// The tails of the outputs that are pending with these compactions, as digits.
 fn outputs(rt: &impl Abort, alloc: Global, pending: &[u8]) -> u64 {
-    let mut local = opened(rt, alloc, &first(rt, alloc), with_outputs(rt, alloc));
+    let mut local = opened(rt, alloc, first(rt, alloc), with_outputs(rt, alloc));
     for tail in pending {
         local.pending.push(id(*tail)).expect(rt, "memory");
     }
-    let ids = local.pending_outputs(alloc).expect(rt, "memory");
+    let ids = local.pending_outputs(alloc);
+    drop(local);
+    let ids = ids.expect(rt, "memory");
+    let digits = digits(ids.as_slice());
+    drop(ids);
+    digits
+}
+
+fn digits(ids: &[Ulid]) -> u64 {
     let mut digits = 1u64;
-    for id in ids.as_slice() {
+    for id in ids {
         digits = digits
             .wrapping_mul(10)
             .wrapping_add((id.tail() % 10) as u64);

@@ -8,10 +8,11 @@ use slate_model::{
     Segment, SortedRun, SourceId, SsTableHandle, SsTableId, SsTableInfo, SsTableView,
 };
 use std::alloc::Global;
+use std::mem;
 use std::process::Abort;
 
 /// A source: a view by its tail, or a run by its number.
-#[derive(Clone, Copy, Debug)]
+#[derive(Clone, Copy)]
 pub(crate) enum Source {
     View(u8),
     Run(u32),
@@ -55,8 +56,10 @@ pub(crate) fn tree(rt: &impl Abort, alloc: Global, l0: &[u8], numbers: &[u32]) -
     let mut made = LsmTreeState::new(alloc);
     made.last_compacted_l0_sst_view_id = Some(id(7));
     made.last_compacted_l0_sst_id = Some(id(8));
-    made.l0 = Queue::from_vec(views(rt, alloc, l0));
-    made.compacted = Listed::from_vec(runs(rt, alloc, numbers));
+    let l0 = Queue::from_vec(views(rt, alloc, l0));
+    drop(mem::replace(&mut made.l0, l0));
+    let compacted = Listed::from_vec(runs(rt, alloc, numbers));
+    drop(mem::replace(&mut made.compacted, compacted));
     made
 }
 
@@ -68,26 +71,40 @@ pub(crate) fn core(
     segment: Option<LsmTreeState>,
 ) -> ManifestCore {
     let mut made = ManifestCore::new(alloc);
-    made.tree = root;
-    if let Some(tree) = segment {
-        let place = made
-            .maybe_insert_tree(alloc, &Bytes::from("p"))
-            .expect(rt, "memory");
-        *place = tree;
+    drop(mem::replace(&mut made.tree, root));
+    match segment {
+        None => made,
+        Some(tree) => with_segment(rt, alloc, made, tree),
     }
+}
+
+fn with_segment(
+    rt: &impl Abort,
+    alloc: Global,
+    core: ManifestCore,
+    tree: LsmTreeState,
+) -> ManifestCore {
+    let mut made = core;
+    let place = made
+        .maybe_insert_tree(alloc, &Bytes::from("p"))
+        .expect(rt, "memory");
+    drop(mem::replace(place, tree));
     made
 }
 
 fn sources(rt: &impl Abort, alloc: Global, named: &[Source]) -> Listed<SourceId> {
     let mut made = Listed::new(alloc);
     for source in named {
-        let one = match source {
-            Source::View(tail) => SourceId::SstView(id(*tail)),
-            Source::Run(n) => SourceId::SortedRun(*n),
-        };
-        made.push(one).expect(rt, "memory");
+        made.push(source_id(*source)).expect(rt, "memory");
     }
     made
+}
+
+fn source_id(source: Source) -> SourceId {
+    match source {
+        Source::View(tail) => SourceId::SstView(id(tail)),
+        Source::Run(n) => SourceId::SortedRun(n),
+    }
 }
 
 /// What a compaction of a segment is to do: a merge into a run, or a drain.
@@ -151,14 +168,16 @@ pub(crate) fn record(
     made
 }
 
-/// What is held after an open.
+/// What is held after an open. The manifest's core is used up.
 pub(crate) fn opened(
     rt: &impl Abort,
     alloc: Global,
-    core: &ManifestCore,
+    core: ManifestCore,
     record: Compactions,
 ) -> LocalState {
-    LocalState::opened(alloc, core, record).expect(rt, "memory")
+    let local = LocalState::opened(alloc, &core, record);
+    drop(core);
+    local.expect(rt, "memory")
 }
 
 /// A tree as digits: the tails of its L0, and the numbers of its runs.

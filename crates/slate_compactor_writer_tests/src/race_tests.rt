@@ -42,9 +42,12 @@ fn an_open_begins_again_after_a_conflict(rt: HostRuntime) {
         let mut store = racing(&rt, alloc, *left);
         let writer = open(&rt, alloc, &mut store, 2).expect(&rt, "an open");
         assert!(rt; writer.local_epoch() == *epoch, "{left}");
+        drop(writer);
         assert!(rt; latest(&rt, alloc, &mut store) == *numbers, "{left}");
+        drop(store);
         let mut store = racing(&rt, alloc, *left);
         assert!(rt; code(open(&rt, alloc, &mut store, 1)) == 21, "{left}");
+        drop(store);
     }
 }
 
@@ -62,7 +65,10 @@ fn written(rt: &impl Abort, alloc: Global, left: u32, tries: u32) -> (u8, (u64, 
     assert!(rt; tries > 0);
     let reply = writer.write_state_safely(alloc, &mut store, checkpoint(), 61_500, tries);
     let pending = writer.local().pending.as_slice().len();
-    (code(reply), latest(rt, alloc, &mut store), pending)
+    drop(writer);
+    let numbers = latest(rt, alloc, &mut store);
+    drop(store);
+    (code(reply), numbers, pending)
 }
 
 #[test]

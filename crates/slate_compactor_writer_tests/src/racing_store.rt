@@ -12,6 +12,17 @@ pub(crate) struct RacingStore {
     pub(crate) left: u32,
 }
 
+/// What was got, where it is there.
+fn found(got: Result<Option<StoredObject>, StoreError>) -> Option<StoredObject> {
+    match got {
+        Ok(object) => object,
+        Err(e) => {
+            drop(e);
+            None
+        }
+    }
+}
+
 /// The version before one.
 fn version_before(path: &ObjectPath) -> Option<ObjectPath> {
     match path {
@@ -22,19 +33,30 @@ fn version_before(path: &ObjectPath) -> Option<ObjectPath> {
 }
 
 impl RacingStore {
+    // What stands as the version before one.
+    fn before(&mut self, alloc: Global, path: &ObjectPath) -> Option<StoredObject> {
+        match version_before(path) {
+            Some(before) => {
+                let got = self.inner.get(alloc, &before);
+                drop(before);
+                found(got)
+            }
+            None => None,
+        }
+    }
+
     // The rival's put.
     fn race(&mut self, alloc: Global, path: &ObjectPath, bytes: &[u8], moment: Millis) {
-        let before = match version_before(path) {
-            Some(before) => self.inner.get(alloc, &before),
-            None => Ok(None),
-        };
-        let _ = match before {
-            Ok(Some(object)) => {
-                self.inner
-                    .put_new(alloc, path, object.bytes.as_slice(), moment)
+        match self.before(alloc, path) {
+            Some(object) => {
+                let put = self
+                    .inner
+                    .put_new(alloc, path, object.bytes.as_slice(), moment);
+                drop(object);
+                drop(put);
             }
-            _ => self.inner.put_new(alloc, path, bytes, moment),
-        };
+            None => drop(self.inner.put_new(alloc, path, bytes, moment)),
+        }
     }
 }
 

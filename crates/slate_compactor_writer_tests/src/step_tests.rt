@@ -1,9 +1,9 @@
-//! What stands where one store call fails or loses its answer, and the machines step by step.
+//! What stands where one store call fails or loses its answer, or a rival opens between two steps.
 
 use crate::test_lives::{
-    checkpoint, code, db, finished, id, latest, opened, submitted, with_manifest, with_marks,
+    checkpoint, code, db, finished, latest, opened, with_manifest, with_marks,
 };
-use slate_compactor_writer::{CompactorStateMachine, CompactorStateWriter, OpenStateMachine};
+use slate_compactor_writer::{CompactorStateMachine, CompactorStateWriter};
 use slate_store::{Mark, MemoryStore, Step};
 use std::alloc::Global;
 use std::process::Abort;
@@ -57,7 +57,10 @@ fn marked(
     let reply = writer.write_state_safely(alloc, &mut store, checkpoint(), 61_500, 2);
     let held = (writer.manifest().0, writer.local().pending.as_slice().len());
     assert!(rt; writer.compactions().0 == 7);
-    (code(reply), latest(rt, alloc, &mut store), held)
+    drop(writer);
+    let numbers = latest(rt, alloc, &mut store);
+    drop(store);
+    (code(reply), numbers, held)
 }
 
 #[test]
@@ -80,7 +83,11 @@ fn a_lost_answer_leaves_its_put(rt: HostRuntime) {
 fn opens_after(rt: &impl Abort, alloc: Global, place: usize) -> u64 {
     let mut store = with_marks(rt, alloc, place.wrapping_add(2), Mark::Lost);
     assert!(rt; code(CompactorStateWriter::new(alloc, &mut store, db(rt), 1000, 1)) == 20);
-    opened(rt, alloc, &mut store).local_epoch()
+    let writer = opened(rt, alloc, &mut store);
+    let epoch = writer.local_epoch();
+    drop(writer);
+    drop(store);
+    epoch
 }
 
 // The fourth of its calls puts the epoch.
@@ -91,8 +98,6 @@ fn an_open_goes_on_after_a_lost_answer(rt: HostRuntime) {
         assert!(rt; opens_after(&rt, rt.alloc(), place) == epoch, "{place}");
     }
 }
-
-// ---- machines
 
 /// A step: 99 where it goes on, and else the number of its refusal, or 0.
 fn told<T: Drop>(step: Step<T>) -> u8 {
@@ -114,47 +119,6 @@ fn step(
     told(machine.next(alloc, writer, store, 61_500))
 }
 
-/// A step of an open.
-fn open_step(
-    rt: &impl Abort,
-    alloc: Global,
-    store: &mut MemoryStore,
-    machine: &mut OpenStateMachine,
-) -> u8 {
-    assert!(rt; machine.due());
-    told(machine.next(alloc, store, 1000))
-}
-
-#[test]
-fn an_open_takes_twelve_steps(rt: HostRuntime) {
-    let alloc = rt.alloc();
-    let mut store = with_manifest(&rt, alloc);
-    let mut machine = CompactorStateWriter::start_new(db(&rt));
-    for _ in 0..11u8 {
-        assert!(rt; open_step(&rt, alloc, &mut store, &mut machine) == 99);
-    }
-    assert!(rt; open_step(&rt, alloc, &mut store, &mut machine) == 0);
-    assert!(rt; !machine.due() && latest(&rt, alloc, &mut store) == (2, 3));
-    drop(machine);
-    drop(store);
-}
-
-#[test]
-fn a_write_of_a_state_takes_twelve_steps(rt: HostRuntime) {
-    let alloc = rt.alloc();
-    let mut store = with_manifest(&rt, alloc);
-    let mut writer = finished(&rt, alloc, &mut store);
-    let mut machine = writer.start_write_state_safely(checkpoint());
-    for _ in 0..11u8 {
-        assert!(rt; step(&rt, alloc, &mut store, &mut writer, &mut machine) == 99);
-    }
-    assert!(rt; step(&rt, alloc, &mut store, &mut writer, &mut machine) == 0);
-    assert!(rt; !machine.due() && latest(&rt, alloc, &mut store) == (4, 8));
-    drop(machine);
-    drop(writer);
-    drop(store);
-}
-
 // The rival opens after the manifest was read.
 #[test]
 fn a_machine_ends_at_a_conflict(rt: HostRuntime) {
@@ -165,7 +129,8 @@ fn a_machine_ends_at_a_conflict(rt: HostRuntime) {
     for _ in 0..3u8 {
         assert!(rt; step(&rt, alloc, &mut store, &mut writer, &mut machine) == 99);
     }
-    let _ = opened(&rt, alloc, &mut store);
+    let other = opened(&rt, alloc, &mut store);
+    drop(other);
     assert!(rt; step(&rt, alloc, &mut store, &mut writer, &mut machine) == 1);
     assert!(rt; !machine.due() && writer.local().pending.as_slice().len() == 1);
     let mut again = writer.start_write_manifest_safely(checkpoint());
@@ -175,35 +140,6 @@ fn a_machine_ends_at_a_conflict(rt: HostRuntime) {
     assert!(rt; step(&rt, alloc, &mut store, &mut writer, &mut again) == 2);
     drop(again);
     drop(machine);
-    drop(writer);
-    drop(store);
-}
-
-#[test]
-fn the_other_machines_end_well(rt: HostRuntime) {
-    let alloc = rt.alloc();
-    let mut store = with_manifest(&rt, alloc);
-    let mut writer = opened(&rt, alloc, &mut store);
-    assert!(rt; submitted(&rt, alloc, &mut store) == 0);
-    let mut schedule = writer.start_schedule(id(20));
-    for _ in 0..4u8 {
-        assert!(rt; step(&rt, alloc, &mut store, &mut writer, &mut schedule) == 99);
-    }
-    assert!(rt; step(&rt, alloc, &mut store, &mut writer, &mut schedule) == 0);
-    let mut refresh = writer.start_refresh();
-    for _ in 0..5u8 {
-        assert!(rt; step(&rt, alloc, &mut store, &mut writer, &mut refresh) == 99);
-    }
-    assert!(rt; step(&rt, alloc, &mut store, &mut writer, &mut refresh) == 0);
-    let mut record = writer.start_write_compactions_safely();
-    for _ in 0..4u8 {
-        assert!(rt; step(&rt, alloc, &mut store, &mut writer, &mut record) == 99);
-    }
-    assert!(rt; step(&rt, alloc, &mut store, &mut writer, &mut record) == 0);
-    assert!(rt; latest(&rt, alloc, &mut store) == (2, 6));
-    drop(record);
-    drop(refresh);
-    drop(schedule);
     drop(writer);
     drop(store);
 }

@@ -13,6 +13,7 @@ use slate_model::{
 use slate_record_updates::{claim, report, submit};
 use slate_store::{Mark, MemoryStore, ObjectStore};
 use std::alloc::Global;
+use std::mem;
 use std::process::Abort;
 
 /// The path of the database.
@@ -30,8 +31,8 @@ pub(crate) fn id(tail: u8) -> Ulid {
 /// A table of the keys from `a` to `b`.
 fn table(tail: u8) -> SsTableHandle {
     let mut info = SsTableInfo::default();
-    info.first_entry = Some(Bytes::from("a"));
-    info.last_entry = Some(Bytes::from("b"));
+    drop(mem::replace(&mut info.first_entry, Some(Bytes::from("a"))));
+    drop(mem::replace(&mut info.last_entry, Some(Bytes::from("b"))));
     SsTableHandle {
         id: SsTableId::Compacted(id(tail)),
         format_version: 1,
@@ -42,8 +43,15 @@ fn table(tail: u8) -> SsTableHandle {
 /// The number of a refusal, and 0 where there is none.
 pub(crate) fn code<T: Drop>(reply: Result<T, SlateDBError>) -> u8 {
     match reply {
-        Ok(_) => 0,
-        Err(e) => e.code(),
+        Ok(value) => {
+            drop(value);
+            0
+        }
+        Err(e) => {
+            let number = e.code();
+            drop(e);
+            number
+        }
     }
 }
 
@@ -56,14 +64,15 @@ fn core(rt: &impl Abort, alloc: Global) -> ManifestCore {
             .expect(rt, "memory");
     }
     let mut made = ManifestCore::new(alloc);
-    made.tree.l0 = Queue::from_vec(views);
+    drop(mem::replace(&mut made.tree.l0, Queue::from_vec(views)));
     made
 }
 
 // The first manifest of the database.
 pub(crate) fn created<S: ObjectStore>(rt: &impl Abort, alloc: Global, store: &mut S) {
     let core = core(rt, alloc);
-    let _ = StoredManifest::create_new_db(alloc, store, db(rt), core, 5).expect(rt, "memory");
+    let holder = StoredManifest::create_new_db(alloc, store, db(rt), core, 5).expect(rt, "memory");
+    drop(holder);
 }
 
 /// A store with the first manifest of a database.
@@ -123,7 +132,9 @@ fn by_hand<F: Fn(u64, &Compactions) -> Result<Option<Compactions>, SlateDBError>
     requires callable { F.IsAlwaysCallable f }
 {
     let mut holder = StoredCompactions::load(alloc, store, db(rt), 1).expect(rt, "a record");
-    code(holder.maybe_apply_update(alloc, store, f, &Right::Plain, 2000, 1))
+    let reply = holder.maybe_apply_update(alloc, store, f, &Right::Plain, 2000, 1);
+    drop(holder);
+    code(reply)
 }
 
 /// An admin submits the compaction 20.
@@ -132,7 +143,9 @@ pub(crate) fn submitted<S: ObjectStore>(rt: &impl Abort, alloc: Global, store: &
     let f = |_n: u64, record: &Compactions| {
         submit(alloc, id(20), Plain::clone(&spec, alloc)?, record)
     };
-    by_hand(rt, alloc, store, f)
+    let answer = by_hand(rt, alloc, store, f);
+    drop(spec);
+    answer
 }
 
 /// The worker 3 claims it.
@@ -189,7 +202,10 @@ pub(crate) fn finished<S: ObjectStore>(
 pub(crate) fn latest<S: ObjectStore>(rt: &impl Abort, alloc: Global, store: &mut S) -> (u64, u64) {
     let manifest = StoredManifest::load(alloc, store, db(rt), 1).expect(rt, "a manifest");
     let record = StoredCompactions::load(alloc, store, db(rt), 1).expect(rt, "a record");
-    (manifest.id(), record.id())
+    let numbers = (manifest.id(), record.id());
+    drop(record);
+    drop(manifest);
+    numbers
 }
 
 /// The lengths of the root's L0 and of its runs.

@@ -14,8 +14,6 @@ mod normal_form_tests;
 #[cfg(test)]
 mod record_normal_tests;
 #[cfg(test)]
-mod record_refusal_tests;
-#[cfg(test)]
 mod record_test_rows;
 #[cfg(test)]
 mod record_tests;

@@ -176,5 +176,7 @@ pub(crate) fn read(
     changes: &[(usize, &str)],
 ) -> Manifest {
     let bytes = changed(rt, alloc, row, changes);
-    decode_manifest(alloc, bytes.as_slice()).expect(rt, "a manifest")
+    let read = decode_manifest(alloc, bytes.as_slice()).expect(rt, "a manifest");
+    drop(bytes);
+    read
 }

@@ -1,7 +1,7 @@
 //! Manifests, as bytes and back.
 
 use crate::manifest_test_rows::{Changes, NEW, OF_OLD, OLD, WHOLE, read};
-use crate::test_texts::{bytes_of, changed};
+use crate::test_texts::{are_equal, are_same, bytes_of, changed, length_of};
 use bytes::Bytes;
 use slate_ids::{CheckpointId, ObjectCodec, Text, Ulid};
 use slate_layout::{ManifestCodec, encode_manifest};
@@ -19,12 +19,6 @@ const WRITTEN: [(&[&str], Changes, &[&str], Changes); 3] = [
     (&OLD, &[], &WHOLE, OF_OLD),
 ];
 
-/// Whether these are the bytes of a manifest.
-fn has_bytes(rt: &impl Abort, alloc: Global, manifest: &Manifest, expected: &[u8]) -> bool {
-    let bytes = encode_manifest(alloc, manifest).expect(rt, "bytes");
-    bytes.as_slice() == expected
-}
-
 /// Whether the bytes of the second row are written of the manifest of the first.
 fn is_written(
     rt: &impl Abort,
@@ -33,12 +27,9 @@ fn is_written(
     (written, others): (&[&str], Changes),
 ) -> bool {
     let manifest = read(rt, alloc, row, changes);
-    has_bytes(
-        rt,
-        alloc,
-        &manifest,
-        changed(rt, alloc, written, others).as_slice(),
-    )
+    let bytes = encode_manifest(alloc, &manifest).expect(rt, "bytes");
+    drop(manifest);
+    are_equal(bytes, changed(rt, alloc, written, others))
 }
 
 #[test]
@@ -53,9 +44,10 @@ fn manifests_are_written(rt: HostRuntime) {
 
 #[test]
 fn a_new_manifest_has_97_bytes(rt: HostRuntime) {
+    assert!(rt; length_of(&rt, rt.alloc(), &NEW) == 97);
     let new = Manifest::initial(rt.alloc(), ManifestCore::new(rt.alloc()));
-    assert!(rt; bytes_of(&rt, rt.alloc(), &NEW).len() == 97);
-    assert!(rt; read(&rt, rt.alloc(), &NEW, &[]).is(&new));
+    let is_so = are_same(read(&rt, rt.alloc(), &NEW, &[]), new);
+    assert!(rt; is_so);
 }
 
 /// The numbers of a manifest.
@@ -80,15 +72,15 @@ fn is_text(text: &Option<Text>, letters: &str) -> bool {
     }
 }
 
-#[test]
-fn numbers_are_read(rt: HostRuntime) {
-    let manifest = read(&rt, rt.alloc(), &WHOLE, &[]);
-    assert!(rt; numbers(&manifest) == [3, 4, 5, 7, 10, 11, 9]);
-    assert!(rt; manifest.core.initialized);
-    assert!(rt; manifest.core.last_l0_clock_tick == -8);
-    assert!(rt; is_text(&manifest.core.segment_extractor_name, "ext"));
-    assert!(rt; manifest.core.wal_object_store_uri.is_none());
-    assert!(rt; manifest.core.sequence_tracker.pairs() == [(10, -7), (20, 5)].as_slice());
+/// Whether the numbers and texts of a manifest are those of the whole row.
+fn has_numbers(manifest: &Manifest) -> bool {
+    let core = &manifest.core;
+    numbers(manifest) == [3, 4, 5, 7, 10, 11, 9]
+        && core.initialized
+        && core.last_l0_clock_tick == -8
+        && is_text(&core.segment_extractor_name, "ext")
+        && core.wal_object_store_uri.is_none()
+        && core.sequence_tracker.pairs() == [(10, -7), (20, 5)].as_slice()
 }
 
 /// Whether a checkpoint is that of the rows.
@@ -117,26 +109,17 @@ fn is_entry(entry: &ExternalDb) -> bool {
         && entry.sst_ids.as_slice() == tables.as_slice()
 }
 
-#[test]
-fn checkpoints_and_entries_are_read(rt: HostRuntime) {
-    let manifest = read(&rt, rt.alloc(), &WHOLE, &[]);
-    assert!(rt; manifest.core.checkpoints.as_slice().len() == 1);
-    assert!(rt;
-        manifest
-            .core
-            .checkpoints
-            .as_slice()
-            .iter()
-            .all(|it| is_checkpoint(it))
-    );
-    assert!(rt; manifest.external_dbs.as_slice().len() == 1);
-    assert!(rt;
-        manifest
-            .external_dbs
-            .as_slice()
-            .iter()
-            .all(|it| is_entry(it))
-    );
+/// Whether the checkpoints and entries of a manifest are those of the whole row.
+fn has_items(manifest: &Manifest) -> bool {
+    let is_checkpointed = match manifest.core.checkpoints.as_slice() {
+        [checkpoint] => is_checkpoint(checkpoint),
+        _ => false,
+    };
+    let has_entry = match manifest.external_dbs.as_slice() {
+        [entry] => is_entry(entry),
+        _ => false,
+    };
+    is_checkpointed && has_entry
 }
 
 /// A view's number, its table's, and whether `a`, `b` and `c` are visible, where not all of the table is.
@@ -197,6 +180,13 @@ fn table(number: u32) -> SsTableHandle {
     }
 }
 
+fn is_table(found: &SsTableHandle, number: u32) -> bool {
+    let table = table(number);
+    let is_so = found.is(&table);
+    drop(table);
+    is_so
+}
+
 /// Which of these keys are visible.
 fn visible(view: &SsTableView) -> Option<[bool; 3]> {
     match view.visible_range() {
@@ -211,7 +201,7 @@ fn visible(view: &SsTableView) -> Option<[bool; 3]> {
 
 /// Whether a view is this one.
 fn is_view(view: &SsTableView, shown: Shown) -> bool {
-    view.id == id(shown.0) && view.sst.is(&table(shown.1)) && visible(view) == shown.2
+    view.id == id(shown.0) && is_table(&view.sst, shown.1) && visible(view) == shown.2
 }
 
 /// Whether views are these.
@@ -261,42 +251,62 @@ fn are_segments(segments: &[Segment], expected: &[Prefixed]) -> bool {
     segments.len() == expected.len()
 }
 
+/// Whether the trees of a database are those of the whole row.
+fn has_trees(core: &ManifestCore) -> bool {
+    is_tree(&core.tree, ROOT)
+        && core.tree.last_compacted_l0_sst_id.is_none()
+        && are_segments(core.segments(), &SEGMENTS)
+}
+
 #[test]
-fn trees_are_read(rt: HostRuntime) {
-    let core = read(&rt, rt.alloc(), &WHOLE, &[]).core;
-    assert!(rt; is_tree(&core.tree, ROOT));
-    assert!(rt; core.tree.last_compacted_l0_sst_id.is_none());
-    assert!(rt; are_segments(core.segments(), &SEGMENTS));
+fn the_whole_row_is_read(rt: HostRuntime) {
+    let manifest = read(&rt, rt.alloc(), &WHOLE, &[]);
+    let (numbers, items, trees) = (
+        has_numbers(&manifest),
+        has_items(&manifest),
+        has_trees(&manifest.core),
+    );
+    drop(manifest);
+    assert!(rt; numbers, "its numbers");
+    assert!(rt; items, "its checkpoint and its entry");
+    assert!(rt; trees, "its trees");
+}
+
+/// Whether a database is that of the row of version 1.
+fn is_old(core: &ManifestCore) -> bool {
+    is_tree(&core.tree, OLD_ROOT)
+        && core.tree.last_compacted_l0_sst_id == Some(Ulid::from_parts(2, 2))
+        && core.segments().is_empty()
+        && is_text(&core.wal_object_store_uri, "w")
 }
 
 #[test]
 fn version_1_is_read(rt: HostRuntime) {
-    let core = read(&rt, rt.alloc(), &OLD, &[]).core;
-    assert!(rt; is_tree(&core.tree, OLD_ROOT));
-    assert!(rt; core.tree.last_compacted_l0_sst_id == Some(Ulid::from_parts(2, 2)));
-    assert!(rt; core.segments().is_empty());
-    assert!(rt; is_text(&core.wal_object_store_uri, "w"));
+    let manifest = read(&rt, rt.alloc(), &OLD, &[]);
+    let is_so = is_old(&manifest.core);
+    drop(manifest);
+    assert!(rt; is_so);
 }
 
-/// Whether the codec writes and reads the whole row, and an equal manifest is a copy.
+/// Whether the codec writes and reads the whole row.
 fn is_coded(rt: &impl Abort, alloc: Global, manifest: &Manifest) -> bool {
     let bytes = bytes_of(rt, alloc, &WHOLE);
     let written = ManifestCodec.encode(alloc, manifest).expect(rt, "bytes");
     let read = ManifestCodec
         .decode(alloc, bytes.as_slice())
         .expect(rt, "a manifest");
-    written == bytes && read.is(manifest)
-}
-
-/// Whether an equal manifest is the codec's copy.
-fn is_copied(rt: &impl Abort, alloc: Global, manifest: &Manifest) -> bool {
-    let copied = ManifestCodec.copy(alloc, manifest).expect(rt, "memory");
-    copied.is(manifest)
+    let is_read = read.is(manifest);
+    drop(read);
+    are_equal(written, bytes) && is_read
 }
 
 #[test]
 fn the_codec_is_that_of_the_rows(rt: HostRuntime) {
     let manifest = read(&rt, rt.alloc(), &WHOLE, &[]);
-    assert!(rt; is_coded(&rt, rt.alloc(), &manifest));
-    assert!(rt; is_copied(&rt, rt.alloc(), &manifest));
+    let is_coded = is_coded(&rt, rt.alloc(), &manifest);
+    let copied = ManifestCodec
+        .copy(rt.alloc(), &manifest)
+        .expect(&rt, "memory");
+    let is_copied = are_same(copied, manifest);
+    assert!(rt; is_coded && is_copied);
 }

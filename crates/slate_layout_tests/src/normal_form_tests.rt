@@ -1,6 +1,7 @@
 //! What is read back of a manifest.
 
 use crate::manifest_test_rows::{OF_OLD, OLD, WHOLE, read};
+use crate::test_texts::are_same;
 use bytes::Bytes;
 use slate_ids::{CheckpointId, Text, Ulid};
 use slate_layout::{decode_manifest, encode_manifest, normal_form_manifest};
@@ -39,20 +40,26 @@ fn with_checkpoint(rt: &impl Abort, alloc: Global, moments: Moments) -> Manifest
 /// What is read back of a manifest.
 fn read_back(rt: &impl Abort, alloc: Global, manifest: &Manifest) -> Manifest {
     let bytes = encode_manifest(alloc, manifest).expect(rt, "bytes");
-    decode_manifest(alloc, bytes.as_slice()).expect(rt, "a manifest")
+    let read = decode_manifest(alloc, bytes.as_slice()).expect(rt, "a manifest");
+    drop(bytes);
+    read
 }
 
-/// Whether the second manifest is the normal form of the first, and is read back of it.
-fn is_normal(rt: &impl Abort, alloc: Global, manifest: &Manifest, expected: &Manifest) -> bool {
-    let normal = normal_form_manifest(alloc, manifest).expect(rt, "memory");
-    normal.is(expected) && read_back(rt, alloc, manifest).is(expected)
+/// Whether the second manifest is the normal form of the first, and is read back of it. Both are used up.
+fn is_normal(rt: &impl Abort, alloc: Global, manifest: Manifest, expected: Manifest) -> bool {
+    let normal = normal_form_manifest(alloc, &manifest).expect(rt, "memory");
+    let read = read_back(rt, alloc, &manifest);
+    drop(manifest);
+    let is_so = normal.is(&expected);
+    drop(normal);
+    is_so & are_same(read, expected)
 }
 
 /// Whether the second moments are the whole seconds of the first.
 fn are_seconds(rt: &impl Abort, alloc: Global, moments: Moments, seconds: Moments) -> bool {
     let manifest = with_checkpoint(rt, alloc, moments);
     let expected = with_checkpoint(rt, alloc, seconds);
-    is_normal(rt, alloc, &manifest, &expected)
+    is_normal(rt, alloc, manifest, expected)
 }
 
 #[test]
@@ -76,7 +83,8 @@ fn with_store(alloc: Global, store: Option<Text>) -> Manifest {
 fn a_store_of_the_log_is_not_kept(rt: HostRuntime) {
     let store = Text::copy_of(rt.alloc(), "w").expect(&rt, "memory");
     let manifest = with_store(rt.alloc(), Some(store));
-    assert!(rt; is_normal(&rt, rt.alloc(), &manifest, &with_store(rt.alloc(), None)));
+    let is_so = is_normal(&rt, rt.alloc(), manifest, with_store(rt.alloc(), None));
+    assert!(rt; is_so);
 }
 
 /// A new manifest with a segment of this marker of tables.
@@ -96,19 +104,15 @@ fn with_segment(rt: &impl Abort, alloc: Global, marker: Option<Ulid>) -> Manifes
 #[test]
 fn a_marker_of_tables_is_not_kept(rt: HostRuntime) {
     let manifest = with_segment(&rt, rt.alloc(), Some(Ulid::from_parts(2, 2)));
-    assert!(rt;
-        is_normal(
-            &rt,
-            rt.alloc(),
-            &manifest,
-            &with_segment(&rt, rt.alloc(), None)
-        )
-    );
+    let expected = with_segment(&rt, rt.alloc(), None);
+    let is_so = is_normal(&rt, rt.alloc(), manifest, expected);
+    assert!(rt; is_so);
 }
 
 #[test]
 fn version_1_is_read_back_as_version_2(rt: HostRuntime) {
     let manifest = read(&rt, rt.alloc(), &OLD, &[]);
     let expected = read(&rt, rt.alloc(), &WHOLE, OF_OLD);
-    assert!(rt; is_normal(&rt, rt.alloc(), &manifest, &expected));
+    let is_so = is_normal(&rt, rt.alloc(), manifest, expected);
+    assert!(rt; is_so);
 }

@@ -1,11 +1,11 @@
 //! What is read back of a record, and fields of records that have no bytes.
 
 use crate::record_test_rows::read_record;
-use crate::test_texts::bytes_of;
+use crate::test_texts::{are_equal, are_same, bytes_of, refused};
 use bytes::Bytes;
-use slate_ids::{BytesRange, FieldName, Listed, SlateDBError, Ulid};
+use slate_ids::{BytesRange, FieldName, Listed, Ulid};
 use slate_layout::{encode_compactions, normal_form_compactions};
-use slate_model::{Plain, SsTableHandle, SsTableId, SsTableInfo};
+use slate_model::{SsTableHandle, SsTableId, SsTableInfo};
 use slate_record_normality::is_normal_record;
 use slate_records::{
     Compaction, CompactionContext, CompactionSpec, CompactionStatus, Compactions, SourceId,
@@ -26,10 +26,19 @@ fn id(number: u32) -> Ulid {
     Ulid::from_parts(number as u64, 0)
 }
 
-/// A merge of run 7 and view 5, in this order.
-fn merge(rt: &impl Abort, alloc: Global) -> CompactionSpec {
-    let mut sources = one(rt, alloc, SourceId::SortedRun(7));
-    sources.push(SourceId::SstView(id(5))).expect(rt, "memory");
+/// View 5, or run 7.
+fn source(is_view: bool) -> SourceId {
+    if is_view {
+        SourceId::SstView(id(5))
+    } else {
+        SourceId::SortedRun(7)
+    }
+}
+
+/// A merge of view 5 and run 7, in this order or the other one.
+fn merge(rt: &impl Abort, alloc: Global, views_first: bool) -> CompactionSpec {
+    let mut sources = one(rt, alloc, source(views_first));
+    sources.push(source(!views_first)).expect(rt, "memory");
     CompactionSpec::Tiered {
         segment: Bytes::from("seg"),
         sources,
@@ -51,32 +60,47 @@ fn outputs(rt: &impl Abort, alloc: Global, is_compacted: bool) -> Listed<SsTable
     one(rt, alloc, table)
 }
 
-/// What a worker goes on with, of these parts, without a retention.
-fn context(parts: Listed<Subcompaction>) -> CompactionContext {
-    CompactionContext {
-        subcompactions: parts,
-        retention_min_seq: None,
-    }
+/// A record of a merge with one output, and with these parts to go on with.
+fn record_of(
+    rt: &impl Abort,
+    alloc: Global,
+    spec: CompactionSpec,
+    status: CompactionStatus,
+    output_ssts: Listed<SsTableHandle>,
+    ctx: CompactionContext,
+) -> Compactions {
+    let compaction = Compaction {
+        id: id(9),
+        spec,
+        status,
+        worker: None,
+        output_ssts,
+        ctx: Some(ctx),
+    };
+    let mut record = Compactions::new(alloc, 4);
+    record.insert(compaction).expect(rt, "memory");
+    record
 }
 
-/// A record of that merge, submitted, with one output and these parts.
+/// A record of the merge with its run first, submitted, with one output and these parts.
 fn record(
     rt: &impl Abort,
     alloc: Global,
     is_compacted: bool,
     parts: Listed<Subcompaction>,
 ) -> Compactions {
-    let compaction = Compaction {
-        id: id(9),
-        spec: merge(rt, alloc),
-        status: CompactionStatus::Submitted,
-        worker: None,
-        output_ssts: outputs(rt, alloc, is_compacted),
-        ctx: Some(context(parts)),
+    let ctx = CompactionContext {
+        subcompactions: parts,
+        retention_min_seq: None,
     };
-    let mut record = Compactions::new(alloc, 4);
-    record.insert(compaction).expect(rt, "memory");
-    record
+    record_of(
+        rt,
+        alloc,
+        merge(rt, alloc, false),
+        CompactionStatus::Submitted,
+        outputs(rt, alloc, is_compacted),
+        ctx,
+    )
 }
 
 /// The bytes of that record without parts: views before runs, no outputs, retention 0.
@@ -92,25 +116,6 @@ const NORMAL: [&str; 9] = [
     "00 00 00000000 01 00000000 0000000000000000",
 ];
 
-/// Whether a record has these bytes.
-fn has_bytes(rt: &impl Abort, alloc: Global, record: &Compactions) -> bool {
-    let bytes = bytes_of(rt, alloc, &NORMAL);
-    encode_compactions(alloc, record).expect(rt, "bytes") == bytes
-}
-
-/// Whether the record of these bytes is a record's normal form.
-fn is_normal(rt: &impl Abort, alloc: Global, record: &Compactions) -> bool {
-    let normal = normal_form_compactions(alloc, record).expect(rt, "memory");
-    normal.is(&read_record(rt, alloc, &NORMAL, &[]))
-}
-
-#[test]
-fn the_normal_form_is_what_is_read_back(rt: HostRuntime) {
-    let record = record(&rt, rt.alloc(), true, Listed::new(rt.alloc()));
-    assert!(rt; has_bytes(&rt, rt.alloc(), &record));
-    assert!(rt; is_normal(&rt, rt.alloc(), &record));
-}
-
 /// How many outputs compaction 9 of a record has.
 fn output_count(record: &Compactions) -> Option<usize> {
     match record.get(id(9)) {
@@ -119,12 +124,18 @@ fn output_count(record: &Compactions) -> Option<usize> {
     }
 }
 
+/// A submitted compaction has no outputs in the normal form.
 #[test]
-fn a_submitted_compaction_has_no_outputs(rt: HostRuntime) {
+fn the_normal_form_is_what_is_read_back(rt: HostRuntime) {
     let record = record(&rt, rt.alloc(), true, Listed::new(rt.alloc()));
+    let bytes = encode_compactions(rt.alloc(), &record).expect(&rt, "bytes");
     let normal = normal_form_compactions(rt.alloc(), &record).expect(&rt, "memory");
-    assert!(rt; output_count(&record) == Some(1));
-    assert!(rt; output_count(&normal) == Some(0));
+    let counts = (output_count(&record), output_count(&normal));
+    drop(record);
+    let is_normal = are_same(normal, read_record(&rt, rt.alloc(), &NORMAL, &[]));
+    let has_bytes = are_equal(bytes, bytes_of(&rt, rt.alloc(), &NORMAL));
+    assert!(rt; counts == (Some(1), Some(0)));
+    assert!(rt; is_normal && has_bytes);
 }
 
 /// Parts: none, or one of no keys.
@@ -148,40 +159,25 @@ const FIELDS: [(bool, bool, Option<FieldName>); 4] = [
 ];
 
 /// The field of such a record that has no bytes.
-fn refused(
+fn refused_of(
     rt: &impl Abort,
     alloc: Global,
     is_compacted: bool,
     has_keys: bool,
 ) -> Option<FieldName> {
     let record = record(rt, alloc, is_compacted, parts(rt, alloc, has_keys));
-    match encode_compactions(alloc, &record) {
-        Err(SlateDBError::Unencodable(field)) => Some(field),
-        _ => None,
-    }
+    let encoded = encode_compactions(alloc, &record);
+    drop(record);
+    refused(encoded)
 }
 
 #[test]
 fn outputs_of_the_log_and_ranges_without_keys_have_no_bytes(rt: HostRuntime) {
     for (is_compacted, has_keys, field) in &FIELDS {
         assert!(rt;
-            refused(&rt, rt.alloc(), *is_compacted, *has_keys) == *field,
+            refused_of(&rt, rt.alloc(), *is_compacted, *has_keys) == *field,
             "at {field:?}"
         );
-    }
-}
-
-/// A merge of view 5 and run 7, in this order or the other one.
-fn ordered(rt: &impl Abort, alloc: Global, views_first: bool) -> CompactionSpec {
-    if !views_first {
-        return merge(rt, alloc);
-    }
-    let mut sources = one(rt, alloc, SourceId::SstView(id(5)));
-    sources.push(SourceId::SortedRun(7)).expect(rt, "memory");
-    CompactionSpec::Tiered {
-        segment: Bytes::from("seg"),
-        sources,
-        destination: 3,
     }
 }
 
@@ -193,24 +189,24 @@ fn told_normal(
     is_over: bool,
     retention_min_seq: Option<u64>,
 ) -> bool {
-    let compaction = Compaction {
-        id: id(9),
-        spec: ordered(rt, alloc, views_first),
-        status: if is_over {
-            CompactionStatus::Failed
-        } else {
-            CompactionStatus::Running
-        },
-        worker: None,
-        output_ssts: outputs(rt, alloc, true),
-        ctx: Some(CompactionContext {
-            subcompactions: Listed::new(alloc),
-            retention_min_seq,
-        }),
+    let status = if is_over {
+        CompactionStatus::Failed
+    } else {
+        CompactionStatus::Running
     };
-    let mut record = Compactions::new(alloc, 4);
-    record.insert(compaction).expect(rt, "memory");
-    is_normal_record(&record)
+    let ctx = CompactionContext {
+        subcompactions: Listed::new(alloc),
+        retention_min_seq,
+    };
+    let spec = merge(rt, alloc, views_first);
+    is_normal(record_of(rt, alloc, spec, status, outputs(rt, alloc, true), ctx))
+}
+
+/// Whether a record, which is used up, is told as normal.
+fn is_normal(record: Compactions) -> bool {
+    let is_so = is_normal_record(&record);
+    drop(record);
+    is_so
 }
 
 /// Whether views come first, the compaction is over, its retention is known; and whether the record is normal: outputs stay where it is over.
@@ -226,9 +222,8 @@ fn a_record_that_would_be_read_back_otherwise_is_told(rt: HostRuntime) {
     for (views_first, is_over, retention, normal) in &TOLD {
         assert!(rt;
             told_normal(&rt, rt.alloc(), *views_first, *is_over, *retention) == *normal,
-            "at {views_first:?} {is_over:?} {retention:?}"
+            "at {views_first} {is_over} {retention:?}"
         );
     }
-    let empty = Compactions::new(rt.alloc(), 7);
-    assert!(rt; is_normal_record(&empty));
+    assert!(rt; is_normal(Compactions::new(rt.alloc(), 7)));
 }

@@ -110,5 +110,7 @@ pub(crate) fn read_record(
     changes: &[(usize, &str)],
 ) -> Compactions {
     let bytes = changed(rt, alloc, row, changes);
-    decode_compactions(alloc, bytes.as_slice()).expect(rt, "a record")
+    let read = decode_compactions(alloc, bytes.as_slice()).expect(rt, "a record");
+    drop(bytes);
+    read
 }

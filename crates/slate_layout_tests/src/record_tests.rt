@@ -1,13 +1,13 @@
 //! Records, as bytes and back.
 
-use crate::record_test_rows::{EMPTY, ID_10, OF_OLD, OLD, TABLE_11, WHOLE, read_record};
-use crate::test_texts::bytes_of;
+use crate::record_test_rows::{EMPTY, OF_OLD, OLD, WHOLE, read_record};
+use crate::test_texts::{are_equal, are_same, bytes_of, length_of};
 use slate_ids::{ObjectCodec, Ulid};
 use slate_layout::{CompactionsCodec, encode_compactions};
 use slate_model::{Plain, SsTableHandle, SsTableId, SsTableInfo};
 use slate_records::{
     Compaction, CompactionContext, CompactionSpec, CompactionStatus, Compactions, SourceId,
-    WorkerSpec,
+    Subcompaction, WorkerSpec,
 };
 use std::alloc::Global;
 use std::process::Abort;
@@ -15,15 +15,16 @@ use std::process::Abort;
 /// Rows, and the rows of what is written of them.
 const WRITTEN: [(&[&str], &[&str]); 3] = [(&EMPTY, &EMPTY), (&WHOLE, &WHOLE), (&OLD, &OF_OLD)];
 
-/// Whether the bytes of a row are those of a record.
-fn has_bytes(rt: &impl Abort, alloc: Global, record: &Compactions, row: &[&str]) -> bool {
-    let bytes = bytes_of(rt, alloc, row);
-    encode_compactions(alloc, record).expect(rt, "bytes") == bytes
+/// Whether the bytes of a row are written of a record, which is used up.
+fn has_bytes(rt: &impl Abort, alloc: Global, record: Compactions, row: &[&str]) -> bool {
+    let bytes = encode_compactions(alloc, &record).expect(rt, "bytes");
+    drop(record);
+    are_equal(bytes, bytes_of(rt, alloc, row))
 }
 
 /// Whether the bytes of the second row are written of the record of the first.
 fn is_written(rt: &impl Abort, alloc: Global, row: &[&str], written: &[&str]) -> bool {
-    has_bytes(rt, alloc, &read_record(rt, alloc, row, &[]), written)
+    has_bytes(rt, alloc, read_record(rt, alloc, row, &[]), written)
 }
 
 #[test]
@@ -38,10 +39,11 @@ fn records_are_written(rt: HostRuntime) {
 
 #[test]
 fn an_empty_record_has_14_bytes(rt: HostRuntime) {
+    assert!(rt; length_of(&rt, rt.alloc(), &EMPTY) == 14);
+    assert!(rt; has_bytes(&rt, rt.alloc(), Compactions::new(rt.alloc(), 0), &EMPTY));
     let empty = Compactions::new(rt.alloc(), 0);
-    assert!(rt; bytes_of(&rt, rt.alloc(), &EMPTY).len() == 14);
-    assert!(rt; has_bytes(&rt, rt.alloc(), &empty, &EMPTY));
-    assert!(rt; read_record(&rt, rt.alloc(), &EMPTY, &[]).is(&empty));
+    let is_so = are_same(read_record(&rt, rt.alloc(), &EMPTY, &[]), empty);
+    assert!(rt; is_so);
 }
 
 /// The id of this number.
@@ -49,16 +51,27 @@ fn id(number: u32) -> Ulid {
     Ulid::from_parts(number as u64, 0)
 }
 
+/// Whether nothing is known of a table.
+fn is_unknown(info: &SsTableInfo) -> bool {
+    let unknown = SsTableInfo::default();
+    let is_so = info.is(&unknown);
+    drop(unknown);
+    is_so
+}
+
 /// Whether a table is the one of this number, of which nothing is known.
 fn is_table(table: &SsTableHandle, number: u32) -> bool {
     table.id == SsTableId::Compacted(id(number))
         && table.format_version == 258
-        && table.info.is(&SsTableInfo::default())
+        && is_unknown(&table.info)
 }
 
 /// Whether tables are the one of this number.
 fn are_table(tables: &[SsTableHandle], number: u32) -> bool {
-    tables.len() == 1 && tables.iter().all(|table| is_table(table, number))
+    match tables {
+        [table] => is_table(table, number),
+        _ => false,
+    }
 }
 
 /// Whether a spec is the merge of the row.
@@ -81,14 +94,18 @@ fn is_worker(worker: &WorkerSpec) -> bool {
 
 /// Whether what a worker goes on with is that of the row.
 fn is_context(context: &CompactionContext) -> bool {
-    let parts = context.subcompactions.as_slice();
-    context.retention_min_seq == Some(6)
-        && parts.len() == 1
-        && parts.iter().all(|part| {
-            part.range.contains(b"a")
-                && !part.range.contains(b"b")
-                && are_table(part.output_ssts.as_slice(), 13)
-        })
+    let is_so = match context.subcompactions.as_slice() {
+        [part] => is_part(part),
+        _ => false,
+    };
+    is_so && context.retention_min_seq == Some(6)
+}
+
+/// Whether a part is that of the row.
+fn is_part(part: &Subcompaction) -> bool {
+    part.range.contains(b"a")
+        && !part.range.contains(b"b")
+        && are_table(part.output_ssts.as_slice(), 13)
 }
 
 /// Whether a compaction is the merge of the row.
@@ -114,9 +131,12 @@ fn is_draining(compaction: &Compaction) -> bool {
 #[test]
 fn compactions_are_read(rt: HostRuntime) {
     let record = read_record(&rt, rt.alloc(), &WHOLE, &[]);
-    assert!(rt; record.compactor_epoch == 4 && record.len() == 2);
-    assert!(rt; record.get(id(9)).is_some_and(|it| is_merging(it)));
-    assert!(rt; record.get(id(10)).is_some_and(|it| is_draining(it)));
+    let numbers = (record.compactor_epoch, record.len());
+    let is_merging = record.get(id(9)).is_some_and(|it| is_merging(it));
+    let is_draining = record.get(id(10)).is_some_and(|it| is_draining(it));
+    drop(record);
+    assert!(rt; numbers == (4, 2));
+    assert!(rt; is_merging && is_draining);
 }
 
 /// Statuses, their bytes, and how many outputs of one are kept.
@@ -139,7 +159,10 @@ fn progress(record: &Compactions) -> Option<(CompactionStatus, usize)> {
 
 /// The same of the row with this byte of a status.
 fn read_status(rt: &impl Abort, alloc: Global, byte: &str) -> Option<(CompactionStatus, usize)> {
-    progress(&read_record(rt, alloc, &WHOLE, &[(9, byte)]))
+    let record = read_record(rt, alloc, &WHOLE, &[(9, byte)]);
+    let progress = progress(&record);
+    drop(record);
+    progress
 }
 
 #[test]
@@ -159,18 +182,18 @@ fn is_coded(rt: &impl Abort, alloc: Global, record: &Compactions) -> bool {
     let read = CompactionsCodec
         .decode(alloc, bytes.as_slice())
         .expect(rt, "a record");
-    written == bytes && read.is(record)
-}
-
-/// Whether an equal record is the codec's copy.
-fn is_copied(rt: &impl Abort, alloc: Global, record: &Compactions) -> bool {
-    let copied = CompactionsCodec.copy(alloc, record).expect(rt, "memory");
-    copied.is(record)
+    let is_read = read.is(record);
+    drop(read);
+    are_equal(written, bytes) && is_read
 }
 
 #[test]
 fn the_codec_is_that_of_the_rows(rt: HostRuntime) {
     let record = read_record(&rt, rt.alloc(), &WHOLE, &[]);
-    assert!(rt; is_coded(&rt, rt.alloc(), &record));
-    assert!(rt; is_copied(&rt, rt.alloc(), &record));
+    let is_coded = is_coded(&rt, rt.alloc(), &record);
+    let copied = CompactionsCodec
+        .copy(rt.alloc(), &record)
+        .expect(&rt, "memory");
+    let is_copied = are_same(copied, record);
+    assert!(rt; is_coded && is_copied);
 }

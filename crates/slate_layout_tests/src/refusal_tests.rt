@@ -1,96 +1,163 @@
-//! Bytes of no manifest.
+//! Bytes of no manifest, no record, no info and no boundary.
 
 use crate::manifest_test_rows::{
     Changes, EMPTY_3, ID_2, ID_3, NEW, OLD, OTHER_3, OTHER_TREE, TABLE_1, TABLE_3, WHOLE,
 };
-use crate::test_texts::{add, bytes_of, changed};
-use slate_ids::{FormatName, SlateDBError};
-use slate_layout::decode_manifest;
-use slate_model::Manifest;
+use crate::record_test_rows::{EMPTY, ID_8, ID_9, OLD as OLD_RECORD, WHOLE as WHOLE_RECORD};
+use crate::test_texts::{add, bytes_of, changed, extend};
+use slate_ids::FormatName::{self, Boundary, Info};
+use slate_ids::SlateDBError;
+use slate_layout::{decode_boundary, decode_compactions, decode_info, decode_manifest};
 use std::alloc::Global;
 use std::process::Abort;
 
-/// The number of a refusal, where a manifest's bytes may be refused so.
-fn cause(refusal: &SlateDBError) -> Option<u8> {
+/// An answer without its value.
+fn without<T: Drop>(read: Result<T, SlateDBError>) -> Result<(), SlateDBError> {
+    match read {
+        Ok(value) => {
+            drop(value);
+            Ok(())
+        }
+        Err(e) => Err(e),
+    }
+}
+
+/// What is said of the bytes of a format.
+fn read(alloc: Global, format: FormatName, bytes: &[u8]) -> Result<(), SlateDBError> {
+    match format {
+        FormatName::Manifest => without(decode_manifest(alloc, bytes)),
+        FormatName::Compactions => without(decode_compactions(alloc, bytes)),
+        FormatName::Info => without(decode_info(alloc, bytes)),
+        FormatName::Boundary => without(decode_boundary(bytes)),
+    }
+}
+
+/// Whether bytes of a format may be refused so.
+fn is_of(refusal: &SlateDBError, format: FormatName) -> bool {
     match refusal {
-        SlateDBError::EmptyManifest
-        | SlateDBError::Corrupt(FormatName::Manifest)
-        | SlateDBError::InvalidVersion {
-            format: FormatName::Manifest,
-            ..
-        } => Some(refusal.code()),
+        SlateDBError::EmptyManifest => format == FormatName::Manifest,
+        SlateDBError::InvalidCompaction => format == FormatName::Compactions,
+        SlateDBError::Corrupt(named) => *named == format,
+        SlateDBError::InvalidVersion { format: named, .. } => *named == format,
+        _ => false,
+    }
+}
+
+/// The number of a refusal, and the version that it names; 99 for one that is of no such bytes.
+fn told(read: &Result<(), SlateDBError>, format: FormatName) -> (u8, Option<u16>) {
+    match read {
+        Ok(()) => (0, None),
+        Err(e) => {
+            if is_of(e, format) {
+                (e.code(), version_of(e))
+            } else {
+                (99, None)
+            }
+        }
+    }
+}
+
+fn version_of(refusal: &SlateDBError) -> Option<u16> {
+    match refusal {
+        SlateDBError::InvalidVersion { actual, .. } => Some(*actual),
         _ => None,
     }
 }
 
-/// The same of bytes; 0 where they stand for a manifest.
-fn refusal(alloc: Global, bytes: &[u8]) -> Option<u8> {
-    cause_of(&decode_manifest(alloc, bytes))
-}
-
-fn cause_of(read: &Result<Manifest, SlateDBError>) -> Option<u8> {
-    match read {
-        Ok(_) => Some(0),
-        Err(refusal) => cause(refusal),
-    }
-}
-
-/// The version that a refusal of bytes names.
-fn version(alloc: Global, bytes: &[u8]) -> Option<u16> {
-    version_of(&decode_manifest(alloc, bytes))
-}
-
-fn version_of(read: &Result<Manifest, SlateDBError>) -> Option<u16> {
-    match read {
-        Err(SlateDBError::InvalidVersion { actual, .. }) => Some(*actual),
-        _ => None,
-    }
+/// The number of the refusal of bytes, 0 where they stand for a value; and the version that it names.
+fn refusal(alloc: Global, format: FormatName, bytes: &[u8]) -> (u8, Option<u16>) {
+    let read = read(alloc, format, bytes);
+    let all = told(&read, format);
+    drop(read);
+    all
 }
 
 /// Bytes, the number of their refusal, and the version that it names.
-const BEGUN: [(&[u8], u8, Option<u16>); 8] = [
-    (&[], 10, None),
-    (&[0], 10, None),
-    (&[0, 3], 12, Some(3)),
-    (&[0, 9], 12, Some(9)),
-    (&[1, 2], 12, Some(258)),
-    (&[0, 0], 12, Some(0)),
-    (&[0, 1], 13, None),
-    (&[0, 2], 13, None),
+const BEGUN: [(FormatName, &[u8], u8, Option<u16>); 21] = [
+    (MANIFEST, &[], 10, None),
+    (MANIFEST, &[0], 10, None),
+    (MANIFEST, &[0, 3], 12, Some(3)),
+    (MANIFEST, &[0, 9], 12, Some(9)),
+    (MANIFEST, &[1, 2], 12, Some(258)),
+    (MANIFEST, &[0, 0], 12, Some(0)),
+    (MANIFEST, &[0, 1], 13, None),
+    (MANIFEST, &[0, 2], 13, None),
+    (RECORD, &[], 11, None),
+    (RECORD, &[0], 11, None),
+    (RECORD, &[0, 3], 12, Some(3)),
+    (RECORD, &[0, 0], 12, Some(0)),
+    (RECORD, &[0, 1], 13, None),
+    (RECORD, &[0, 2], 13, None),
+    (Info, &[0], 13, None),
+    (Boundary, b"", 13, None),
+    (Boundary, b"00", 13, None),
+    (Boundary, b"02", 13, None),
+    (Boundary, b"18446744073709551616", 13, None),
+    (Boundary, b"a", 13, None),
+    (Boundary, b"2a", 13, None),
 ];
 
+const MANIFEST: FormatName = FormatName::Manifest;
+
+const RECORD: FormatName = FormatName::Compactions;
+
 #[test]
-fn versions_are_1_and_2(rt: HostRuntime) {
-    for (bytes, code, actual) in &BEGUN {
-        assert!(rt; refusal(rt.alloc(), bytes) == Some(*code), "at {bytes:?}");
-        assert!(rt; version(rt.alloc(), bytes) == *actual, "at {bytes:?}");
+fn bytes_begin_with_versions_1_and_2(rt: HostRuntime) {
+    for (row, (format, bytes, code, version)) in BEGUN.iter().enumerate() {
+        let found = refusal(rt.alloc(), *format, bytes);
+        assert!(rt; found.0 == *code && found.1 == *version, "at row {row}");
     }
 }
 
 /// Whether each beginning of bytes is Corrupt, from their version on.
-fn has_no_beginning(alloc: Global, bytes: &[u8]) -> bool {
+fn has_no_beginning(alloc: Global, format: FormatName, bytes: &[u8]) -> bool {
     for length in 2..bytes.len() {
-        if refusal(alloc, &bytes[..length]) != Some(13) {
+        if refusal(alloc, format, &bytes[..length]).0 != 13 {
             return false;
         }
     }
     true
 }
 
-/// Whether the bytes of a row stand for a manifest, and neither a beginning of them nor one byte more does.
-fn is_whole(rt: &impl Abort, alloc: Global, row: &[&str]) -> bool {
+/// Whether the bytes of a row stand for a value, and neither a beginning of them nor one byte more does.
+fn is_whole(rt: &impl Abort, alloc: Global, format: FormatName, row: &[&str]) -> bool {
     let mut bytes = bytes_of(rt, alloc, row);
-    let is_read = refusal(alloc, bytes.as_slice()) == Some(0);
-    let is_alone = has_no_beginning(alloc, bytes.as_slice());
+    let is_read = refusal(alloc, format, bytes.as_slice()).0 == 0;
+    let is_alone = has_no_beginning(alloc, format, bytes.as_slice());
     add(rt, alloc, &mut bytes, "00");
-    is_read && is_alone && refusal(alloc, bytes.as_slice()) == Some(13)
+    let is_more = refusal(alloc, format, bytes.as_slice()).0 == 13;
+    drop(bytes);
+    is_read && is_alone && is_more
 }
+
+const ROWS: [(FormatName, &[&str]); 6] = [
+    (MANIFEST, &NEW),
+    (MANIFEST, &WHOLE),
+    (MANIFEST, &OLD),
+    (RECORD, &EMPTY),
+    (RECORD, &WHOLE_RECORD),
+    (RECORD, &OLD_RECORD),
+];
 
 #[test]
 fn a_byte_less_or_more_is_corrupt(rt: HostRuntime) {
-    assert!(rt; is_whole(&rt, rt.alloc(), &NEW));
-    assert!(rt; is_whole(&rt, rt.alloc(), &WHOLE));
-    assert!(rt; is_whole(&rt, rt.alloc(), &OLD));
+    for (place, (format, row)) in ROWS.iter().enumerate() {
+        assert!(rt; is_whole(&rt, rt.alloc(), *format, row), "at row {place}");
+    }
+}
+
+/// The number of the refusal of a row, some of whose texts are changed; 0 where its bytes stand for a value.
+fn judged(
+    rt: &impl Abort,
+    alloc: Global,
+    format: FormatName,
+    row: &[&str],
+    changes: Changes,
+) -> u8 {
+    let bytes = changed(rt, alloc, row, changes);
+    let (code, _) = refusal(alloc, format, bytes.as_slice());
+    drop(bytes);
+    code
 }
 
 /// Changes of the whole row, and the number of their refusal.
@@ -219,19 +286,11 @@ const CHANGED: [(Changes, u8); 39] = [
     ),
 ];
 
-/// The number of the refusal of a row, some of whose texts are changed; 0 where its bytes stand for a manifest.
-fn judged(rt: &impl Abort, alloc: Global, row: &[&str], changes: Changes) -> Option<u8> {
-    let bytes = changed(rt, alloc, row, changes);
-    refusal(alloc, bytes.as_slice())
-}
-
 #[test]
 fn changes_of_version_2_are_judged(rt: HostRuntime) {
     for (changes, code) in &CHANGED {
-        assert!(rt;
-            judged(&rt, rt.alloc(), &WHOLE, changes) == Some(*code),
-            "with {changes:?}"
-        );
+        let found = judged(&rt, rt.alloc(), MANIFEST, &WHOLE, changes);
+        assert!(rt; found == *code, "with {changes:?}");
     }
 }
 
@@ -250,10 +309,53 @@ const OLD_CHANGED: [(Changes, u8); 7] = [
 #[test]
 fn changes_of_version_1_are_judged(rt: HostRuntime) {
     for (changes, code) in &OLD_CHANGED {
-        assert!(rt;
-            judged(&rt, rt.alloc(), &OLD, changes) == Some(*code),
-            "with {changes:?}"
-        );
+        let found = judged(&rt, rt.alloc(), MANIFEST, &OLD, changes);
+        assert!(rt; found == *code, "with {changes:?}");
+    }
+}
+
+/// Rows of records and their changes, and the number of their refusal.
+const RECORDS_CHANGED: [(&[&str], Changes, u8); 16] = [
+    (&WHOLE_RECORD, &[(2, "00000001")], 13),
+    (&WHOLE_RECORD, &[(2, "ffffffff")], 13),
+    // Ids that don't ascend.
+    (&WHOLE_RECORD, &[(19, ID_8)], 13),
+    (&WHOLE_RECORD, &[(19, ID_9)], 13),
+    (
+        &WHOLE_RECORD,
+        &[(19, "000000000009 00000000000000000001")],
+        0,
+    ),
+    // Bytes of no kind, no status and no flag.
+    (&WHOLE_RECORD, &[(4, "02")], 13),
+    (&WHOLE_RECORD, &[(9, "06")], 13),
+    (
+        &WHOLE_RECORD,
+        &[(10, "02 00000001 77 0000000000000102")],
+        13,
+    ),
+    (&WHOLE_RECORD, &[(13, "02")], 13),
+    // A worker's name that isn't UTF-8.
+    (
+        &WHOLE_RECORD,
+        &[(10, "01 00000001 ff 0000000000000102")],
+        13,
+    ),
+    // A range without keys; one not from a key on.
+    (&WHOLE_RECORD, &[(15, "01 00000001 61 02 00000001 61")], 13),
+    (&WHOLE_RECORD, &[(15, "02 00000001 61 02 00000001 62")], 0),
+    (&WHOLE_RECORD, &[(15, "00 00")], 0),
+    // Version 1 has no kinds and no destinations.
+    (&OLD_RECORD, &[(0, "0002")], 13),
+    (&WHOLE_RECORD, &[(0, "0001")], 13),
+    (&OLD_RECORD, &[(12, ID_9)], 13),
+];
+
+#[test]
+fn changes_of_records_are_judged(rt: HostRuntime) {
+    for (row, changes, code) in &RECORDS_CHANGED {
+        let found = judged(&rt, rt.alloc(), RECORD, row, changes);
+        assert!(rt; found == *code, "with {changes:?}");
     }
 }
 
@@ -278,20 +380,19 @@ fn tracker(rt: &impl Abort, alloc: Global, count: u32) -> Vec<u8> {
 }
 
 /// The number of the refusal of a new manifest with such a tracker; 0 where its bytes stand for a manifest.
-fn judged_tracker(rt: &impl Abort, alloc: Global, count: u32) -> Option<u8> {
+fn judged_tracker(rt: &impl Abort, alloc: Global, count: u32) -> u8 {
     let mut bytes = bytes_of(rt, alloc, &NEW[..2]);
     add(rt, alloc, &mut bytes, "0000000000000000 0000000000000000");
-    let pairs = tracker(rt, alloc, count);
-    bytes
-        .extend_from_slice(pairs.as_slice())
-        .expect(rt, "memory");
+    extend(rt, &mut bytes, tracker(rt, alloc, count));
     add(rt, alloc, &mut bytes, "00000000 00000000 0000000000000000");
-    refusal(alloc, bytes.as_slice())
+    let (code, _) = refusal(alloc, MANIFEST, bytes.as_slice());
+    drop(bytes);
+    code
 }
 
 #[test]
 fn a_tracker_has_at_most_4096_pairs(rt: HostRuntime) {
-    assert!(rt; judged_tracker(&rt, rt.alloc(), 0) == Some(0));
-    assert!(rt; judged_tracker(&rt, rt.alloc(), 4096) == Some(0));
-    assert!(rt; judged_tracker(&rt, rt.alloc(), 4097) == Some(13));
+    assert!(rt; judged_tracker(&rt, rt.alloc(), 0) == 0);
+    assert!(rt; judged_tracker(&rt, rt.alloc(), 4096) == 0);
+    assert!(rt; judged_tracker(&rt, rt.alloc(), 4097) == 13);
 }

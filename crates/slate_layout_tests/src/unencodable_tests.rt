@@ -1,21 +1,22 @@
 //! Fields of manifests that have no bytes.
 
+use crate::test_texts::refused;
 use bytes::Bytes;
-use slate_ids::{CheckpointId, DbPath, FieldName, Listed, SlateDBError, Ulid};
+use slate_ids::{CheckpointId, DbPath, FieldName, Listed, Ulid};
 use slate_layout::encode_manifest;
 use slate_model::{
     Checkpoint, ExternalDb, LsmTreeState, Manifest, ManifestCore, SsTableHandle, SsTableId,
     SsTableInfo, SsTableView,
 };
 use std::alloc::Global;
+use std::mem;
 use std::process::Abort;
 
-/// The field of a manifest that has no bytes.
-fn refused(alloc: Global, manifest: &Manifest) -> Option<FieldName> {
-    match encode_manifest(alloc, manifest) {
-        Err(SlateDBError::Unencodable(field)) => Some(field),
-        _ => None,
-    }
+/// The field of a manifest that has no bytes. The manifest is used up.
+fn refused_of(alloc: Global, manifest: Manifest) -> Option<FieldName> {
+    let encoded = encode_manifest(alloc, &manifest);
+    drop(manifest);
+    refused(encoded)
 }
 
 /// A checkpoint of these moments.
@@ -57,7 +58,7 @@ fn refused_moment(
     creation: i64,
 ) -> Option<FieldName> {
     let core = core_with(rt, alloc, expiry, creation);
-    refused(alloc, &Manifest::initial(alloc, core))
+    refused_of(alloc, Manifest::initial(alloc, core))
 }
 
 #[test]
@@ -119,7 +120,8 @@ fn with_view(rt: &impl Abort, alloc: Global, view: SsTableView) -> Manifest {
 fn tables_without_keys_have_no_bytes(rt: HostRuntime) {
     for (number, first, last, field) in &TABLES {
         let manifest = with_view(&rt, rt.alloc(), view(table(*number), *first, *last));
-        assert!(rt; refused(rt.alloc(), &manifest) == *field, "at {first:?}");
+        let found = refused_of(rt.alloc(), manifest);
+        assert!(rt; found == *field, "at {first:?}");
     }
 }
 
@@ -149,7 +151,8 @@ fn with_entry(rt: &impl Abort, alloc: Global) -> Manifest {
 #[test]
 fn entries_of_the_log_have_no_bytes(rt: HostRuntime) {
     let manifest = with_entry(&rt, rt.alloc());
-    assert!(rt; refused(rt.alloc(), &manifest) == Some(FieldName::WalId));
+    let found = refused_of(rt.alloc(), manifest);
+    assert!(rt; found == Some(FieldName::WalId));
 }
 
 /// The fields in their order.
@@ -190,9 +193,9 @@ fn refused_from(rt: &impl Abort, alloc: Global, from: usize) -> Option<FieldName
     let expiry = if from > 0 { 1000 } else { 0 };
     let creation = if from > 1 { 0 } else { -1 };
     let mut core = core_with(rt, alloc, Some(expiry), creation);
-    core.tree = tree_from(rt, alloc, from);
+    drop(mem::replace(&mut core.tree, tree_from(rt, alloc, from)));
     core.next_wal_sst_id = if from > 5 { 1 } else { 0 };
-    refused(alloc, &Manifest::initial(alloc, core))
+    refused_of(alloc, Manifest::initial(alloc, core))
 }
 
 #[test]

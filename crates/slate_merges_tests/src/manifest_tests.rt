@@ -1,10 +1,11 @@
 //! A writer's core merged with a manifest that was read.
 
-use crate::test_trees::{Seen, SegmentRow, TreeRow, push_tree, segments, segments_text, tree};
+use crate::test_trees::{Seen, SegmentRow, TreeRow, have_text, is_text, segments, tree};
 use slate_ids::{CheckpointId, DbPath, Listed, Ulid};
 use slate_merges::merge_remote_manifest;
 use slate_model::{Checkpoint, ExternalDb, Manifest, ManifestCore, Segment, SsTableId};
 use std::alloc::Global;
+use std::mem;
 use std::process::Abort;
 
 const WRITER: TreeRow = (&[Seen::Table(3, 30), Seen::Table(2, 20)], &[9], None, None);
@@ -23,7 +24,7 @@ fn core(rt: &impl Abort, alloc: Global, root: &TreeRow, rows: &[SegmentRow]) -> 
     let of = segments(rt, alloc, rows);
     assert!(rt; Segment::are_ascending(of.as_slice()));
     let mut core = ManifestCore::new(alloc);
-    core.tree = tree(rt, alloc, root);
+    drop(mem::replace(&mut core.tree, tree(rt, alloc, root)));
     core.set_segments(of);
     core
 }
@@ -101,10 +102,8 @@ fn has_local_numbers(core: &ManifestCore) -> bool {
 
 /// Whether the trees are the merges.
 fn has_merged_trees(rt: &impl Abort, alloc: Global, core: &ManifestCore) -> bool {
-    let mut root = String::new(alloc);
-    push_tree(rt, &mut root, &core.tree);
-    root.as_str() == "3 / 7 v2 "
-        && segments_text(rt, alloc, core.segments()).as_str() == "b: / 1 ; "
+    is_text(rt, alloc, &core.tree, "3 / 7 v2 ")
+        && have_text(rt, alloc, core.segments(), "b: / 1 ; ")
 }
 
 /// Whether epochs, checkpoints and entries are those that were read, with the used table alone.
@@ -120,15 +119,23 @@ fn has_remote_rest(merged: &Manifest) -> bool {
         && entries[0].lists(&table(30))
 }
 
+/// Their merge.
+fn merged(rt: &impl Abort, alloc: Global) -> Manifest {
+    let local = local(rt, alloc);
+    let remote = remote(rt, alloc);
+    let merged = merge_remote_manifest(alloc, &local, &remote);
+    drop(remote);
+    drop(local);
+    merged.expect(rt, "memory")
+}
+
 #[test]
 fn a_merge_keeps_local_numbers_and_what_was_read_of_others(rt: HostRuntime) {
-    let merged = merge_remote_manifest(
-        rt.alloc(),
-        &local(&rt, rt.alloc()),
-        &remote(&rt, rt.alloc()),
-    )
-    .expect(&rt, "memory");
-    assert!(rt; has_local_numbers(&merged.core));
-    assert!(rt; has_merged_trees(&rt, rt.alloc(), &merged.core));
-    assert!(rt; has_remote_rest(&merged));
+    let merged = merged(&rt, rt.alloc());
+    let (numbers, rest) = (has_local_numbers(&merged.core), has_remote_rest(&merged));
+    let trees = has_merged_trees(&rt, rt.alloc(), &merged.core);
+    drop(merged);
+    assert!(rt; numbers, "the writer's numbers");
+    assert!(rt; trees, "the merged trees");
+    assert!(rt; rest, "what was read");
 }

@@ -1,8 +1,9 @@
 //! The segments of a writer and of a compactor, merged by prefix.
 
-use crate::test_trees::{Seen, SegmentRow, segments, segments_text};
+use crate::test_trees::{Seen, SegmentRow, have_text, segments};
 use slate_ids::SlateDBError;
 use slate_merges::{merge_segments_from_compactor, merge_segments_from_writer, prefixes_ascend};
+use slate_model::Segment;
 use std::alloc::Global;
 use std::process::Abort;
 
@@ -99,14 +100,31 @@ fn from_writer(
     let ours = segments(rt, alloc, writer);
     let theirs = segments(rt, alloc, compactor);
     assert!(rt; prefixes_ascend(ours.as_slice()) && prefixes_ascend(theirs.as_slice()));
-    match merge_segments_from_writer(alloc, theirs.as_slice(), ours.as_slice()) {
-        Ok(merged) => segments_text(rt, alloc, merged.as_slice()).as_str() == expected,
-        Err(SlateDBError::SegmentWithoutWriter(prefix)) => {
-            expected.len() > 0
-                && expected.as_bytes()[0] == b'!'
-                && prefix.as_slice() == &expected.as_bytes()[1..]
-        }
-        Err(_) => false,
+    let merged = merge_segments_from_writer(alloc, theirs.as_slice(), ours.as_slice());
+    drop(theirs);
+    drop(ours);
+    let is_so = tells(rt, alloc, &merged, expected);
+    drop(merged);
+    is_so
+}
+
+/// Whether merged segments have this text, or the refused prefix follows `!`.
+fn tells(
+    rt: &impl Abort,
+    alloc: Global,
+    merged: &Result<Vec<Segment>, SlateDBError>,
+    expected: &str,
+) -> bool {
+    match merged {
+        Ok(merged) => have_text(rt, alloc, merged.as_slice(), expected),
+        Err(e) => match e {
+            SlateDBError::SegmentWithoutWriter(prefix) => {
+                expected.len() > 0
+                    && expected.as_bytes()[0] == b'!'
+                    && prefix.as_slice() == &expected.as_bytes()[1..]
+            }
+            _ => false,
+        },
     }
 }
 
@@ -121,10 +139,17 @@ fn from_compactor(
     let ours = segments(rt, alloc, writer);
     let theirs = segments(rt, alloc, compactor);
     assert!(rt; prefixes_ascend(ours.as_slice()) && prefixes_ascend(theirs.as_slice()));
-    let merged = merge_segments_from_compactor(alloc, ours.as_slice(), theirs.as_slice()).expect(
-        rt, "memory",
-    );
-    segments_text(rt, alloc, merged.as_slice()).as_str() == expected
+    let merged = merge_segments_from_compactor(alloc, ours.as_slice(), theirs.as_slice());
+    drop(theirs);
+    drop(ours);
+    has_text(rt, alloc, merged.expect(rt, "memory"), expected)
+}
+
+/// Whether segments, which are used up, have this text.
+fn has_text(rt: &impl Abort, alloc: Global, segments: Vec<Segment>, expected: &str) -> bool {
+    let is_so = have_text(rt, alloc, segments.as_slice(), expected);
+    drop(segments);
+    is_so
 }
 
 #[test]
@@ -147,10 +172,17 @@ fn a_writer_keeps_what_holds_tables_on_either_side(rt: HostRuntime) {
     }
 }
 
+/// Whether segments ascend.
+fn ascend(rt: &impl Abort, alloc: Global, rows: Segments) -> bool {
+    let segments = segments(rt, alloc, rows);
+    let ordered = prefixes_ascend(segments.as_slice());
+    drop(segments);
+    ordered
+}
+
 #[test]
 fn prefixes_ascend_strictly(rt: HostRuntime) {
     for (rows, expected) in &ORDERS {
-        let ordered = prefixes_ascend(segments(&rt, rt.alloc(), rows).as_slice());
-        assert!(rt; ordered == *expected);
+        assert!(rt; ascend(&rt, rt.alloc(), rows) == *expected);
     }
 }

@@ -70,8 +70,7 @@ pub(crate) fn segments(rt: &impl Abort, alloc: Global, rows: &[SegmentRow]) -> V
 
 /// Adds a number and a blank.
 fn push_number(rt: &impl Abort, text: &mut String, number: u64) {
-    let written = format!(in *text.allocator(); "{number} ").expect(rt, "memory");
-    text.push_str(written.as_str()).expect(rt, "memory");
+    write!(text, "{number} ").expect(rt, "memory");
 }
 
 /// Adds a letter and the moment of a marker, where there is one.
@@ -95,15 +94,36 @@ pub(crate) fn push_tree(rt: &impl Abort, text: &mut String, tree: &LsmTreeState)
     push_marker(rt, text, "t", tree.last_compacted_l0_sst_id);
 }
 
-/// The text of segments: of each its prefix, `:`, its tree and `;`.
-pub(crate) fn segments_text(rt: &impl Abort, alloc: Global, segments: &[Segment]) -> String {
+/// Adds a segment: its prefix, `:`, its tree and `;`.
+fn push_segment(rt: &impl Abort, text: &mut String, segment: &Segment) {
+    let prefix = str::from_utf8(segment.prefix().as_slice()).expect(rt, "letters");
+    text.push_str(prefix).expect(rt, "memory");
+    text.push_str(": ").expect(rt, "memory");
+    push_tree(rt, text, segment.tree());
+    text.push_str("; ").expect(rt, "memory");
+}
+
+/// Whether segments have this text.
+pub(crate) fn have_text(
+    rt: &impl Abort,
+    alloc: Global,
+    segments: &[Segment],
+    expected: &str,
+) -> bool {
     let mut text = String::new(alloc);
     for segment in segments {
-        let prefix = str::from_utf8(segment.prefix().as_slice()).expect(rt, "letters");
-        text.push_str(prefix).expect(rt, "memory");
-        text.push_str(": ").expect(rt, "memory");
-        push_tree(rt, &mut text, segment.tree());
-        text.push_str("; ").expect(rt, "memory");
+        push_segment(rt, &mut text, segment);
     }
-    text
+    let is_so = text.as_str() == expected;
+    drop(text);
+    is_so
+}
+
+/// Whether a tree has this text.
+pub(crate) fn is_text(rt: &impl Abort, alloc: Global, tree: &LsmTreeState, expected: &str) -> bool {
+    let mut text = String::new(alloc);
+    push_tree(rt, &mut text, tree);
+    let is_so = text.as_str() == expected;
+    drop(text);
+    is_so
 }

@@ -1,6 +1,6 @@
 //! A writer's tree and a compactor's, merged.
 
-use crate::test_trees::{Seen, TreeRow, push_tree, tree};
+use crate::test_trees::{Seen, TreeRow, is_text, tree};
 use slate_merges::{TreeMerge, merge_writer_and_compactor};
 use slate_model::LsmTreeState;
 use std::alloc::Global;
@@ -74,13 +74,6 @@ const MERGES: [(TreeRow, TreeRow, &str); 13] = [
     ),
 ];
 
-/// Whether a tree has this text.
-fn is_text(rt: &impl Abort, alloc: Global, tree: &LsmTreeState, expected: &str) -> bool {
-    let mut text = String::new(alloc);
-    push_tree(rt, &mut text, tree);
-    text.as_str() == expected
-}
-
 /// Whether the merge of two trees has this text.
 fn merges_to(
     rt: &impl Abort,
@@ -89,12 +82,19 @@ fn merges_to(
     compactor: &TreeRow,
     expected: &str,
 ) -> bool {
-    let merged = merge_writer_and_compactor(
-        alloc,
-        &tree(rt, alloc, writer),
-        &tree(rt, alloc, compactor),
-    ).expect(rt, "memory");
-    is_text(rt, alloc, &merged, expected)
+    let ours = tree(rt, alloc, writer);
+    let theirs = tree(rt, alloc, compactor);
+    let merged = merge_writer_and_compactor(alloc, &ours, &theirs);
+    drop(theirs);
+    drop(ours);
+    has_text(rt, alloc, merged.expect(rt, "memory"), expected)
+}
+
+/// Whether a tree, which is used up, has this text.
+fn has_text(rt: &impl Abort, alloc: Global, tree: LsmTreeState, expected: &str) -> bool {
+    let is_so = is_text(rt, alloc, &tree, expected);
+    drop(tree);
+    is_so
 }
 
 /// Whether the method of each side gives this text.
@@ -111,7 +111,9 @@ fn methods_merge_to(
     let other = ours
         .merge_from_compactor(alloc, &theirs)
         .expect(rt, "memory");
-    is_text(rt, alloc, &one, expected) && is_text(rt, alloc, &other, expected)
+    drop(theirs);
+    drop(ours);
+    has_text(rt, alloc, one, expected) & has_text(rt, alloc, other, expected)
 }
 
 #[test]

@@ -10,7 +10,7 @@ use std::alloc::Global;
 use std::process::Abort;
 
 /// What a change answers.
-#[derive(Clone, Copy, Debug, PartialEq, Eq)]
+#[derive(Clone, Copy, PartialEq, Eq)]
 enum Answer {
     Made,
     Nothing,
@@ -259,20 +259,37 @@ fn told(made: &Result<Option<Compactions>, SlateDBError>) -> Answer {
     match made {
         Ok(None) => Answer::Nothing,
         Ok(Some(_)) => Answer::Made,
-        Err(SlateDBError::InvalidDBState(cause)) => cause_told(*cause),
-        Err(_) => Answer::Other,
+        Err(e) => match e {
+            SlateDBError::InvalidDBState(cause) => cause_told(*cause),
+            _ => Answer::Other,
+        },
     }
 }
 
-fn told_of(rt: &impl Abort, alloc: Global, put: Put) -> Answer {
+/// What a change at a moment makes of the record.
+fn made(
+    rt: &impl Abort,
+    alloc: Global,
+    put: Put,
+    now: i64,
+) -> Result<Option<Compactions>, SlateDBError> {
     let compactions = record_of(rt, alloc, 2, HELD);
-    told(&change(rt, alloc, put).make(alloc, 50, 7, &compactions))
+    let made = change(rt, alloc, put).make(alloc, now, 7, &compactions);
+    drop(compactions);
+    made
+}
+
+fn told_of(rt: &impl Abort, alloc: Global, put: Put) -> Answer {
+    let made = made(rt, alloc, put, 50);
+    let answer = told(&made);
+    drop(made);
+    answer
 }
 
 #[test]
 fn changes_are_made_or_refused(rt: HostRuntime) {
-    for (put, wanted) in &TOLD {
-        assert!(rt; told_of(&rt, rt.alloc(), *put) == *wanted, "{put:?}");
+    for (row, (put, wanted)) in TOLD.iter().enumerate() {
+        assert!(rt; told_of(&rt, rt.alloc(), *put) == *wanted, "at row {row}");
     }
 }
 
@@ -307,25 +324,41 @@ fn seen_at(compactions: &Compactions, tail: u8) -> Option<Shown> {
 
 /// The record after a change at a moment.
 fn after(rt: &impl Abort, alloc: Global, put: Put, now: i64) -> Compactions {
-    let compactions = record_of(rt, alloc, 2, HELD);
-    let made = change(rt, alloc, put).make(alloc, now, 7, &compactions);
-    made.expect(rt, "made").expect(rt, "a record")
+    made(rt, alloc, put, now)
+        .expect(rt, "made")
+        .expect(rt, "a record")
+}
+
+/// One compaction after a change at a moment.
+fn seen_after(rt: &impl Abort, alloc: Global, put: Put, now: i64, tail: u8) -> Option<Shown> {
+    let record = after(rt, alloc, put, now);
+    let seen = seen_at(&record, tail);
+    drop(record);
+    seen
+}
+
+/// The epoch after a change.
+fn epoch_after(rt: &impl Abort, alloc: Global, put: Put) -> u64 {
+    let record = after(rt, alloc, put, 50);
+    let epoch = record.compactor_epoch;
+    drop(record);
+    epoch
 }
 
 #[test]
 fn changes_make_what_they_say(rt: HostRuntime) {
-    for (put, now, tail, wanted) in &SEEN {
-        let seen = seen_at(&after(&rt, rt.alloc(), *put, *now), *tail);
-        assert!(rt; seen == *wanted, "{put:?} {now} {tail}");
+    for (row, (put, now, tail, wanted)) in SEEN.iter().enumerate() {
+        let seen = seen_after(&rt, rt.alloc(), *put, *now, *tail);
+        assert!(rt; seen == *wanted, "at row {row}");
     }
 }
 
 #[test]
 fn one_change_alone_gives_an_epoch(rt: HostRuntime) {
-    for (put, wanted) in &EPOCHS {
+    for (row, (put, wanted)) in EPOCHS.iter().enumerate() {
         assert!(rt;
-            after(&rt, rt.alloc(), *put, 50).compactor_epoch == *wanted,
-            "{put:?}"
+            epoch_after(&rt, rt.alloc(), *put) == *wanted,
+            "at row {row}"
         );
     }
 }
@@ -333,21 +366,36 @@ fn one_change_alone_gives_an_epoch(rt: HostRuntime) {
 fn fenced(refusal: &Option<SlateDBError>) -> u8 {
     match refusal {
         None => 0,
-        Some(SlateDBError::InvalidDBState(StateCause::NotOpen)) => 1,
-        Some(SlateDBError::Fenced { own: 1, read: 2 }) => 2,
-        Some(_) => 9,
+        Some(e) => match e {
+            SlateDBError::InvalidDBState(cause) => not_open(*cause),
+            SlateDBError::Fenced { own, read } => { if *own == 1 && *read == 2 { 2 } else { 9 } }
+            _ => 9,
+        },
+    }
+}
+
+fn not_open(cause: StateCause) -> u8 {
+    match cause {
+        StateCause::NotOpen => 1,
+        _ => 9,
     }
 }
 
 fn fenced_by(rt: &impl Abort, alloc: Global, put: Put) -> u8 {
     let compactions = record_of(rt, alloc, 2, HELD);
-    fenced(&change(rt, alloc, put).refusal_at(&compactions))
+    let change = change(rt, alloc, put);
+    let refusal = change.refusal_at(&compactions);
+    drop(change);
+    drop(compactions);
+    let told = fenced(&refusal);
+    drop(refusal);
+    told
 }
 
 #[test]
 fn compactors_are_fenced(rt: HostRuntime) {
-    for (put, wanted) in &FENCED {
-        assert!(rt; fenced_by(&rt, rt.alloc(), *put) == *wanted, "{put:?}");
+    for (row, (put, wanted)) in FENCED.iter().enumerate() {
+        assert!(rt; fenced_by(&rt, rt.alloc(), *put) == *wanted, "at row {row}");
     }
 }
 
@@ -359,14 +407,22 @@ fn pending(right: &Right) -> Option<usize> {
 }
 
 fn pending_under(rt: &impl Abort, alloc: Global, put: Put) -> Option<usize> {
-    let right = change(rt, alloc, put).right(alloc);
-    pending(&right.expect(rt, "memory"))
+    let change = change(rt, alloc, put);
+    let right = change.right(alloc);
+    drop(change);
+    let right = right.expect(rt, "memory");
+    let count = pending(&right);
+    drop(right);
+    count
 }
 
 #[test]
 fn holders_of_the_record_remove(rt: HostRuntime) {
-    for (put, wanted) in &RIGHTS {
-        assert!(rt; pending_under(&rt, rt.alloc(), *put) == *wanted, "{put:?}");
+    for (row, (put, wanted)) in RIGHTS.iter().enumerate() {
+        assert!(rt;
+            pending_under(&rt, rt.alloc(), *put) == *wanted,
+            "at row {row}"
+        );
     }
 }
 
@@ -375,8 +431,16 @@ const RAISED: [(u64, Option<u64>); 3] = [(0, Some(1)), (7, Some(8)), (u64::MAX, 
 
 fn raised(rt: &impl Abort, alloc: Global, epoch: u64) -> Option<u64> {
     let compactions = record_of(rt, alloc, epoch, HELD);
-    match raise_record(alloc, 1, &compactions) {
-        Ok(Some(made)) => Some(made.compactor_epoch),
+    let made = raise_record(alloc, 1, &compactions);
+    drop(compactions);
+    let epoch = epoch_in(&made);
+    drop(made);
+    epoch
+}
+
+fn epoch_in(made: &Result<Option<Compactions>, SlateDBError>) -> Option<u64> {
+    match made {
+        Ok(Some(record)) => Some(record.compactor_epoch),
         _ => None,
     }
 }
@@ -384,7 +448,9 @@ fn raised(rt: &impl Abort, alloc: Global, epoch: u64) -> Option<u64> {
 #[test]
 fn an_open_raises_the_epoch(rt: HostRuntime) {
     let first = first_record(rt.alloc());
-    assert!(rt; first.compactor_epoch == 0 && first.is_empty());
+    let is_first = first.compactor_epoch == 0 && first.is_empty();
+    drop(first);
+    assert!(rt; is_first);
     for (epoch, wanted) in &RAISED {
         assert!(rt; raised(&rt, rt.alloc(), *epoch) == *wanted, "{epoch}");
     }

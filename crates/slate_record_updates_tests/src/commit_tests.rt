@@ -63,15 +63,19 @@ fn told(commit: &Result<Option<CommitPhase<Compactions>>, SlateDBError>) -> u8 {
 /// The commit of a change after version `n`.
 fn committed(rt: &impl Abort, alloc: Global, all: &[Held], put: Put, n: u64) -> u8 {
     let compactions = record_of(rt, alloc, 2, all);
-    told(&change(rt, alloc, put).commit(alloc, &CompactionsCodec, 50, n, &compactions))
+    let commit = change(rt, alloc, put).commit(alloc, &CompactionsCodec, 50, n, &compactions);
+    drop(compactions);
+    let code = told(&commit);
+    drop(commit);
+    code
 }
 
 #[test]
 fn changes_are_committed(rt: HostRuntime) {
-    for (all, put, wanted) in &COMMITS {
+    for (row, (all, put, wanted)) in COMMITS.iter().enumerate() {
         assert!(rt;
             committed(&rt, rt.alloc(), *all, *put, 7) == *wanted,
-            "{put:?}"
+            "at row {row}"
         );
     }
 }

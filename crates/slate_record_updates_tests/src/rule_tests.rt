@@ -8,7 +8,7 @@ use std::alloc::Global;
 use std::process::Abort;
 
 /// Under which right a record is put.
-#[derive(Clone, Copy, Debug)]
+#[derive(Clone, Copy)]
 enum Under {
     Plain,
     Attach,
@@ -19,7 +19,7 @@ enum Under {
 }
 
 /// What is broken.
-#[derive(Clone, Copy, Debug, PartialEq, Eq)]
+#[derive(Clone, Copy, PartialEq, Eq)]
 enum Broken {
     Nothing,
     Rule(UpdateRule),
@@ -42,8 +42,8 @@ const TWO: &[Row] = &[((100, 1), &[]), ((200, 1), &[])];
 
 const ANY_HOLDER: Under = Under::Holder(&[]);
 
-/// Each rule broken alone, and what just keeps it.
-const ALONE: [Case; 24] = [
+/// Each rule broken alone, and what just keeps it; then several.
+const CASES: [Case; 33] = [
     // the epoch
     Case {
         old: (2, ONE),
@@ -202,10 +202,7 @@ const ALONE: [Case; 24] = [
         under: Under::Holder(&[(200, 1)]),
         broken: Broken::Nothing,
     },
-];
-
-/// Several rules broken, of which the first is told, and several times one rule.
-const FIRST: [Case; 9] = [
+    // several rules broken, of which the first is told, and several times one rule
     Case {
         old: (2, ONE),
         new: (1, &[((99, 9), &[]), ((100, 1), &[])]),
@@ -284,14 +281,14 @@ fn right(rt: &impl Abort, alloc: Global, under: Under) -> Right {
 fn told(checked: &Result<(), SlateDBError>) -> Broken {
     match checked {
         Ok(()) => Broken::Nothing,
-        Err(SlateDBError::UpdateRefused(rule)) => Broken::Rule(*rule),
-        Err(
+        Err(e) => match e {
+            SlateDBError::UpdateRefused(rule) => Broken::Rule(*rule),
             SlateDBError::InvalidClockTick {
                 last_tick,
                 next_tick,
-            },
-        ) => Broken::Ticks(*last_tick, *next_tick),
-        Err(_) => Broken::Other,
+            } => Broken::Ticks(*last_tick, *next_tick),
+            _ => Broken::Other,
+        },
     }
 }
 
@@ -299,22 +296,18 @@ fn first_broken(rt: &impl Abort, alloc: Global, case: &Case) -> Broken {
     let old = rows(rt, alloc, case.old.0, case.old.1);
     let new = rows(rt, alloc, case.new.0, case.new.1);
     let right = right(rt, alloc, case.under);
-    told(&CompactionsRules.check(alloc, 1, &old, &new, &right))
+    let checked = CompactionsRules.check(alloc, 1, &old, &new, &right);
+    drop(right);
+    drop(new);
+    drop(old);
+    let broken = told(&checked);
+    drop(checked);
+    broken
 }
 
 #[test]
-fn each_rule_alone(rt: HostRuntime) {
-    for (i, case) in ALONE.iter().enumerate() {
-        assert!(rt;
-            first_broken(&rt, rt.alloc(), case) == case.broken,
-            "case {i}"
-        );
-    }
-}
-
-#[test]
-fn the_first_rule_is_told(rt: HostRuntime) {
-    for (i, case) in FIRST.iter().enumerate() {
+fn the_first_rule_that_is_broken_is_told(rt: HostRuntime) {
+    for (i, case) in CASES.iter().enumerate() {
         assert!(rt;
             first_broken(&rt, rt.alloc(), case) == case.broken,
             "case {i}"

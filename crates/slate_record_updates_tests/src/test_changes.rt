@@ -1,7 +1,8 @@
 //! A record of compactions in each state, and changes of it.
 
-use crate::test_records::{Id, Made, compaction, drain, id, ids, tables, worker};
-use slate_model::{Compaction, CompactionStatus, Compactions};
+use crate::test_records::{Id, Made, drain, id, ids, tables, worker};
+use slate_ids::Listed;
+use slate_model::{Compaction, CompactionStatus, Compactions, WorkerSpec};
 use slate_record_updates::RecordChange;
 use std::alloc::Global;
 use std::process::Abort;
@@ -31,7 +32,7 @@ const LOCAL: &[Held] = &[
 ];
 
 /// A change of the record.
-#[derive(Clone, Copy, Debug)]
+#[derive(Clone, Copy)]
 pub(crate) enum Put {
     Epoch(u64),
     Reset(u64),
@@ -47,13 +48,20 @@ pub(crate) enum Put {
 }
 
 fn held(rt: &impl Abort, alloc: Global, one: Held) -> Compaction {
-    let mut made = compaction(alloc, (100, one.0), one.1);
-    match one.2 {
-        None => made,
-        Some(name) => {
-            made.worker = Some(worker(rt, alloc, name));
-            made
-        }
+    Compaction {
+        id: id((100, one.0)),
+        spec: drain(alloc),
+        status: one.1,
+        worker: worker_if(rt, alloc, one.2),
+        output_ssts: Listed::new(alloc),
+        ctx: None,
+    }
+}
+
+fn worker_if(rt: &impl Abort, alloc: Global, name: Option<&str>) -> Option<WorkerSpec> {
+    match name {
+        None => None,
+        Some(name) => Some(worker(rt, alloc, name)),
     }
 }
 
@@ -83,11 +91,14 @@ pub(crate) fn change(rt: &impl Abort, alloc: Global, put: Put) -> RecordChange {
             worker,
             outputs: tables(rt, alloc, outputs),
         },
-        Put::Statuses(compactor, pending) => RecordChange::PutStatuses {
-            compactor,
-            local: record_of(rt, alloc, 1, LOCAL),
-            pending: ids(rt, alloc, pending),
-        },
+        Put::Statuses(compactor, pending) => {
+            let pending = ids(rt, alloc, pending);
+            RecordChange::PutStatuses {
+                compactor,
+                local: record_of(rt, alloc, 1, LOCAL),
+                pending,
+            }
+        }
         Put::Submit(parts) => RecordChange::Submit {
             id: id(parts),
             spec: drain(alloc),

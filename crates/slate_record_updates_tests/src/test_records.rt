@@ -13,7 +13,7 @@ use std::process::Abort;
 pub(crate) type Id = (u8, u8);
 
 /// An output.
-#[derive(Clone, Copy, Debug)]
+#[derive(Clone, Copy)]
 pub(crate) enum Made {
     /// A file of the write-ahead log.
     File(u64),
@@ -74,22 +74,15 @@ pub(crate) fn worker(rt: &impl Abort, alloc: Global, name: &str) -> WorkerSpec {
     }
 }
 
-/// A compaction without a worker and outputs.
-pub(crate) fn compaction(alloc: Global, parts: Id, status: CompactionStatus) -> Compaction {
+fn compacted(rt: &impl Abort, alloc: Global, row: Row) -> Compaction {
     Compaction {
-        id: id(parts),
+        id: id(row.0),
         spec: drain(alloc),
-        status,
+        status: CompactionStatus::Compacted,
         worker: None,
-        output_ssts: Listed::new(alloc),
+        output_ssts: tables(rt, alloc, row.1),
         ctx: None,
     }
-}
-
-fn compacted(rt: &impl Abort, alloc: Global, row: Row) -> Compaction {
-    let mut made = compaction(alloc, row.0, CompactionStatus::Compacted);
-    made.output_ssts = tables(rt, alloc, row.1);
-    made
 }
 
 /// The record of this epoch with these compactions, which are compacted.

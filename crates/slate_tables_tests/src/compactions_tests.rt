@@ -65,7 +65,9 @@ fn has_kept(rt: &impl Abort, record: &Compactions) {
 
 #[test]
 fn the_last_inserted_of_an_id_is_kept(rt: HostRuntime) {
-    has_kept(&rt, &record(&rt, rt.alloc()));
+    let record = record(&rt, rt.alloc());
+    has_kept(&rt, &record);
+    drop(record);
 }
 
 #[test]

@@ -20,7 +20,9 @@ fn views_of(rt: &impl Abort, alloc: Global, ends: &[Ends]) -> VecDeque<SsTableVi
 fn overlap(rt: &impl Abort, alloc: Global, ends: &[Ends]) -> usize {
     let views = views_of(rt, alloc, ends);
     assert!(rt; all_show_keys(&views));
-    max_l0_overlap(alloc, &views).expect(rt, "memory")
+    let overlap = max_l0_overlap(alloc, &views);
+    drop(views);
+    overlap.expect(rt, "memory")
 }
 
 #[test]

@@ -36,7 +36,9 @@ fn copies_of_ranges_are_equal(rt: HostRuntime) {
 fn have_copies(rt: &impl Abort, alloc: Global) -> bool {
     let tables: &[SsTableId] = &TABLES;
     let copied = copies(alloc, tables.iter()).expect(rt, "memory");
-    are_same(copied.as_slice().iter(), tables.iter())
+    let are_so = are_same(copied.as_slice().iter(), tables.iter());
+    drop(copied);
+    are_so
 }
 
 #[test]

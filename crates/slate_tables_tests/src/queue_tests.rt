@@ -25,7 +25,10 @@ fn are_three(tables: &VecDeque<SsTableId>) -> bool {
 
 #[test]
 fn takes_at_both_ends(rt: HostRuntime) {
-    assert!(rt; are_three(queue_of_three(&rt, rt.alloc()).as_deque()));
+    let queue = queue_of_three(&rt, rt.alloc());
+    let are_so = are_three(queue.as_deque());
+    drop(queue);
+    assert!(rt; are_so);
 }
 
 #[test]

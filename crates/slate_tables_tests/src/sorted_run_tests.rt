@@ -46,19 +46,25 @@ fn cover(
 ) -> bool {
     assert!(rt; run.is_in_order());
     let found = run.tables_covering_range(alloc, range).expect(rt, "memory");
-    are(&found, wanted.0, wanted.1)
+    let are_so = are(&found, wanted.0, wanted.1);
+    drop(found);
+    are_so
 }
 
 /// Whether the first two of three views cover the range of c alone.
 fn cover_c(rt: &impl Abort, alloc: Global, run: &SortedRun) -> bool {
     let range = range(rt, Included("c"), Included("c"));
-    cover(rt, alloc, run, &range, (1, 2))
+    let is_so = cover(rt, alloc, run, &range, (1, 2));
+    drop(range);
+    is_so
 }
 
 /// Whether the last of three views covers the range from i on.
 fn cover_from_i(rt: &impl Abort, alloc: Global, run: &SortedRun) -> bool {
     let range = range(rt, Included("i"), Unbounded);
-    cover(rt, alloc, run, &range, (3, 1))
+    let is_so = cover(rt, alloc, run, &range, (3, 1));
+    drop(range);
+    is_so
 }
 
 /// Whether so many views cover a key, and the first has this number.
@@ -73,8 +79,13 @@ fn cover_key(
     let found = run
         .tables_covering_point_key(alloc, key.as_bytes())
         .expect(rt, "memory");
+    begin(found, wanted.0) && found.len() == wanted.1
+}
+
+/// Whether the first of these has this number.
+fn begin(found: &[SsTableView], first: u8) -> bool {
     match found.first() {
-        Some(view) => found.len() == wanted.1 && view.id == id(wanted.0),
+        Some(view) => view.id == id(first),
         None => false,
     }
 }
@@ -87,12 +98,16 @@ fn finds_views(rt: &impl Abort, alloc: Global, run: &SortedRun) {
 
 #[test]
 fn views_cover_ranges_and_keys(rt: HostRuntime) {
-    finds_views(&rt, rt.alloc(), &run_of(&rt, rt.alloc(), &THREE));
+    let run = run_of(&rt, rt.alloc(), &THREE);
+    finds_views(&rt, rt.alloc(), &run);
+    drop(run);
 }
 
 fn overlaps(rt: &impl Abort, run: &SortedRun, start: Side, end: Side) -> bool {
     let range = range(rt, start, end);
-    run.overlaps_range(&range).expect(rt, "memory")
+    let overlaps = run.overlaps_range(&range);
+    drop(range);
+    overlaps.expect(rt, "memory")
 }
 
 fn spans_its_view(rt: &impl Abort, run: &SortedRun) {
@@ -102,7 +117,9 @@ fn spans_its_view(rt: &impl Abort, run: &SortedRun) {
 
 #[test]
 fn a_run_spans_its_views(rt: HostRuntime) {
-    spans_its_view(&rt, &run_of(&rt, rt.alloc(), &ONE));
+    let run = run_of(&rt, rt.alloc(), &ONE);
+    spans_its_view(&rt, &run);
+    drop(run);
 }
 
 #[test]

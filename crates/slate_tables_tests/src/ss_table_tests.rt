@@ -25,5 +25,8 @@ fn is_unknown(info: &SsTableInfo) -> bool {
 
 #[test]
 fn nothing_is_known_of_a_new_table(rt: HostRuntime) {
-    assert!(rt; is_unknown(&SsTableInfo::default()));
+    let info = SsTableInfo::default();
+    let is_so = is_unknown(&info);
+    drop(info);
+    assert!(rt; is_so);
 }

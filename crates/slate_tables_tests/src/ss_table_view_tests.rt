@@ -15,7 +15,10 @@ fn shown(
     visible: BytesRange,
 ) -> Option<SsTableView> {
     match visible.start_bound() {
-        Bound::Excluded(_) => None,
+        Bound::Excluded(_) => {
+            drop(visible);
+            None
+        }
         Bound::Included(_) | Bound::Unbounded => whole
             .try_with_visible_range(alloc, visible)
             .expect(rt, "memory"),
@@ -33,14 +36,14 @@ fn has_visible(view: &Option<SsTableView>, range: &BytesRange) -> bool {
     }
 }
 
-/// Whether a view can show this range.
-fn shows(rt: &impl Abort, alloc: Global, whole: &SsTableView, range: &BytesRange) -> bool {
-    let visible = range.clone().expect(rt, "memory");
-    has_visible(&shown(rt, alloc, whole, visible), range)
-}
-
+/// Whether a view can show the range from a side to another.
 fn shows_from(rt: &impl Abort, alloc: Global, whole: &SsTableView, start: Side, end: Side) -> bool {
-    shows(rt, alloc, whole, &range(rt, start, end))
+    let wanted = range(rt, start, end);
+    let shown = shown(rt, alloc, whole, range(rt, start, end));
+    let is_so = has_visible(&shown, &wanted);
+    drop(shown);
+    drop(wanted);
+    is_so
 }
 
 fn shows_what_it_has(rt: &impl Abort, alloc: Global, whole: &SsTableView) {
@@ -50,7 +53,9 @@ fn shows_what_it_has(rt: &impl Abort, alloc: Global, whole: &SsTableView) {
 
 #[test]
 fn a_visible_range_meets_the_keys(rt: HostRuntime) {
-    shows_what_it_has(&rt, rt.alloc(), &view(1, "a", "z"));
+    let whole = view(1, "a", "z");
+    shows_what_it_has(&rt, rt.alloc(), &whole);
+    drop(whole);
 }
 
 /// What a reader of a range reads.
@@ -66,26 +71,31 @@ fn is(found: &Option<BytesRange>, wanted: &BytesRange) -> bool {
     }
 }
 
-/// Whether a reader from b to a key reads this range.
-fn reads(rt: &impl Abort, whole: &SsTableView, end: &'static str, wanted: &BytesRange) -> bool {
-    let range = range(rt, Included("b"), Included(end));
-    is(&read(rt, whole, range), wanted)
-}
-
 /// Whether a reader from b to zz reads from b to z.
 fn reads_to_z(rt: &impl Abort, whole: &SsTableView) -> bool {
-    reads(rt, whole, "zz", &range(rt, Included("b"), Included("z")))
+    let found = read(rt, whole, range(rt, Included("b"), Included("zz")));
+    let wanted = range(rt, Included("b"), Included("z"));
+    let is_so = is(&found, &wanted);
+    drop(wanted);
+    drop(found);
+    is_so
 }
 
 #[test]
 fn a_reader_reads_what_the_table_has(rt: HostRuntime) {
-    assert!(rt; reads_to_z(&rt, &view(1, "a", "z")));
+    let whole = view(1, "a", "z");
+    let is_so = reads_to_z(&rt, &whole);
+    drop(whole);
+    assert!(rt; is_so);
 }
 
 /// Whether the view from b to c of a table from a to z has an equal copy.
 fn is_view_copied(rt: &impl Abort, alloc: Global) -> bool {
     let visible = range(rt, Included("b"), Included("c"));
-    is_copied(rt, alloc, shown(rt, alloc, &view(1, "a", "z"), visible))
+    let whole = view(1, "a", "z");
+    let shown = shown(rt, alloc, &whole, visible);
+    drop(whole);
+    is_copied(rt, alloc, shown)
 }
 
 #[test]

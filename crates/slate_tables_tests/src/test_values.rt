@@ -62,5 +62,8 @@ pub(crate) fn range(rt: &impl Abort, start: Side, end: Side) -> BytesRange {
 /// Whether the copy of a value is equal to it.
 pub(crate) fn is_copied<T: Plain + Drop>(rt: &impl Abort, alloc: Global, value: T) -> bool {
     let copied = value.clone(alloc).expect(rt, "memory");
-    value.is(&copied)
+    let is_so = value.is(&copied);
+    drop(copied);
+    drop(value);
+    is_so
 }

@@ -1,7 +1,9 @@
 //! Stores of one database, and passes over them, for tests.
 
 use slate_ids::{ByteList, CheckpointId, DbPath, Listed, Millis, ObjectPath, SlateDBError, Ulid};
-use slate_layout::{CompactionsCodec, ManifestCodec, encode_compactions, encode_manifest};
+use slate_layout::{
+    CompactionsCodec, ManifestCodec, encode_boundary, encode_compactions, encode_manifest,
+};
 use slate_model::{
     Checkpoint, Compaction, CompactionSpec, CompactionStatus, Compactions, Manifest, ManifestCore,
     SsTableHandle, SsTableId, SsTableInfo, SsTableView,
@@ -15,11 +17,13 @@ use std::process::Abort;
 /// The moment of the passes.
 pub(crate) const NOW: Millis = 3_601_000;
 
-/// What stands in a store, each written at 0.
-#[derive(Clone, Copy, Debug)]
+/// What stands in a store, each written at 0 but for one.
+#[derive(Clone, Copy)]
 pub(crate) enum Put {
     /// A new manifest of this number.
     Plain(u64),
+    /// The same, written at 1,000.
+    Later(u64),
     /// A manifest of this number with a checkpoint of this version, which expires then.
     Naming(u64, u64, Option<Millis>),
     /// A manifest of this number with these tables in L0, newest first, by their milliseconds, and a checkpoint of this version.
@@ -33,6 +37,8 @@ pub(crate) enum Put {
     Table(u64),
     /// A file of the write-ahead log, with rows or empty.
     Wal(u64, bool),
+    /// The boundary of the manifests at this number.
+    Boundary(u64),
 }
 
 pub(crate) fn table_id(ms: u64) -> Ulid {
@@ -42,13 +48,20 @@ pub(crate) fn table_id(ms: u64) -> Ulid {
 /// Where it stands.
 pub(crate) fn path_of(db: DbPath, put: Put) -> ObjectPath {
     match put {
-        Put::Plain(n) => ObjectPath::Manifest(db, n),
-        Put::Naming(n, _, _) => ObjectPath::Manifest(db, n),
-        Put::Holding(n, _, _) => ObjectPath::Manifest(db, n),
+        Put::Plain(n) | Put::Later(n) => ObjectPath::Manifest(db, n),
+        Put::Naming(n, _, _) | Put::Holding(n, _, _) => ObjectPath::Manifest(db, n),
         Put::Replaying(n, _, _, _) => ObjectPath::Manifest(db, n),
         Put::Record(n, _) => ObjectPath::Record(db, n),
         Put::Table(ms) => ObjectPath::Table(db, table_id(ms)),
         Put::Wal(n, _) => ObjectPath::Wal(db, n),
+        Put::Boundary(_) => ObjectPath::ManifestBoundary(db),
+    }
+}
+
+fn moment_of(put: Put) -> Millis {
+    match put {
+        Put::Later(_) => 1000,
+        _ => 0,
     }
 }
 
@@ -159,15 +172,20 @@ fn file_bytes(rt: &impl Abort, alloc: Global, has_rows: bool) -> ByteList {
     ByteList::new(Vec::from_slice(alloc, rows).expect(rt, "memory"))
 }
 
+fn boundary_bytes(rt: &impl Abort, alloc: Global, number: u64) -> ByteList {
+    ByteList::new(encode_boundary(alloc, number).expect(rt, "bytes"))
+}
+
 fn bytes_of(rt: &impl Abort, alloc: Global, put: Put) -> ByteList {
     match put {
-        Put::Plain(_) => manifest_bytes(rt, alloc, ManifestCore::new(alloc)),
+        Put::Plain(_) | Put::Later(_) => manifest_bytes(rt, alloc, ManifestCore::new(alloc)),
         Put::Naming(_, version, expire_time) => naming(rt, alloc, version, expire_time),
         Put::Holding(_, tables, version) => holding(rt, alloc, tables, version),
         Put::Replaying(_, replay, next, version) => replaying(rt, alloc, replay, next, version),
         Put::Record(_, ms) => record_bytes(rt, alloc, ms),
         Put::Table(_) => file_bytes(rt, alloc, true),
         Put::Wal(_, has_rows) => file_bytes(rt, alloc, has_rows),
+        Put::Boundary(number) => boundary_bytes(rt, alloc, number),
     }
 }
 
@@ -175,18 +193,46 @@ fn put_one(rt: &impl Abort, alloc: Global, db: DbPath, store: &mut MemoryStore, 
     let bytes = bytes_of(rt, alloc, put);
     let path = path_of(db, put);
     store
-        .put(alloc, &path, bytes.as_slice(), 0)
+        .put(alloc, &path, bytes.as_slice(), moment_of(put))
         .expect(rt, "memory");
     drop(path);
     drop(bytes);
 }
 
+fn write(rt: &impl Abort, alloc: Global, db: DbPath, store: &mut MemoryStore, puts: &[Put]) {
+    for put in puts {
+        put_one(rt, alloc, db, store, *put);
+    }
+}
+
 /// A store with these objects.
 pub(crate) fn store_of(rt: &impl Abort, alloc: Global, db: DbPath, puts: &[Put]) -> MemoryStore {
     let mut store = MemoryStore::new(alloc, Vec::new(alloc));
-    for put in puts {
-        put_one(rt, alloc, db, &mut store, *put);
+    write(rt, alloc, db, &mut store, puts);
+    store
+}
+
+/// So many calls that are good, and one that fails.
+fn marks_of(rt: &impl Abort, alloc: Global, good: usize) -> Vec<Mark> {
+    let mut marks = Vec::new(alloc);
+    for _ in 0..good {
+        marks.push(Mark::Good).expect(rt, "memory");
     }
+    marks.push(Mark::Fail).expect(rt, "memory");
+    marks
+}
+
+/// A store with these objects, of which the call after so many fails.
+pub(crate) fn store_failing(
+    rt: &impl Abort,
+    alloc: Global,
+    db: DbPath,
+    puts: &[Put],
+    good: usize,
+) -> MemoryStore {
+    let marks = marks_of(rt, alloc, puts.len().saturating_add(good));
+    let mut store = MemoryStore::new(alloc, marks);
+    write(rt, alloc, db, &mut store, puts);
     store
 }
 
@@ -197,7 +243,8 @@ pub(crate) type End = (u8, (u64, u64, u64, u64), u8);
 /// A reply: how many were picked, deleted and faulted, how many versions are left, and the refusal's number.
 pub(crate) type Told = ((u64, u64, u64, u64), u8);
 
-fn told(reply: &Result<PassCounts, SlateDBError>) -> Told {
+/// What a reply tells.
+pub(crate) fn told(reply: &Result<PassCounts, SlateDBError>) -> Told {
     match reply {
         Ok(counts) => (
             (
@@ -212,7 +259,7 @@ fn told(reply: &Result<PassCounts, SlateDBError>) -> Told {
     }
 }
 
-/// What a reply tells.
+/// What a reply tells, which is used up.
 pub(crate) fn told_by(reply: Result<PassCounts, SlateDBError>) -> Told {
     let all = told(&reply);
     drop(reply);

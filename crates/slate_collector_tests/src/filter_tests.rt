@@ -94,10 +94,10 @@ fn retains_boxed(rt: &impl Abort, alloc: Global) -> bool {
 
 #[test]
 fn candidates_that_a_filter_returned_are_retained(rt: HostRuntime) {
-    for (candidates, returned, wanted) in &RETAINED {
+    for (row, (candidates, returned, wanted)) in RETAINED.iter().enumerate() {
         assert!(rt;
             retains_of(&rt, rt.alloc(), *candidates, *returned, *wanted),
-            "{returned:?}"
+            "at row {row}"
         );
     }
 }

@@ -76,7 +76,7 @@ fn versions_keep_their_ranges(rt: HostRuntime) {
     for (latest, told, wanted) in &RANGES {
         assert!(rt;
             keeps_so(&rt, rt.alloc(), *latest, *told, *wanted),
-            "{told:?}"
+            "at {latest}"
         );
     }
 }
@@ -133,10 +133,10 @@ fn picks_so(rt: &impl Abort, alloc: Global, mode: WalGcMode, min_age: u64, wante
 
 #[test]
 fn aged_files_in_no_range_are_picked(rt: HostRuntime) {
-    for (mode, min_age, wanted) in &PICKS {
+    for (row, (mode, min_age, wanted)) in PICKS.iter().enumerate() {
         assert!(rt;
             picks_so(&rt, rt.alloc(), *mode, *min_age, *wanted),
-            "{mode:?} {min_age}"
+            "at row {row}"
         );
     }
 }

@@ -25,7 +25,10 @@ fn empty(alloc: Global) -> MemoryStore {
 fn with_manifest(rt: &impl Abort, alloc: Global) -> MemoryStore {
     let mut store = empty(alloc);
     let core = ManifestCore::new(alloc);
-    let _ = StoredManifest::create_new_db(alloc, &mut store, db(rt), core, 5).expect(rt, "memory");
+    let holder = StoredManifest::create_new_db(alloc, &mut store, db(rt), core, 5).expect(
+        rt, "memory",
+    );
+    drop(holder);
     store
 }
 
@@ -36,11 +39,13 @@ fn more_manifest(rt: &impl Abort, alloc: Global, store: &mut MemoryStore) {
     holder
         .update(alloc, store, dirty, &Right::Plain, 6)
         .expect(rt, "memory");
+    drop(holder);
 }
 
 /// A first record.
 fn first_record(rt: &impl Abort, alloc: Global, store: &mut MemoryStore) {
-    let _ = StoredCompactions::create(alloc, store, db(rt), 4, 5).expect(rt, "memory");
+    let holder = StoredCompactions::create(alloc, store, db(rt), 4, 5).expect(rt, "memory");
+    drop(holder);
 }
 
 /// One more version of the record.
@@ -50,6 +55,7 @@ fn more_record(rt: &impl Abort, alloc: Global, store: &mut MemoryStore) {
     holder
         .update(alloc, store, dirty, &Right::Plain, 6)
         .expect(rt, "memory");
+    drop(holder);
 }
 
 /// The numbers of the record, or 0, and of the manifest.
@@ -65,13 +71,23 @@ fn numbers(view: &CompactorStateView) -> (u64, u64) {
 fn read(rt: &impl Abort, alloc: Global, store: &mut MemoryStore, tries: u32) -> (u64, u64) {
     let reader = CompactorStateReader::new(db(rt));
     assert!(rt; tries > 0);
-    told(reader.read_view(alloc, store, tries))
+    let reply = reader.read_view(alloc, store, tries);
+    drop(reader);
+    told(reply)
 }
 
 fn told(reply: Result<CompactorStateView, SlateDBError>) -> (u64, u64) {
     match reply {
-        Ok(view) => numbers(&view),
-        Err(e) => (100, u64::from(e.code())),
+        Ok(view) => {
+            let numbers = numbers(&view);
+            drop(view);
+            numbers
+        }
+        Err(e) => {
+            let number = u64::from(e.code());
+            drop(e);
+            (100, number)
+        }
     }
 }
 
@@ -82,6 +98,7 @@ fn a_view_has_the_record_and_the_manifest(rt: HostRuntime) {
     assert!(rt; read(&rt, alloc, &mut store, 1) == (100, 3));
     first_record(&rt, alloc, &mut store);
     assert!(rt; read(&rt, alloc, &mut store, 1) == (100, 3));
+    drop(store);
     let mut store = with_manifest(&rt, alloc);
     assert!(rt; read(&rt, alloc, &mut store, 1) == (0, 1));
     first_record(&rt, alloc, &mut store);
@@ -99,7 +116,9 @@ fn step(
 ) -> (u64, u64) {
     let reader = CompactorStateReader::new(db(rt));
     assert!(rt; machine.due());
-    match machine.next(alloc, &reader, store, 0) {
+    let step = machine.next(alloc, &reader, store, 0);
+    drop(reader);
+    match step {
         Step::Again => (0, 0),
         Step::Done(reply) => told(reply),
     }
@@ -111,7 +130,9 @@ fn the_record_is_read_first(rt: HostRuntime) {
     let alloc = rt.alloc();
     let mut store = with_manifest(&rt, alloc);
     first_record(&rt, alloc, &mut store);
-    let mut machine = CompactorStateReader::new(db(&rt)).start_read_view();
+    let reader = CompactorStateReader::new(db(&rt));
+    let mut machine = reader.start_read_view();
+    drop(reader);
     assert!(rt; step(&rt, alloc, &mut store, &mut machine) == (0, 0));
     assert!(rt; step(&rt, alloc, &mut store, &mut machine) == (0, 0));
     assert!(rt; step(&rt, alloc, &mut store, &mut machine) == (0, 0));
@@ -131,9 +152,10 @@ fn tries_are_used_up(rt: HostRuntime) {
     let alloc = rt.alloc();
     let mut store = with_manifest(&rt, alloc);
     first_record(&rt, alloc, &mut store);
-    ManifestStore::new(db(&rt))
-        .advance_boundary(alloc, &mut store, 1, 8, 1)
+    let log = ManifestStore::new(db(&rt));
+    log.advance_boundary(alloc, &mut store, 1, 8, 1)
         .expect(&rt, "memory");
+    drop(log);
     assert!(rt; read(&rt, alloc, &mut store, 1) == (100, 21));
     assert!(rt; read(&rt, alloc, &mut store, 3) == (100, 21));
     drop(store);
