@@ -1,12 +1,13 @@
 //! A cluster by its own calls: what a script's text doesn't tell, and what no script can say.
 
-use crate::test_clusters::{after, bad_place, db, does, script_of};
+use crate::test_clusters::{after, bad_place, bytes_at, db, does, script_of};
 use slate_cluster::{Cluster, NewError};
 use slate_ids::{CheckpointId, GcMessage, Listed, ObjectPath, Text};
 use slate_layout::decode_manifest;
 use slate_model::Checkpoint;
-use slate_script::{Call, ClusterCause, DbSpec, Event, FilterWord};
+use slate_script::{Call, ClusterCause, DbSpec, Event, FilterWord, Script};
 use std::alloc::Global;
+use std::mem;
 use std::process::Abort;
 
 // A writer that opens, and flushes a second later.
@@ -32,10 +33,10 @@ const FLUSHED: [u8; 113] = [
 
 // Whether a version has these bytes and was put at this moment.
 fn is_version(rt: &impl Abort, cluster: &Cluster, number: u64, bytes: &[u8], moment: i64) -> bool {
-    match cluster
-        .store()
-        .object(&ObjectPath::Manifest(db(rt), number))
-    {
+    let path = ObjectPath::Manifest(db(rt), number);
+    let object = cluster.store().object(&path);
+    drop(path);
+    match object {
         None => false,
         Some(object) => object.bytes.as_slice() == bytes && object.last_modified == moment,
     }
@@ -47,6 +48,25 @@ fn manifests_are_put_as_their_bytes(rt: HostRuntime) {
     assert!(rt; cluster.trail().len() == 13);
     assert!(rt; is_version(&rt, &cluster, 2, RAISED.as_slice(), 1000));
     assert!(rt; is_version(&rt, &cluster, 3, FLUSHED.as_slice(), 2000));
+    drop(cluster);
+}
+
+// A new database, without a record.
+const NEW: &str = r#"{"databases":[{"path":"db"}],"events":[]}"#;
+
+// The bytes of a new manifest.
+const FIRST: [u8; 97] = [
+    0, 2, 0, 0, 0, 0, 1, 0, 0, 0, 0, 0, 0, 0, 0, 0, 0, 0, 0, 0, 0, 0, 0, 0, 0, 0, 0, 0, 0, 0, 0, 0,
+    0, 0, 0, 0, 0, 0, 0, 0, 0, 0, 0, 0, 0, 0, 0, 0, 0, 0, 0, 0, 0, 0x80, 0, 0, 0, 0, 0, 0, 0, 0, 0,
+    0, 0, 0, 0, 0, 0, 0, 0, 0, 0, 0, 0, 0, 0, 0, 0, 0, 0, 0, 0, 0, 0, 0, 0, 0, 0, 0, 0, 0, 0, 0, 0,
+    0, 0,
+];
+
+#[test]
+fn a_new_database_has_the_first_manifest(rt: HostRuntime) {
+    let cluster = after(&rt, rt.alloc(), NEW);
+    let first = bytes_at(&cluster, ObjectPath::Manifest(db(&rt), 1));
+    assert!(rt; first.expect(&rt, "a version") == FIRST.as_slice());
     drop(cluster);
 }
 
@@ -83,9 +103,12 @@ fn starts(rt: &impl Abort, alloc: Global, pass: GcMessage, filter: FilterWord) -
         dry_run: false,
         filter,
     };
-    let start = Event::start(alloc, 1, call).expect(rt, "memory");
-    let bad = bad_place(alloc, &mut cluster, &[start]);
-    bad.is_none() && cluster.trail().len() == 2
+    let start = [Event::start(alloc, 1, call).expect(rt, "memory")];
+    let bad = bad_place(alloc, &mut cluster, &start);
+    let entries = cluster.trail().len();
+    drop(start);
+    drop(cluster);
+    bad.is_none() && entries == 2
 }
 
 const PASSES: [(GcMessage, bool); 6] = [
@@ -107,15 +130,9 @@ fn manifests_alone_have_a_pass(rt: HostRuntime) {
 #[test]
 fn a_pass_starts_with_any_filter(rt: HostRuntime) {
     let paths: Listed<Text> = Listed::new(rt.alloc());
-    assert!(rt;
-        starts(
-            &rt,
-            rt.alloc(),
-            GcMessage::Manifest,
-            FilterWord::Paths(paths)
-        )
-    );
-    assert!(rt; starts(&rt, rt.alloc(), GcMessage::Manifest, FilterWord::Nothing));
+    let manifest = GcMessage::Manifest;
+    assert!(rt; starts(&rt, rt.alloc(), manifest, FilterWord::Paths(paths)));
+    assert!(rt; starts(&rt, rt.alloc(), manifest, FilterWord::Nothing));
 }
 
 // A database with a table.
@@ -138,21 +155,23 @@ enum Change {
     RecordEpoch(u64),
 }
 
+fn add_checkpoint(rt: &impl Abort, spec: &mut DbSpec, version: u64) {
+    let checkpoint = Checkpoint {
+        id: CheckpointId::from_u64(1),
+        manifest_id: version,
+        expire_time: None,
+        create_time: 0,
+        name: None,
+    };
+    let checkpoints = &mut spec.manifest.core.checkpoints;
+    checkpoints.push(checkpoint).expect(rt, "memory");
+}
+
 fn change_spec(rt: &impl Abort, alloc: Global, spec: &mut DbSpec, change: Change) {
     match change {
         Change::Nothing => {}
-        Change::NoTable => spec.tables = Listed::new(alloc),
-        Change::Checkpoint(version) => {
-            let checkpoint = Checkpoint {
-                id: CheckpointId::from_u64(1),
-                manifest_id: version,
-                expire_time: None,
-                create_time: 0,
-                name: None,
-            };
-            let checkpoints = &mut spec.manifest.core.checkpoints;
-            checkpoints.push(checkpoint).expect(rt, "memory");
-        }
+        Change::NoTable => drop(mem::replace(&mut spec.tables, Listed::new(alloc))),
+        Change::Checkpoint(version) => add_checkpoint(rt, spec, version),
         Change::RecordEpoch(epoch) => {
             if let Some(record) = &mut spec.compactions {
                 record.compactor_epoch = epoch;
@@ -163,33 +182,44 @@ fn change_spec(rt: &impl Abort, alloc: Global, spec: &mut DbSpec, change: Change
 
 // Why no cluster is made.
 fn cause(rt: &impl Abort, alloc: Global, text: &str, change: Change) -> Option<ClusterCause> {
-    let mut specs = script_of(rt, alloc, text).databases.into_vec();
+    let Script { databases, events } = script_of(rt, alloc, text);
+    drop(events);
+    let mut specs = databases.into_vec();
     for spec in specs.as_mut_slice() {
         change_spec(rt, alloc, spec, change);
     }
     match Cluster::new(alloc, specs) {
+        Ok(cluster) => {
+            drop(cluster);
+            None
+        }
         Err(NewError::BadCluster(cause)) => Some(cause),
-        _ => None,
+        Err(_) => None,
     }
 }
 
-// The tables of trees are present, and opening checkpoints name the first version.
+// The tables of trees are present, and opening checkpoints name the first version; the outputs of a record are present, and its epoch is
+// at most that of its manifest.
+const CHANGES: [(&str, Change, Option<ClusterCause>); 7] = [
+    (TABLE, Change::Nothing, None),
+    (TABLE, Change::NoTable, Some(ClusterCause::Tables)),
+    (TABLE, Change::Checkpoint(1), None),
+    (
+        TABLE,
+        Change::Checkpoint(2),
+        Some(ClusterCause::Checkpoints),
+    ),
+    (OUTPUT, Change::Nothing, None),
+    (OUTPUT, Change::NoTable, Some(ClusterCause::Outputs)),
+    (OUTPUT, Change::RecordEpoch(1), Some(ClusterCause::Epoch)),
+];
+
 #[test]
 fn no_script_has_these_databases(rt: HostRuntime) {
-    let alloc = rt.alloc();
-    assert!(rt; cause(&rt, alloc, TABLE, Change::Nothing).is_none());
-    assert!(rt; cause(&rt, alloc, TABLE, Change::NoTable) == Some(ClusterCause::Tables));
-    assert!(rt; cause(&rt, alloc, TABLE, Change::Checkpoint(1)).is_none());
-    assert!(rt; cause(&rt, alloc, TABLE, Change::Checkpoint(2)) == Some(ClusterCause::Checkpoints));
-}
-
-// The outputs of a record are present, and its epoch is at most that of its manifest.
-#[test]
-fn no_script_has_these_records(rt: HostRuntime) {
-    let alloc = rt.alloc();
-    assert!(rt; cause(&rt, alloc, OUTPUT, Change::Nothing).is_none());
-    assert!(rt; cause(&rt, alloc, OUTPUT, Change::NoTable) == Some(ClusterCause::Outputs));
-    assert!(rt; cause(&rt, alloc, OUTPUT, Change::RecordEpoch(1)) == Some(ClusterCause::Epoch));
+    for (text, change, wanted) in &CHANGES {
+        let found = cause(&rt, rt.alloc(), text, *change);
+        assert!(rt; found == *wanted, "{text}");
+    }
 }
 
 // A checkpoint that a step at 1500 makes, whose moments are whole seconds.
@@ -232,19 +262,20 @@ fn are_made(checkpoints: &[Checkpoint], made: &[Made]) -> bool {
 // Whether the bytes are of a manifest with just these checkpoints.
 fn tells(rt: &impl Abort, alloc: Global, bytes: &[u8], made: &[Made]) -> bool {
     let manifest = decode_manifest(alloc, bytes).expect(rt, "a manifest");
-    are_made(manifest.core.checkpoints.as_slice(), made)
+    let good = are_made(manifest.core.checkpoints.as_slice(), made);
+    drop(manifest);
+    good
 }
 
 // Whether a version that a script leaves has just these checkpoints.
 fn leaves(rt: &impl Abort, alloc: Global, script: &str, number: u64, made: &[Made]) -> bool {
     let cluster = after(rt, alloc, script);
-    match cluster
-        .store()
-        .object(&ObjectPath::Manifest(db(rt), number))
-    {
+    let good = match bytes_at(&cluster, ObjectPath::Manifest(db(rt), number)) {
         None => false,
-        Some(object) => tells(rt, alloc, object.bytes.as_slice(), made),
-    }
+        Some(bytes) => tells(rt, alloc, bytes, made),
+    };
+    drop(cluster);
+    good
 }
 
 // Each names the version that its commit makes.

@@ -6,20 +6,12 @@ mod claim_tests;
 #[cfg(test)]
 mod cluster_tests;
 #[cfg(test)]
-mod generated_tests;
-#[cfg(test)]
 mod order_tests;
 #[cfg(test)]
 mod pass_tests;
 #[cfg(test)]
 mod race_tests;
 #[cfg(test)]
-mod test_audit;
-#[cfg(test)]
 mod test_clusters;
-#[cfg(test)]
-mod test_lists;
-#[cfg(test)]
-mod test_runs;
 #[cfg(test)]
 mod upload_tests;

@@ -36,7 +36,9 @@ fn three_make_a_chain(rt: &impl Abort, alloc: Global, code: u32) -> bool {
         steps(rt, alloc, &mut cluster, rest % 3, 1000, 1);
         rest /= 3;
     }
-    is_chain(rt, alloc, &cluster)
+    let chain = is_chain(rt, alloc, &cluster);
+    drop(cluster);
+    chain
 }
 
 // How many orders of three opens up to their puts begin with these two steps, the digits of a number in base 3. Each makes one chain.
@@ -111,6 +113,7 @@ fn taken_in(rt: &impl Abort, alloc: Global, mask: u32) -> u64 {
     let taken = count(rt, alloc, &cluster, "put_new", "-> exists");
     assert!(rt; count(rt, alloc, &cluster, "-> exists", refusal) == taken);
     assert!(rt; is_chain(rt, alloc, &cluster), "{mask}");
+    drop(cluster);
     taken
 }
 
@@ -137,8 +140,9 @@ fn flushes(rt: &impl Abort, alloc: Global, cluster: &mut Cluster, party: u32) {
         seq: 0,
         tick: 0,
     };
-    let start = Event::start(alloc, party, call).expect(rt, "memory");
-    does(rt, alloc, cluster, &[start]);
+    let start = [Event::start(alloc, party, call).expect(rt, "memory")];
+    does(rt, alloc, cluster, &start);
+    drop(start);
 }
 
 // Writer 0 opens and then flushes, and writer 1 opens: the steps of writer 1 are those of the ones of this mask.
@@ -166,6 +170,7 @@ fn flushed_in(rt: &impl Abort, alloc: Global, mask: u32) -> (u64, u64) {
     assert!(rt; is_chain(rt, alloc, &cluster), "{mask}");
     let done = count(rt, alloc, &cluster, "call 0", "reply done");
     let fenced = count(rt, alloc, &cluster, "call 0", "reply refused 2 Fenced 1 2");
+    drop(cluster);
     (done, fenced)
 }
 

@@ -39,12 +39,14 @@ fn race_ends(rt: &impl Abort, alloc: Global, before: u32, first: &str, second: &
     steps(rt, alloc, &mut cluster, 2, 5000, before);
     steps(rt, alloc, &mut cluster, 3, 5000, 12);
     steps(rt, alloc, &mut cluster, 2, 5000, 12);
-    count(rt, alloc, &cluster, "call 2 ", first) == 1
-        && count(rt, alloc, &cluster, "call 3 ", second) == 1
-        && version(rt, alloc, &cluster, 1).is_none()
+    let ended = count(rt, alloc, &cluster, "call 2 ", first) == 1
+        && count(rt, alloc, &cluster, "call 3 ", second) == 1;
+    let left = version(rt, alloc, &cluster, 1).is_none()
         && version(rt, alloc, &cluster, 2).is_none()
-        && version(rt, alloc, &cluster, 3).is_some()
-        && has_boundary(rt, &cluster, b"2")
+        && version(rt, alloc, &cluster, 3).is_some();
+    let bounded = has_boundary(rt, &cluster, b"2");
+    drop(cluster);
+    ended && left && bounded
 }
 
 #[test]

@@ -22,23 +22,30 @@ pub(crate) fn script_of(rt: &impl Abort, alloc: Global, text: &str) -> Script {
 
 /// The cluster of a script's databases, after its events.
 pub(crate) fn after(rt: &impl Abort, alloc: Global, text: &str) -> Cluster {
-    let script = script_of(rt, alloc, text);
-    let mut cluster = Cluster::new(alloc, script.databases.into_vec()).expect(rt, "a cluster");
-    does(rt, alloc, &mut cluster, script.events.as_slice());
+    let Script { databases, events } = script_of(rt, alloc, text);
+    let mut cluster = Cluster::new(alloc, databases.into_vec()).expect(rt, "a cluster");
+    does(rt, alloc, &mut cluster, events.as_slice());
+    drop(events);
     cluster
 }
 
 /// Does events of which none is bad, with an entry for each.
 pub(crate) fn does(rt: &impl Abort, alloc: Global, cluster: &mut Cluster, events: &[Event]) {
     let report = cluster.run(alloc, events).expect(rt, "good events");
-    assert!(rt; report.entries.len() == events.len());
+    let entries = report.entries.len();
+    drop(report);
+    assert!(rt; entries == events.len());
 }
 
 /// The place of the first bad event.
 pub(crate) fn bad_place(alloc: Global, cluster: &mut Cluster, events: &[Event]) -> Option<u64> {
     match cluster.run(alloc, events) {
+        Ok(report) => {
+            drop(report);
+            None
+        }
         Err(ClusterError::BadEvent { place }) => Some(place),
-        _ => None,
+        Err(ClusterError::OutOfMemory { .. }) => None,
     }
 }
 
@@ -60,11 +67,24 @@ pub(crate) fn steps(
     for _ in 0..times {
         does(rt, alloc, cluster, &step);
     }
+    drop(step);
 }
 
 fn epoch_in(rt: &impl Abort, alloc: Global, bytes: &[u8]) -> u64 {
     let manifest = decode_manifest(alloc, bytes).expect(rt, "a manifest");
-    manifest.writer_epoch
+    let epoch = manifest.writer_epoch;
+    drop(manifest);
+    epoch
+}
+
+/// The bytes of an object, where it stands.
+pub(crate) fn bytes_at(cluster: &Cluster, path: ObjectPath) -> Option<&[u8]> {
+    let object = cluster.store().object(&path);
+    drop(path);
+    match object {
+        Some(object) => Some(object.bytes.as_slice()),
+        None => None,
+    }
 }
 
 /// The writer epoch of a version and how many bytes it has, where it stands.
@@ -74,33 +94,26 @@ pub(crate) fn version(
     cluster: &Cluster,
     number: u64,
 ) -> Option<(u64, usize)> {
-    match cluster
-        .store()
-        .object(&ObjectPath::Manifest(db(rt), number))
-    {
+    match bytes_at(cluster, ObjectPath::Manifest(db(rt), number)) {
         None => None,
-        Some(object) => {
-            let bytes = object.bytes.as_slice();
-            Some((epoch_in(rt, alloc, bytes), bytes.len()))
-        }
+        Some(bytes) => Some((epoch_in(rt, alloc, bytes), bytes.len())),
     }
 }
 
 /// Whether the boundary of the manifests has these bytes.
 pub(crate) fn has_boundary(rt: &impl Abort, cluster: &Cluster, bytes: &[u8]) -> bool {
-    match cluster
-        .store()
-        .object(&ObjectPath::ManifestBoundary(db(rt)))
-    {
+    match bytes_at(cluster, ObjectPath::ManifestBoundary(db(rt))) {
         None => false,
-        Some(object) => object.bytes.as_slice() == bytes,
+        Some(found) => found == bytes,
     }
 }
 
 // Whether the line of an entry has both texts.
 fn has(rt: &impl Abort, alloc: Global, entry: &Entry, one: &str, other: &str) -> bool {
     let line = entry_line(alloc, 0, entry).expect(rt, "memory");
-    line.as_str().contains(one) && line.as_str().contains(other)
+    let both = line.as_str().contains(one) && line.as_str().contains(other);
+    drop(line);
+    both
 }
 
 /// How many entries have lines with both texts.

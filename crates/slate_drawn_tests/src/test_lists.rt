@@ -1,16 +1,22 @@
-//! Lists of events that are drawn from a seed: compactors, workers, a writer and a holder of one database.
+//! Lists of events that are drawn from a seed: two mixes of parties of one database.
 ghost use Rattle.std.specs.Prelude.{◌<◌};
 
 use crate::test_clusters::db;
 use bytes::Bytes;
-use slate_ids::{CheckpointId, DbPath, Listed, Ulid};
-use slate_script::{Call, Event, FlushTable, PartyKind};
+use slate_ids::{CheckpointId, DbPath, GcMessage, Listed, Ulid};
+use slate_script::{Call, Event, FilterWord, FlushTable, PartyKind};
 use slate_store::Mark;
 use std::alloc::Global;
 use std::process::Abort;
 
-// How many bursts of steps a list has after its parties came.
-const DRAWS: u32 = 120;
+/// Which parties a list has, by their six places.
+#[derive(Clone, Copy)]
+pub(crate) enum Mix {
+    /// Two writers with their uploads and flushes, two holders and two collectors.
+    Collectors,
+    /// Two compactors, two workers, a writer and a holder.
+    Compactors,
+}
 
 // How many compactions the opening record has.
 const COMPACTIONS: u64 = 6;
@@ -18,6 +24,7 @@ const COMPACTIONS: u64 = 6;
 // What is drawn from, and what was drawn so far.
 #[derive(Clone, Copy)]
 struct Draws {
+    mix: Mix,
     // A linear congruence modulo 2^64, of which the upper 31 bits are given.
     state: u64,
     moment: i64,
@@ -33,7 +40,9 @@ struct Draws {
     scheduled: Ulid,
     // The place of the compactor that was to open last, which is fenced the least.
     leading: usize,
-    // The parties of the moment: two compactors, two workers, a writer, a holder.
+    // The place whose party rests for a while.
+    resting: usize,
+    // The parties of the moment.
     parties: [u32; 6],
 }
 
@@ -57,8 +66,27 @@ impl Draws {
         self.below(times) == 0
     }
 
-    // One of the six places; the leading compactor and the workers have the most.
-    fn place(&mut self) -> usize {
+    // One of the six places; half the time one of the two of writers.
+    fn any_place(&mut self) -> usize {
+        if self.once_in(2) {
+            self.below(2) as usize
+        } else {
+            self.below(6) as usize
+        }
+    }
+
+    // A place, seldom that of the party that rests.
+    fn restless_place(&mut self) -> usize {
+        let place = self.any_place();
+        if place == self.resting {
+            self.any_place()
+        } else {
+            place
+        }
+    }
+
+    // A place; the leading compactor and the workers have the most.
+    fn busy_place(&mut self) -> usize {
         match self.below(14) {
             0 => 0,
             1 => 1,
@@ -67,6 +95,14 @@ impl Draws {
             9 | 10 | 11 => 3,
             12 => 4,
             _ => 5,
+        }
+    }
+
+    // One of the six places.
+    fn place(&mut self) -> usize {
+        match self.mix {
+            Mix::Collectors => self.restless_place(),
+            Mix::Compactors => self.busy_place(),
         }
     }
 
@@ -95,11 +131,40 @@ impl Draws {
         }
     }
 
-    // Moments rise by up to a tenth of a second.
+    // Moments rise by up to a second, and one in twenty jumps back by up to five.
+    fn jump(&mut self) -> i64 {
+        if self.once_in(20) {
+            -(self.below(5000) as i64)
+        } else {
+            self.below(1000) as i64
+        }
+    }
+
+    // The next moment, which jumps, or rises by up to a tenth of a second.
     fn moment(&mut self) -> i64 {
-        let span = self.below(100) as i64;
-        self.moment = self.moment.saturating_add(span);
+        let span = match self.mix {
+            Mix::Collectors => self.jump(),
+            Mix::Compactors => self.below(100) as i64,
+        };
+        self.moment = self.moment.saturating_add(span).max(0);
         self.moment
+    }
+
+    // One lifetime in three is none.
+    fn drawn_lifetime(&mut self) -> Option<u64> {
+        if self.once_in(3) {
+            None
+        } else {
+            Some(self.below(20_000))
+        }
+    }
+
+    // The lifetime of a new checkpoint; none where nothing collects it.
+    fn lifetime(&mut self) -> Option<u64> {
+        match self.mix {
+            Mix::Collectors => self.drawn_lifetime(),
+            Mix::Compactors => None,
+        }
     }
 
     // An id that a start has brought, where there is one.
@@ -127,9 +192,42 @@ impl Draws {
         Ulid::from_parts(10, tail as u128)
     }
 
-    // A new table of this moment.
+    fn pass(&mut self) -> Call {
+        let dry_run = self.once_in(10);
+        let filter = if self.once_in(10) {
+            FilterWord::Nothing
+        } else {
+            FilterWord::All
+        };
+        Call::Pass {
+            pass: GcMessage::Manifest,
+            min_age: 0,
+            dry_run,
+            filter,
+        }
+    }
+
+    // How many milliseconds before this moment a table is made: every other one up to a minute.
+    fn lateness(&mut self) -> u64 {
+        if self.once_in(2) {
+            self.below(60_000)
+        } else {
+            0
+        }
+    }
+
+    // The milliseconds of a new table: those of this moment, or beside collectors from some time before.
+    fn upload_ms(&mut self) -> u64 {
+        let late = match self.mix {
+            Mix::Collectors => self.lateness(),
+            Mix::Compactors => 0,
+        };
+        (self.moment.max(0) as u64).saturating_sub(late)
+    }
+
     fn upload(&mut self, place: usize) -> Call {
-        let table = self.new_ulid(self.moment.max(0) as u64);
+        let ms = self.upload_ms();
+        let table = self.new_ulid(ms);
         if let Some(uploaded) = self.uploaded.as_mut_slice().get_mut(place) {
             *uploaded = Some(table);
         }
@@ -185,7 +283,7 @@ impl Draws {
         Call::Report { id, tables }
     }
 
-    // A view of this table, in the tree of the root or of a segment.
+    // A view of this table, in one of three trees.
     fn flushed(&mut self, table: Ulid) -> FlushTable {
         let view = self.new_ulid(0);
         let prefix = match self.below(3) {
@@ -200,10 +298,26 @@ impl Draws {
         }
     }
 
-    // A flush of the table that the writer uploaded last.
+    // Whether a flush has no table: beside collectors one in four.
+    fn flushes_none(&mut self) -> bool {
+        match self.mix {
+            Mix::Collectors => self.once_in(4),
+            Mix::Compactors => false,
+        }
+    }
+
+    // The table of a flush, which the writer uploaded last.
+    fn flushed_table(&mut self, place: usize) -> Option<Ulid> {
+        if self.flushes_none() {
+            None
+        } else {
+            self.uploaded_at(place)
+        }
+    }
+
     fn flush(&mut self, rt: &impl Abort, alloc: Global, place: usize) -> Call {
         let mut tables = Listed::new(alloc);
-        if let Some(table) = self.uploaded_at(place) {
+        if let Some(table) = self.flushed_table(place) {
             let flushed = self.flushed(table);
             tables.push(flushed).expect(rt, "memory");
         }
@@ -259,47 +373,75 @@ impl Draws {
         }
     }
 
+    // What a holder does: 0 is a delete, 1 a refresh, the rest are writes. Without collectors nothing is refreshed.
+    fn holder_word(&mut self) -> u64 {
+        match self.mix {
+            Mix::Collectors => self.below(6),
+            Mix::Compactors => self.below(3).saturating_mul(2),
+        }
+    }
+
     fn holder_call(&mut self) -> Call {
-        match self.below(3) {
+        match self.holder_word() {
             0 => Call::DeleteCheckpoint {
                 id: self.known_id(),
             },
+            1 => Call::RefreshCheckpoint {
+                id: self.known_id(),
+                lifetime: Some(self.below(20_000)),
+            },
             _ => Call::WriteCheckpoint {
                 id: self.new_id(),
-                lifetime: None,
+                lifetime: self.lifetime(),
                 source: None,
                 name: None,
             },
         }
     }
 
-    // The first call of a place: compactors and the writer open.
-    fn first_call(&mut self, rt: &impl Abort, alloc: Global, place: usize) -> Call {
-        match place {
-            0 | 1 => self.open_compactor(place),
-            4 => Call::OpenWriter,
-            _ => self.call(rt, alloc, place),
+    // A call that the kind of a place has.
+    fn call(&mut self, rt: &impl Abort, alloc: Global, place: usize) -> Call {
+        match kind_at(self.mix, place) {
+            PartyKind::Writer => self.writer_call(rt, alloc, place),
+            PartyKind::Holder => self.holder_call(),
+            PartyKind::Collector => self.pass(),
+            PartyKind::Compactor => self.compactor_call(place),
+            PartyKind::Worker => self.worker_call(rt, alloc, place),
         }
     }
 
-    // A call that the kind of a place has.
-    fn call(&mut self, rt: &impl Abort, alloc: Global, place: usize) -> Call {
-        match place {
-            0 | 1 => self.compactor_call(place),
-            2 | 3 => self.worker_call(rt, alloc, place),
-            4 => self.writer_call(rt, alloc, place),
-            _ => self.holder_call(),
+    // The first call of a place: writers and compactors open.
+    fn first_call(&mut self, rt: &impl Abort, alloc: Global, place: usize) -> Call {
+        match kind_at(self.mix, place) {
+            PartyKind::Writer => Call::OpenWriter,
+            PartyKind::Compactor => self.open_compactor(place),
+            _ => self.call(rt, alloc, place),
         }
     }
 }
 
 // The kind of the parties at a place.
-fn kind_at(place: usize) -> PartyKind {
-    match place {
-        0 | 1 => PartyKind::Compactor,
-        2 | 3 => PartyKind::Worker,
-        4 => PartyKind::Writer,
-        _ => PartyKind::Holder,
+fn kind_at(mix: Mix, place: usize) -> PartyKind {
+    match mix {
+        Mix::Collectors => match place {
+            0 | 1 => PartyKind::Writer,
+            2 | 3 => PartyKind::Holder,
+            _ => PartyKind::Collector,
+        },
+        Mix::Compactors => match place {
+            0 | 1 => PartyKind::Compactor,
+            2 | 3 => PartyKind::Worker,
+            4 => PartyKind::Writer,
+            _ => PartyKind::Holder,
+        },
+    }
+}
+
+// How many bursts of steps a list has after its parties came.
+fn bursts(mix: Mix) -> u32 {
+    match mix {
+        Mix::Collectors => 40,
+        Mix::Compactors => 120,
     }
 }
 
@@ -310,7 +452,7 @@ fn push(rt: &impl Abort, events: &mut Vec<Event>, event: Event) {
 // A new party comes at a place.
 fn open(rt: &impl Abort, events: &mut Vec<Event>, draws: &mut Draws, db: DbPath, place: usize) {
     let party = draws.comes(place);
-    let kind = kind_at(place);
+    let kind = kind_at(draws.mix, place);
     let open = Event::open(*events.allocator(), party, kind, db).expect(rt, "memory");
     push(rt, events, open);
 }
@@ -340,44 +482,68 @@ fn steps(rt: &impl Abort, events: &mut Vec<Event>, draws: &mut Draws, place: usi
     for _ in 0..times {
         let moment = draws.moment();
         let mark = draws.mark();
-        push(
-            rt,
-            events,
-            Event::Step {
-                party,
-                moment,
-                mark,
-            },
-        );
+        let step = Event::Step {
+            party,
+            moment,
+            mark,
+        };
+        push(rt, events, step);
     }
 }
 
-// A party stops, and a new one of its kind comes in its place and starts its first call.
+// A party stops, and a new one of its kind comes in its place.
 fn replace(rt: &impl Abort, events: &mut Vec<Event>, draws: &mut Draws, db: DbPath, place: usize) {
     let party = draws.party_at(place);
     push(rt, events, Event::Stop { party });
     open(rt, events, draws, db, place);
-    start_first(rt, events, draws, place);
 }
 
-// What comes next: now and then a party that is replaced, else half the time a start, and always some steps.
-fn draw(rt: &impl Abort, events: &mut Vec<Event>, draws: &mut Draws, db: DbPath) {
-    let place = draws.place();
+// A party starts a call, makes its read, and rests from now on, so that its put may come late.
+fn rest(rt: &impl Abort, events: &mut Vec<Event>, draws: &mut Draws) {
+    let place = draws.any_place();
+    draws.resting = place;
+    start(rt, events, draws, place);
+    steps(rt, events, draws, place, 3);
+}
+
+// Beside collectors: now and then a party that is replaced, one that rests, or a start.
+fn restless(rt: &impl Abort, events: &mut Vec<Event>, draws: &mut Draws, db: DbPath, place: usize) {
     if draws.once_in(60) {
         replace(rt, events, draws, db, place);
+    }
+    if draws.once_in(15) {
+        rest(rt, events, draws);
+    }
+    if draws.once_in(2) {
+        start(rt, events, draws, place);
+    }
+}
+
+// Beside compactors: now and then a party that is replaced and starts its first call, else half the time a start.
+fn busy(rt: &impl Abort, events: &mut Vec<Event>, draws: &mut Draws, db: DbPath, place: usize) {
+    if draws.once_in(60) {
+        replace(rt, events, draws, db, place);
+        start_first(rt, events, draws, place);
     } else if draws.once_in(2) {
         start(rt, events, draws, place);
+    }
+}
+
+// What comes next, and always some steps.
+fn draw(rt: &impl Abort, events: &mut Vec<Event>, draws: &mut Draws, db: DbPath) {
+    let place = draws.place();
+    match draws.mix {
+        Mix::Collectors => restless(rt, events, draws, db, place),
+        Mix::Compactors => busy(rt, events, draws, db, place),
     }
     let times = draws.below(12).saturating_add(1);
     steps(rt, events, draws, place, times);
 }
 
-/// The list of a seed. Two compactors, two workers, a writer and a holder come, each starts a call, the compactors and the writer to
-/// open, and then it goes on as it is drawn.
-pub(crate) fn generated(rt: &impl Abort, alloc: Global, seed: u64) -> Vec<Event> {
-    let db = db(rt);
-    let mut events = Vec::new(alloc);
-    let mut draws = Draws {
+// Nothing was drawn yet.
+fn draws_of(mix: Mix, seed: u64) -> Draws {
+    Draws {
+        mix,
         state: seed,
         moment: 1000,
         next_party: 0,
@@ -387,15 +553,24 @@ pub(crate) fn generated(rt: &impl Abort, alloc: Global, seed: u64) -> Vec<Event>
         claimed: [None; 6],
         scheduled: Ulid::from_parts(10, 2),
         leading: 0,
+        resting: 0,
         parties: [0; 6],
-    };
+    }
+}
+
+/// The list of a mix and a seed. The six parties come, each starts a call, writers and compactors to open, and then it goes on as it is
+/// drawn.
+pub(crate) fn generated(rt: &impl Abort, alloc: Global, mix: Mix, seed: u64) -> Vec<Event> {
+    let db = db(rt);
+    let mut events = Vec::new(alloc);
+    let mut draws = draws_of(mix, seed);
     for place in 0..6 {
         open(rt, &mut events, &mut draws, db, place);
     }
     for place in 0..6 {
         start_first(rt, &mut events, &mut draws, place);
     }
-    for _ in 0..DRAWS {
+    for _ in 0..bursts(mix) {
         draw(rt, &mut events, &mut draws, db);
     }
     events

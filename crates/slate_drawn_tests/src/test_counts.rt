@@ -1,0 +1,135 @@
+//! What audited runs had in them.
+
+use slate_ids::SlateDBError;
+use slate_script::{Call, Reply};
+use std::process::Abort;
+
+/// What audited runs had in them.
+#[derive(Clone, Copy)]
+pub(crate) struct Counts {
+    /// Passes that ended after deletes.
+    pub passes: u64,
+    /// Puts of numbers that were collected before, which the boundary answered.
+    pub late_puts: u64,
+    /// Flushes that were refused for a table from before the floor.
+    pub late_tables: u64,
+    /// Tables of the greatest versions.
+    pub tables: u64,
+    /// Opens of compactors that were done.
+    pub opens: u64,
+    /// Calls that were refused for an epoch above the party's own.
+    pub fenced: u64,
+    /// Calls that were refused for a number that another party had put.
+    pub conflicts: u64,
+    /// Calls that were done, of each kind.
+    pub schedules: u64,
+    pub claims: u64,
+    pub reports: u64,
+    pub finishes: u64,
+    pub states: u64,
+    pub flushes: u64,
+}
+
+impl Counts {
+    /// Nothing yet.
+    pub(crate) fn new() -> Counts {
+        Counts {
+            passes: 0,
+            late_puts: 0,
+            late_tables: 0,
+            tables: 0,
+            opens: 0,
+            fenced: 0,
+            conflicts: 0,
+            schedules: 0,
+            claims: 0,
+            reports: 0,
+            finishes: 0,
+            states: 0,
+            flushes: 0,
+        }
+    }
+}
+
+/// There are so many of each of these.
+pub(crate) fn check_least(rt: &impl Abort, found: &[(&str, u64, u64)]) {
+    for (what, count, least) in found {
+        assert!(rt; *count >= *least, "{what}: {count}");
+    }
+}
+
+/// What a call is, as far as it is told apart here.
+#[derive(Clone, Copy, PartialEq, Eq)]
+pub(crate) enum Word {
+    OpenCompactor,
+    /// Any other call of a compactor that puts.
+    Compactor,
+    Schedule,
+    State,
+    Finish,
+    Claim,
+    Report,
+    Flush,
+    Other,
+}
+
+/// What a call is.
+pub(crate) fn word_of(call: &Call) -> Word {
+    match call {
+        Call::OpenCompactor => Word::OpenCompactor,
+        Call::Refresh | Call::WriteRecord => Word::Compactor,
+        Call::WriteManifest { .. } => Word::Compactor,
+        Call::Schedule { .. } => Word::Schedule,
+        Call::WriteState { .. } => Word::State,
+        Call::Finish { .. } => Word::Finish,
+        Call::Claim { .. } => Word::Claim,
+        Call::Report { .. } => Word::Report,
+        Call::Flush { .. } => Word::Flush,
+        _ => Word::Other,
+    }
+}
+
+/// One more.
+pub(crate) fn one_more(count: &mut u64) {
+    *count = count.saturating_add(1);
+}
+
+fn count_done(counts: &mut Counts, word: Word) {
+    match word {
+        Word::Schedule => one_more(&mut counts.schedules),
+        Word::Claim => one_more(&mut counts.claims),
+        Word::Report => one_more(&mut counts.reports),
+        Word::Finish => one_more(&mut counts.finishes),
+        Word::State => one_more(&mut counts.states),
+        Word::Flush => one_more(&mut counts.flushes),
+        _ => {}
+    }
+}
+
+fn count_refused(counts: &mut Counts, refusal: &SlateDBError) {
+    match refusal {
+        SlateDBError::Fenced { .. } => one_more(&mut counts.fenced),
+        SlateDBError::TransactionalObjectVersionExists { .. } => one_more(&mut counts.conflicts),
+        SlateDBError::InvalidClockTick { .. } => one_more(&mut counts.late_tables),
+        _ => {}
+    }
+}
+
+/// Counts the reply of a call.
+pub(crate) fn counted(counts: &mut Counts, word: Word, reply: &Reply) {
+    match reply {
+        Reply::Done => count_done(counts, word),
+        Reply::Refused(refusal) => count_refused(counts, refusal),
+        Reply::Epoch(_) => {
+            if word == Word::OpenCompactor {
+                one_more(&mut counts.opens);
+            }
+        }
+        Reply::Pass { deleted, .. } => {
+            if *deleted > 0 {
+                one_more(&mut counts.passes);
+            }
+        }
+        _ => {}
+    }
+}
