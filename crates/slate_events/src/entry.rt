@@ -1,5 +1,6 @@
 //! Entries of a trail.
 ghost use Rattle.std.specs.Prelude.{◌≡◌, IfOk};
+ghost use Rattle.slate_events.specs.declared.entry.Entry.TheVariants.{Called};
 
 use crate::reply::Reply;
 use slate_ids::{Millis, OutOfMemory};
@@ -45,6 +46,53 @@ fn copy_reply(alloc: Global, reply: &Option<Reply>) -> Result<Option<Reply>, Out
     }
 }
 
+/// A call and its answer, copied.
+fn copy_made(
+    alloc: Global,
+    call: &StoreCall,
+    answer: &StoreAnswer,
+) -> Result<(StoreCall, StoreAnswer), OutOfMemory>
+    ensures { IfOk result (λ made. made ≡ (call.now, answer.now)) }
+{
+    let call = call.copy(alloc)?;
+    match answer.copy(alloc) {
+        Ok(answer) => Ok((call, answer)),
+        Err(e) => {
+            drop(call);
+            Err(e)
+        }
+    }
+}
+
+/// The entry of a store call, of copies.
+fn called(
+    alloc: Global,
+    party: u32,
+    call: &StoreCall,
+    moment: Millis,
+    mark: Mark,
+    answer: &StoreAnswer,
+    reply: &Option<Reply>,
+) -> Result<Entry, OutOfMemory>
+    ensures { IfOk result (λ copied. copied ≡ Called party call.now moment mark answer.now reply.now) }
+{
+    let reply = copy_reply(alloc, reply)?;
+    match copy_made(alloc, call, answer) {
+        Ok((call, answer)) => Ok(Entry::Called {
+            party,
+            call,
+            moment,
+            mark,
+            answer,
+            reply,
+        }),
+        Err(e) => {
+            drop(reply);
+            Err(e)
+        }
+    }
+}
+
 impl Entry {
     /// An equal entry.
     pub fn copy(&self, alloc: Global) -> Result<Entry, OutOfMemory>
@@ -63,14 +111,7 @@ impl Entry {
                 mark,
                 answer,
                 reply,
-            } => Entry::Called {
-                party: *party,
-                call: call.copy(alloc)?,
-                moment: *moment,
-                mark: *mark,
-                answer: answer.copy(alloc)?,
-                reply: copy_reply(alloc, reply)?,
-            },
+            } => called(alloc, *party, call, *moment, *mark, answer, reply)?,
             Entry::Stopped { party } => Entry::Stopped { party: *party },
             Entry::Idle { party } => Entry::Idle { party: *party },
         })
