@@ -9,8 +9,8 @@ use slate_model::{
     SsTableView,
 };
 use slate_state::{
-    CompactorStateReader, CompactorStateWriter, StoredCompactions, StoredManifest, claim, report,
-    submit,
+    CompactorStateReader, CompactorStateView, CompactorStateWriter, StoredCompactions,
+    StoredManifest, claim, report, submit,
 };
 use slate_store::MemoryStore;
 use std::alloc::Global;
@@ -101,14 +101,15 @@ fn opened(alloc: Global, store: &mut MemoryStore, db: DbPath) -> Result<(), Slat
     reply
 }
 
-/// The round, and what is read of the compactor's state then.
-fn shows(rt: &HostRuntime, db: DbPath) -> Result<(), SlateDBError> {
-    let alloc = rt.alloc();
-    let mut store = MemoryStore::new(alloc, Vec::new(alloc));
+/// A new database with two tables in L0.
+fn create(alloc: Global, store: &mut MemoryStore, db: DbPath) -> Result<(), SlateDBError> {
     let core = two_tables(alloc)?;
-    let _ = StoredManifest::create_new_db(alloc, &mut store, db, core, 1000)?;
-    opened(alloc, &mut store, db)?;
-    let view = CompactorStateReader::new(db).read_view(alloc, &mut store, 3)?;
+    drop(StoredManifest::create_new_db(alloc, store, db, core, 1000)?);
+    Ok(())
+}
+
+/// What is read of a compactor's state.
+fn print(rt: &HostRuntime, view: &CompactorStateView) {
     let manifest = view.manifest();
     let _ = println!(rt;
         "manifest {}: {} tables in L0, {} sorted run",
@@ -121,12 +122,23 @@ fn shows(rt: &HostRuntime, db: DbPath) -> Result<(), SlateDBError> {
             let _ = println!(rt; "record {}: {:?}", record.id(), compaction.status);
         }
     }
+}
+
+/// The database, the round, and what is read then.
+fn shows(rt: &HostRuntime, store: &mut MemoryStore, db: DbPath) -> Result<(), SlateDBError> {
+    let alloc = rt.alloc();
+    create(alloc, store, db)?;
+    opened(alloc, store, db)?;
+    let view = CompactorStateReader::new(db).read_view(alloc, store, 3)?;
+    print(rt, &view);
+    drop(view);
     Ok(())
 }
 
 fn main(rt: HostRuntime) {
     if let Ok(Some(db)) = DbPath::from_text("db") {
-        if let Err(e) = shows(&rt, db) {
+        let mut store = MemoryStore::new(rt.alloc(), Vec::new(rt.alloc()));
+        if let Err(e) = shows(&rt, &mut store, db) {
             let _ = println!(rt; "refused: {e}");
         }
     }

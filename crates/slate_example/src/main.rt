@@ -12,24 +12,34 @@ const ALL: NumberRange = NumberRange {
     end: Bound::Unbounded,
 };
 
-fn shows(rt: &HostRuntime, db: DbPath) -> Result<(), SlateDBError> {
-    let alloc = rt.alloc();
-    let mut store = MemoryStore::new(alloc, Vec::new(alloc));
-
-    let core = ManifestCore::new(alloc);
-    let mut holder = StoredManifest::create_new_db(alloc, &mut store, db, core, 1000)?;
-    let _ = println!(rt; "created version {}", holder.id());
-
+/// A checkpoint that lives for half a second.
+fn pin(
+    rt: &HostRuntime,
+    store: &mut MemoryStore,
+    holder: &mut StoredManifest,
+) -> Result<(), SlateDBError> {
     let options = CheckpointOptions {
         lifetime: Some(500),
         source: None,
         name: None,
     };
     let id = CheckpointId::from_u64(7);
-    let checkpoint = holder.write_checkpoint(alloc, &mut store, 2000, 3, id, &options)?;
+    let checkpoint = holder.write_checkpoint(rt.alloc(), store, 2000, 3, id, &options)?;
     let _ = println!(rt; "a checkpoint names version {}", checkpoint.manifest_id);
+    Ok(())
+}
 
-    let versions = ManifestStore::new(db).list_manifests(alloc, &mut store, ALL)?;
+/// A new database, and a checkpoint in it.
+fn create(rt: &HostRuntime, store: &mut MemoryStore, db: DbPath) -> Result<(), SlateDBError> {
+    let core = ManifestCore::new(rt.alloc());
+    let mut holder = StoredManifest::create_new_db(rt.alloc(), store, db, core, 1000)?;
+    let _ = println!(rt; "created version {}", holder.id());
+    pin(rt, store, &mut holder)
+}
+
+/// The versions of its manifest.
+fn list(rt: &HostRuntime, store: &mut MemoryStore, db: DbPath) -> Result<(), SlateDBError> {
+    let versions = ManifestStore::new(db).list_manifests(rt.alloc(), store, ALL)?;
     for version in versions.as_slice() {
         let _ = println!(rt;
             "version {} was written at {}",
@@ -39,9 +49,15 @@ fn shows(rt: &HostRuntime, db: DbPath) -> Result<(), SlateDBError> {
     Ok(())
 }
 
+fn shows(rt: &HostRuntime, store: &mut MemoryStore, db: DbPath) -> Result<(), SlateDBError> {
+    create(rt, store, db)?;
+    list(rt, store, db)
+}
+
 fn main(rt: HostRuntime) {
     if let Ok(Some(db)) = DbPath::from_text("db") {
-        if let Err(e) = shows(&rt, db) {
+        let mut store = MemoryStore::new(rt.alloc(), Vec::new(rt.alloc()));
+        if let Err(e) = shows(&rt, &mut store, db) {
             let _ = println!(rt; "refused: {e}");
         }
     }
