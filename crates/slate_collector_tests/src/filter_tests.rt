@@ -11,7 +11,7 @@ use std::process::Abort;
 type Told = &'static [(u64, u64)];
 
 /// Of candidates, what a filter returns, and what is retained.
-const RETAINED: [(Told, Told, Told); 7] = [
+const RETAINED: &[(Told, Told, Told)] = &[
     // a filter that returns what is no candidate, beside one that is
     (&[(1, 1), (2, 2)], &[(1, 1), (9, 9)], &[(1, 1)]),
     // in the order of the candidates
@@ -28,6 +28,11 @@ const RETAINED: [(Told, Told, Told); 7] = [
     (&[], &[(1, 1)], &[]),
     (&[(2, 2), (1, 1)], &[(1, 1), (2, 2)], &[(2, 2), (1, 1)]),
 ];
+
+// The table as a slice: a function that names a table has all of it written out.
+fn retained() -> &'static [(Told, Told, Told)] {
+    RETAINED
+}
 
 fn objects(rt: &impl Abort, alloc: Global, db: DbPath, told: Told) -> Listed<ObjectMetadata> {
     let mut listed = Listed::new(alloc);
@@ -94,7 +99,7 @@ fn retains_boxed(rt: &impl Abort, alloc: Global) -> bool {
 
 #[test]
 fn candidates_that_a_filter_returned_are_retained(rt: HostRuntime) {
-    for (row, (candidates, returned, wanted)) in RETAINED.iter().enumerate() {
+    for (row, (candidates, returned, wanted)) in retained().iter().enumerate() {
         assert!(rt;
             retains_of(&rt, rt.alloc(), *candidates, *returned, *wanted),
             "at row {row}"

@@ -74,7 +74,7 @@ const PLAIN: Given = (GcMessage::Manifest, 1000, false, true, false, None);
 
 /// Over a store, what a pass ends with, the boundary of the manifests afterwards where it is asked for (0: none), and which of the
 /// objects are left.
-const PASSES: [(&[Put], Given, End, Option<u64>, &[bool]); 27] = [
+const PASSES: &[(&[Put], Given, End, Option<u64>, &[bool])] = &[
     (
         &THREE,
         PLAIN,
@@ -291,6 +291,11 @@ const PASSES: [(&[Put], Given, End, Option<u64>, &[bool]); 27] = [
     ),
 ];
 
+// The table as a slice: a function that names a table has all of it written out.
+fn passes() -> &'static [(&'static [Put], Given, End, Option<u64>, &'static [bool])] {
+    PASSES
+}
+
 fn settings(given: &Given) -> PassSettings {
     PassSettings {
         pass: given.0,
@@ -376,7 +381,7 @@ fn ends_so(
 
 #[test]
 fn passes_end_so(rt: HostRuntime) {
-    for (row, (puts, given, wanted, bound, left)) in PASSES.iter().enumerate() {
+    for (row, (puts, given, wanted, bound, left)) in passes().iter().enumerate() {
         assert!(rt;
             ends_so(&rt, rt.alloc(), *puts, given, wanted, *bound, *left),
             "at row {row}"

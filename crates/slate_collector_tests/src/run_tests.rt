@@ -23,7 +23,7 @@ const RECORDS: Tick = Tick::At(GcMessage::Compactions, 5000);
 
 /// The objects, the ticks, the turns; then how a run ends, what the report says, the tick that is next, and the statistics. The passes
 /// over manifests and records are configured.
-const RUNS: [(&[Put], &[Tick], u64, RunEnd, &[Told], Tick, [u64; 9]); 8] = [
+const RUNS: &[(&[Put], &[Tick], u64, RunEnd, &[Told], Tick, [u64; 9])] = &[
     // a new database
     (
         &[Put::Plain(1)],
@@ -114,6 +114,19 @@ const RUNS: [(&[Put], &[Tick], u64, RunEnd, &[Told], Tick, [u64; 9]); 8] = [
     ),
 ];
 
+// The table as a slice: a function that names a table has all of it written out.
+fn runs() -> &'static [(
+    &'static [Put],
+    &'static [Tick],
+    u64,
+    RunEnd,
+    &'static [Told],
+    Tick,
+    [u64; 9],
+)] {
+    RUNS
+}
+
 fn ticks_of(rt: &impl Abort, alloc: Global, ticks: &[Tick]) -> ListTicks {
     ListTicks::new(Vec::from_slice(alloc, ticks).expect(rt, "memory"))
 }
@@ -156,7 +169,7 @@ fn runs_so(
 
 #[test]
 fn ticks_run_passes(rt: HostRuntime) {
-    for (row, (puts, ticks, turns, end, told, next, stats)) in RUNS.iter().enumerate() {
+    for (row, (puts, ticks, turns, end, told, next, stats)) in runs().iter().enumerate() {
         assert!(rt;
             runs_so(
                 &rt,

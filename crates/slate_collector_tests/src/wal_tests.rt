@@ -17,7 +17,7 @@ type Versions = &'static [(u64, u64, u64)];
 type Range = (Bound<u64>, Bound<u64>);
 
 /// Of versions, of which this is the latest, the ranges that they keep.
-const RANGES: [(u64, Versions, &[Range]); 3] = [
+const RANGES: &[(u64, Versions, &[Range])] = &[
     (
         2,
         &[(1, 2, 6), (2, 5, 8)],
@@ -29,6 +29,11 @@ const RANGES: [(u64, Versions, &[Range]); 3] = [
     (1, &[(1, 0, 1)], &[(Bound::Included(0), Bound::Unbounded)]),
     (9, &[], &[]),
 ];
+
+// The table as a slice: a function that names a table has all of it written out.
+fn ranges_rows() -> &'static [(u64, Versions, &'static [Range])] {
+    RANGES
+}
 
 fn version(alloc: Global, replay: u64, next: u64) -> Manifest {
     let mut core = ManifestCore::new(alloc);
@@ -73,7 +78,7 @@ fn keeps_so(rt: &impl Abort, alloc: Global, latest: u64, told: Versions, wanted:
 
 #[test]
 fn versions_keep_their_ranges(rt: HostRuntime) {
-    for (latest, told, wanted) in &RANGES {
+    for (latest, told, wanted) in ranges_rows() {
         assert!(rt;
             keeps_so(&rt, rt.alloc(), *latest, *told, *wanted),
             "at {latest}"
@@ -85,13 +90,18 @@ fn versions_keep_their_ranges(rt: HostRuntime) {
 const FILES: [(u64, u64); 3] = [(1, 4), (2, 0), (6, 0)];
 
 /// Under a mode and a least age, at the moment 1000, the numbers of the files that are picked.
-const PICKS: [(WalGcMode, u64, &[u64]); 4] = [
+const PICKS: &[(WalGcMode, u64, &[u64])] = &[
     (WalGcMode::Regular, 999, &[1, 2]),
     (WalGcMode::Fence, 999, &[2]),
     // a file is to be older than the least age
     (WalGcMode::Regular, 1000, &[]),
     (WalGcMode::Fence, 1000, &[]),
 ];
+
+// The table as a slice: a function that names a table has all of it written out.
+fn picks_rows() -> &'static [(WalGcMode, u64, &'static [u64])] {
+    PICKS
+}
 
 fn listed(rt: &impl Abort, alloc: Global, db: DbPath) -> Vec<ObjectMetadata> {
     let mut files = Vec::new(alloc);
@@ -133,7 +143,7 @@ fn picks_so(rt: &impl Abort, alloc: Global, mode: WalGcMode, min_age: u64, wante
 
 #[test]
 fn aged_files_in_no_range_are_picked(rt: HostRuntime) {
-    for (row, (mode, min_age, wanted)) in PICKS.iter().enumerate() {
+    for (row, (mode, min_age, wanted)) in picks_rows().iter().enumerate() {
         assert!(rt;
             picks_so(&rt, rt.alloc(), *mode, *min_age, *wanted),
             "at row {row}"

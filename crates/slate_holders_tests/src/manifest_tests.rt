@@ -16,7 +16,7 @@ use slate_model::ManifestCore;
 const CREATE: Row = (Call::Hold(Create), Number(1));
 
 /// The log of manifests.
-const LOG: [(&str, &[Row]); 6] = [
+const LOG: &[(&str, &[Row])] = &[
     (
         "the latest and those above the boundary stay",
         &[
@@ -89,9 +89,14 @@ const LOG: [(&str, &[Row]); 6] = [
     ),
 ];
 
+// The table as a slice: a function that names a table has all of it written out.
+fn log_rows() -> &'static [(&'static str, &'static [Row])] {
+    LOG
+}
+
 #[test]
 fn the_log_of_manifests(rt: HostRuntime) {
-    for (name, rows) in &LOG {
+    for (name, rows) in log_rows() {
         play(&rt, rt.alloc(), name, rows);
     }
 }
@@ -110,7 +115,7 @@ fn a_new_database_is_initialised(rt: HostRuntime) {
 }
 
 /// The checkpoint calls, and fenced holders.
-const HOLDERS: [(&str, &[Row]); 7] = [
+const HOLDERS: &[(&str, &[Row])] = &[
     (
         "a checkpoint is written once",
         &[
@@ -211,15 +216,20 @@ const HOLDERS: [(&str, &[Row]); 7] = [
     ),
 ];
 
+// The table as a slice: a function that names a table has all of it written out.
+fn holders() -> &'static [(&'static str, &'static [Row])] {
+    HOLDERS
+}
+
 #[test]
 fn holders_of_a_manifest(rt: HostRuntime) {
-    for (name, rows) in &HOLDERS {
+    for (name, rows) in holders() {
         play(&rt, rt.alloc(), name, rows);
     }
 }
 
 /// The machines of the same calls.
-const MACHINES: [(&str, &[Row]); 9] = [
+const MACHINES: &[(&str, &[Row])] = &[
     (
         "a machine reads in three steps",
         &[
@@ -307,9 +317,14 @@ const MACHINES: [(&str, &[Row]); 9] = [
     ),
 ];
 
+// The table as a slice: a function that names a table has all of it written out.
+fn machines_rows() -> &'static [(&'static str, &'static [Row])] {
+    MACHINES
+}
+
 #[test]
 fn machines_of_calls_on_manifests(rt: HostRuntime) {
-    for (name, rows) in &MACHINES {
+    for (name, rows) in machines_rows() {
         play(&rt, rt.alloc(), name, rows);
     }
 }

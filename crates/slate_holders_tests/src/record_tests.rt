@@ -16,7 +16,7 @@ const CREATE: Row = (Hold(Create(0)), Holds(1, 0));
 const NOT_LOADED: Row = (Hold(Load), Refused(3, 0));
 
 /// The log of records.
-const LOG: [(&str, &[Row]); 4] = [
+const LOG: &[(&str, &[Row])] = &[
     (
         "records are listed by number",
         &[
@@ -67,15 +67,20 @@ const LOG: [(&str, &[Row]); 4] = [
     ),
 ];
 
+// The table as a slice: a function that names a table has all of it written out.
+fn log_rows() -> &'static [(&'static str, &'static [Row])] {
+    LOG
+}
+
 #[test]
 fn the_log_of_records(rt: HostRuntime) {
-    for (name, rows) in &LOG {
+    for (name, rows) in log_rows() {
         play(&rt, rt.alloc(), name, rows);
     }
 }
 
 /// Holders of a record, and fenced ones.
-const HOLDERS: [(&str, &[Row]); 9] = [
+const HOLDERS: &[(&str, &[Row])] = &[
     (
         "a log is begun once",
         &[
@@ -189,15 +194,20 @@ const HOLDERS: [(&str, &[Row]); 9] = [
     ),
 ];
 
+// The table as a slice: a function that names a table has all of it written out.
+fn holders_rows() -> &'static [(&'static str, &'static [Row])] {
+    HOLDERS
+}
+
 #[test]
 fn holders_of_a_record(rt: HostRuntime) {
-    for (name, rows) in &HOLDERS {
+    for (name, rows) in holders_rows() {
         play(&rt, rt.alloc(), name, rows);
     }
 }
 
 /// The machines of the calls on the log.
-const LOG_MACHINES: [(&str, &[Row]); 5] = [
+const LOG_MACHINES: &[(&str, &[Row])] = &[
     (
         "a machine reads in three steps",
         &[
@@ -250,15 +260,20 @@ const LOG_MACHINES: [(&str, &[Row]); 5] = [
     ),
 ];
 
+// The table as a slice: a function that names a table has all of it written out.
+fn log_machines() -> &'static [(&'static str, &'static [Row])] {
+    LOG_MACHINES
+}
+
 #[test]
 fn machines_of_calls_on_the_log(rt: HostRuntime) {
-    for (name, rows) in &LOG_MACHINES {
+    for (name, rows) in log_machines() {
         play(&rt, rt.alloc(), name, rows);
     }
 }
 
 /// The machines of the calls of holders.
-const HOLDER_MACHINES: [(&str, &[Row]); 8] = [
+const HOLDER_MACHINES: &[(&str, &[Row])] = &[
     (
         "a machine begins a log once",
         &[
@@ -344,9 +359,14 @@ const HOLDER_MACHINES: [(&str, &[Row]); 8] = [
     ),
 ];
 
+// The table as a slice: a function that names a table has all of it written out.
+fn holder_machines() -> &'static [(&'static str, &'static [Row])] {
+    HOLDER_MACHINES
+}
+
 #[test]
 fn machines_of_calls_of_holders(rt: HostRuntime) {
-    for (name, rows) in &HOLDER_MACHINES {
+    for (name, rows) in holder_machines() {
         play(&rt, rt.alloc(), name, rows);
     }
 }

@@ -33,7 +33,7 @@ enum Verdict {
 const HELD: Rows = &[(200, 200), (100, 110), (300, 310)];
 
 /// The epoch and the compactions of a new record after the held one of epoch 2, and what its update answers.
-const UPDATES: [(u64, Rows, Put, Verdict); 16] = [
+const UPDATES: &[(u64, Rows, Put, Verdict)] = &[
     (2, HELD, Put::Plainly, Verdict::Committed),
     (3, HELD, Put::Plainly, Verdict::Committed),
     (1, HELD, Put::Plainly, Verdict::Broken(UpdateRule::U1)),
@@ -111,6 +111,11 @@ const UPDATES: [(u64, Rows, Put, Verdict); 16] = [
     ),
 ];
 
+// The table as a slice: a function that names a table has all of it written out.
+fn updates() -> &'static [(u64, Rows, Put, Verdict)] {
+    UPDATES
+}
+
 fn right(rt: &impl Abort, alloc: Global, put: Put) -> Right {
     match put {
         Put::Plainly => Right::Plain,
@@ -174,7 +179,7 @@ fn updated(rt: &impl Abort, alloc: Global, new: Compactions, right: Right) -> Ve
 
 #[test]
 fn updates_are_refused_by_the_first_rule(rt: HostRuntime) {
-    for (epoch, rows, put, wanted) in &UPDATES {
+    for (epoch, rows, put, wanted) in updates() {
         let new = record(&rt, rt.alloc(), *epoch, *rows);
         let answer = updated(&rt, rt.alloc(), new, right(&rt, rt.alloc(), *put));
         assert!(rt; answer == *wanted, "{epoch} {rows:?} {put:?}");

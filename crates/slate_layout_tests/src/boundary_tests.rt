@@ -5,7 +5,12 @@ use std::alloc::Global;
 use std::process::Abort;
 
 /// Numbers and their bytes.
-const NUMBERS: [(u64, &[u8]); 3] = [(2, b"2"), (0, b"0"), (u64::MAX, b"18446744073709551615")];
+const NUMBERS: &[(u64, &[u8])] = &[(2, b"2"), (0, b"0"), (u64::MAX, b"18446744073709551615")];
+
+// The table as a slice: a function that names a table has all of it written out.
+fn numbers() -> &'static [(u64, &'static [u8])] {
+    NUMBERS
+}
 
 /// Whether these are the bytes of a number, and are read back.
 fn is_written(rt: &impl Abort, alloc: Global, number: u64, bytes: &[u8]) -> bool {
@@ -27,7 +32,7 @@ fn is_read(bytes: &[u8], number: u64) -> bool {
 
 #[test]
 fn a_boundary_has_its_digits(rt: HostRuntime) {
-    for (number, bytes) in &NUMBERS {
+    for (number, bytes) in numbers() {
         assert!(rt; is_written(&rt, rt.alloc(), *number, bytes), "at {number}");
     }
 }

@@ -13,11 +13,21 @@ use std::alloc::Global;
 use std::process::Abort;
 
 /// Rows and their changes; the rows of what is written of them, and their changes.
-const WRITTEN: [(&[&str], Changes, &[&str], Changes); 3] = [
+const WRITTEN: &[(&[&str], Changes, &[&str], Changes)] = &[
     (&NEW, &[], &NEW, &[]),
     (&WHOLE, &[], &WHOLE, &[]),
     (&OLD, &[], &WHOLE, OF_OLD),
 ];
+
+// The table as a slice: a function that names a table has all of it written out.
+fn written_rows() -> &'static [(
+    &'static [&'static str],
+    Changes,
+    &'static [&'static str],
+    Changes,
+)] {
+    WRITTEN
+}
 
 /// Whether the bytes of the second row are written of the manifest of the first.
 fn is_written(
@@ -34,7 +44,7 @@ fn is_written(
 
 #[test]
 fn manifests_are_written(rt: HostRuntime) {
-    for (row, changes, written, others) in &WRITTEN {
+    for (row, changes, written, others) in written_rows() {
         assert!(rt;
             is_written(&rt, rt.alloc(), (row, changes), (written, others)),
             "with {others:?}"

@@ -73,7 +73,7 @@ fn refusal(alloc: Global, format: FormatName, bytes: &[u8]) -> (u8, Option<u16>)
 }
 
 /// Bytes, the number of their refusal, and the version that it names.
-const BEGUN: [(FormatName, &[u8], u8, Option<u16>); 21] = [
+const BEGUN: &[(FormatName, &[u8], u8, Option<u16>)] = &[
     (MANIFEST, &[], 10, None),
     (MANIFEST, &[0], 10, None),
     (MANIFEST, &[0, 3], 12, Some(3)),
@@ -97,13 +97,18 @@ const BEGUN: [(FormatName, &[u8], u8, Option<u16>); 21] = [
     (Boundary, b"2a", 13, None),
 ];
 
+// The table as a slice: a function that names a table has all of it written out.
+fn begun() -> &'static [(FormatName, &'static [u8], u8, Option<u16>)] {
+    BEGUN
+}
+
 const MANIFEST: FormatName = FormatName::Manifest;
 
 const RECORD: FormatName = FormatName::Compactions;
 
 #[test]
 fn bytes_begin_with_versions_1_and_2(rt: HostRuntime) {
-    for (row, (format, bytes, code, version)) in BEGUN.iter().enumerate() {
+    for (row, (format, bytes, code, version)) in begun().iter().enumerate() {
         let found = refusal(rt.alloc(), *format, bytes);
         assert!(rt; found.0 == *code && found.1 == *version, "at row {row}");
     }
@@ -130,7 +135,7 @@ fn is_whole(rt: &impl Abort, alloc: Global, format: FormatName, row: &[&str]) ->
     is_read && is_alone && is_more
 }
 
-const ROWS: [(FormatName, &[&str]); 6] = [
+const ROWS: &[(FormatName, &[&str])] = &[
     (MANIFEST, &NEW),
     (MANIFEST, &WHOLE),
     (MANIFEST, &OLD),
@@ -139,9 +144,14 @@ const ROWS: [(FormatName, &[&str]); 6] = [
     (RECORD, &OLD_RECORD),
 ];
 
+// The table as a slice: a function that names a table has all of it written out.
+fn rows() -> &'static [(FormatName, &'static [&'static str])] {
+    ROWS
+}
+
 #[test]
 fn a_byte_less_or_more_is_corrupt(rt: HostRuntime) {
-    for (place, (format, row)) in ROWS.iter().enumerate() {
+    for (place, (format, row)) in rows().iter().enumerate() {
         assert!(rt; is_whole(&rt, rt.alloc(), *format, row), "at row {place}");
     }
 }
@@ -161,7 +171,7 @@ fn judged(
 }
 
 /// Changes of the whole row, and the number of their refusal.
-const CHANGED: [(Changes, u8); 39] = [
+const CHANGED: &[(Changes, u8)] = &[
     // Counts of tables.
     (&[(1, "00000001")], 13),
     (&[(1, "00000003")], 13),
@@ -286,16 +296,21 @@ const CHANGED: [(Changes, u8); 39] = [
     ),
 ];
 
+// The table as a slice: a function that names a table has all of it written out.
+fn changed_rows() -> &'static [(Changes, u8)] {
+    CHANGED
+}
+
 #[test]
 fn changes_of_version_2_are_judged(rt: HostRuntime) {
-    for (changes, code) in &CHANGED {
+    for (changes, code) in changed_rows() {
         let found = judged(&rt, rt.alloc(), MANIFEST, &WHOLE, changes);
         assert!(rt; found == *code, "with {changes:?}");
     }
 }
 
 /// Changes of the row of version 1, and the number of their refusal.
-const OLD_CHANGED: [(Changes, u8); 7] = [
+const OLD_CHANGED: &[(Changes, u8)] = &[
     (&[(1, "02")], 13),
     (&[(5, "ffffffffffffffff")], 13),
     (&[(5, "fffffffffffffffe")], 0),
@@ -306,16 +321,21 @@ const OLD_CHANGED: [(Changes, u8); 7] = [
     (&[(23, ""), (24, "00")], 0),
 ];
 
+// The table as a slice: a function that names a table has all of it written out.
+fn old_changed() -> &'static [(Changes, u8)] {
+    OLD_CHANGED
+}
+
 #[test]
 fn changes_of_version_1_are_judged(rt: HostRuntime) {
-    for (changes, code) in &OLD_CHANGED {
+    for (changes, code) in old_changed() {
         let found = judged(&rt, rt.alloc(), MANIFEST, &OLD, changes);
         assert!(rt; found == *code, "with {changes:?}");
     }
 }
 
 /// Rows of records and their changes, and the number of their refusal.
-const RECORDS_CHANGED: [(&[&str], Changes, u8); 16] = [
+const RECORDS_CHANGED: &[(&[&str], Changes, u8)] = &[
     (&WHOLE_RECORD, &[(2, "00000001")], 13),
     (&WHOLE_RECORD, &[(2, "ffffffff")], 13),
     // Ids that don't ascend.
@@ -351,9 +371,14 @@ const RECORDS_CHANGED: [(&[&str], Changes, u8); 16] = [
     (&OLD_RECORD, &[(12, ID_9)], 13),
 ];
 
+// The table as a slice: a function that names a table has all of it written out.
+fn records_changed() -> &'static [(&'static [&'static str], Changes, u8)] {
+    RECORDS_CHANGED
+}
+
 #[test]
 fn changes_of_records_are_judged(rt: HostRuntime) {
-    for (row, changes, code) in &RECORDS_CHANGED {
+    for (row, changes, code) in records_changed() {
         let found = judged(&rt, rt.alloc(), RECORD, row, changes);
         assert!(rt; found == *code, "with {changes:?}");
     }

@@ -36,7 +36,7 @@ const ROOT: SegmentRow = ("", (&[Seen::Table(9, 9)], &[], None, None));
 
 /// A writer's segments, a compactor's, what the compactor makes of the writer's (`!` and the prefix, where it is refused), and what the
 /// writer makes of the compactor's.
-const MERGES: [(Segments, Segments, &str, &str); 15] = [
+const MERGES: &[(Segments, Segments, &str, &str)] = &[
     (&[], &[], "", ""),
     (&[A], &[A_TAKEN], "a: / v1 ; ", ""),
     (&[A], &[], "a: 1 / ; ", "a: 1 / ; "),
@@ -78,6 +78,11 @@ const MERGES: [(Segments, Segments, &str, &str); 15] = [
         ": 9 / ; a: 1 / ; b: / 7 ; c: / 1 v6 ; ",
     ),
 ];
+
+/// These merges.
+fn merges() -> &'static [(Segments, Segments, &'static str, &'static str)] {
+    MERGES
+}
 
 /// Segments whose order is tried, and whether they ascend.
 const ORDERS: [(Segments, bool); 6] = [
@@ -154,7 +159,7 @@ fn has_text(rt: &impl Abort, alloc: Global, segments: Vec<Segment>, expected: &s
 
 #[test]
 fn a_compactor_follows_the_writers_prefixes(rt: HostRuntime) {
-    for (writer, compactor, expected, _) in &MERGES {
+    for (writer, compactor, expected, _) in merges() {
         assert!(rt;
             from_writer(&rt, rt.alloc(), writer, compactor, expected),
             "{expected}"
@@ -164,7 +169,7 @@ fn a_compactor_follows_the_writers_prefixes(rt: HostRuntime) {
 
 #[test]
 fn a_writer_keeps_what_holds_tables_on_either_side(rt: HostRuntime) {
-    for (writer, compactor, _, expected) in &MERGES {
+    for (writer, compactor, _, expected) in merges() {
         assert!(rt;
             from_compactor(&rt, rt.alloc(), writer, compactor, expected),
             "{expected}"

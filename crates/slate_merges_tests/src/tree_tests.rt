@@ -9,7 +9,7 @@ use std::process::Abort;
 const THREE: &[Seen] = &[Seen::Table(3, 30), Seen::Table(2, 20), Seen::Table(1, 10)];
 
 /// A writer's tree, a compactor's, and their merge.
-const MERGES: [(TreeRow, TreeRow, &str); 13] = [
+const MERGES: &[(TreeRow, TreeRow, &str)] = &[
     (
         (THREE, &[], None, None),
         (&[], &[7], Some(2), None),
@@ -74,6 +74,11 @@ const MERGES: [(TreeRow, TreeRow, &str); 13] = [
     ),
 ];
 
+// The table as a slice: a function that names a table has all of it written out.
+fn merges() -> &'static [(TreeRow, TreeRow, &'static str)] {
+    MERGES
+}
+
 /// Whether the merge of two trees has this text.
 fn merges_to(
     rt: &impl Abort,
@@ -118,7 +123,7 @@ fn methods_merge_to(
 
 #[test]
 fn a_merge_keeps_the_writers_front_and_the_compactors_runs(rt: HostRuntime) {
-    for (writer, compactor, expected) in &MERGES {
+    for (writer, compactor, expected) in merges() {
         assert!(rt;
             merges_to(&rt, rt.alloc(), writer, compactor, expected),
             "{expected}"
@@ -128,7 +133,7 @@ fn a_merge_keeps_the_writers_front_and_the_compactors_runs(rt: HostRuntime) {
 
 #[test]
 fn both_methods_give_the_merge(rt: HostRuntime) {
-    for (writer, compactor, expected) in &MERGES {
+    for (writer, compactor, expected) in merges() {
         assert!(rt;
             methods_merge_to(&rt, rt.alloc(), writer, compactor, expected),
             "{expected}"

@@ -18,7 +18,7 @@ enum Flushed {
 type Trees = (&'static [Flushed], &'static [Flushed], Option<(u32, u32)>);
 
 /// The tables of a root, those of a segment and the segment's marker, and the greatest id.
-const LATEST: [(Trees, Option<(u32, u32)>); 10] = [
+const LATEST: &[(Trees, Option<(u32, u32)>)] = &[
     ((&[], &[], None), None),
     (
         (&[Flushed::Table(5, 0)], &[Flushed::Table(6, 0)], None),
@@ -61,6 +61,11 @@ const LATEST: [(Trees, Option<(u32, u32)>); 10] = [
     ((&[Flushed::Table(7, 1)], &[], Some((7, 5))), Some((7, 5))),
     ((&[Flushed::Table(7, 6)], &[], Some((7, 5))), Some((7, 6))),
 ];
+
+// The table as a slice: a function that names a table has all of it written out.
+fn latest_rows() -> &'static [(Trees, Option<(u32, u32)>)] {
+    LATEST
+}
 
 /// The id of this moment and tail.
 fn id(parts: (u32, u32)) -> Ulid {
@@ -125,7 +130,7 @@ fn has_latest(rt: &impl Abort, alloc: Global, trees: Trees, latest: Option<(u32,
 
 #[test]
 fn is_the_latest_of_all_trees(rt: HostRuntime) {
-    for (trees, latest) in &LATEST {
+    for (trees, latest) in latest_rows() {
         assert!(rt;
             has_latest(&rt, rt.alloc(), *trees, *latest),
             "where {latest:?} is expected"

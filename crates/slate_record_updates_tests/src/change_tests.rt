@@ -24,7 +24,7 @@ enum Answer {
 const TABLE: &[Made] = &[Made::Table((100, 7)), Made::Table((101, 1))];
 
 /// Changes of the record that has a compaction in each state.
-const TOLD: [(Put, Answer); 28] = [
+const TOLD: &[(Put, Answer)] = &[
     (Put::Epoch(9), Answer::Made),
     (Put::Reset(9), Answer::Made),
     (Put::Schedule(None, 1), Answer::Made),
@@ -55,11 +55,16 @@ const TOLD: [(Put, Answer); 28] = [
     (Put::Submit((100, 8)), Answer::Made),
 ];
 
+// The table as a slice: a function that names a table has all of it written out.
+fn told_rows() -> &'static [(Put, Answer)] {
+    TOLD
+}
+
 /// A compaction: its status, its worker's number below ten and heartbeat, where it has a worker, and how many outputs it has.
 type Shown = (CompactionStatus, Option<(char, u64)>, usize);
 
 /// A change at a moment, and one compaction after it, where it is there.
-const SEEN: [(Put, i64, u8, Option<Shown>); 29] = [
+const SEEN: &[(Put, i64, u8, Option<Shown>)] = &[
     (
         Put::Epoch(9),
         50,
@@ -206,6 +211,11 @@ const SEEN: [(Put, i64, u8, Option<Shown>); 29] = [
     ),
 ];
 
+// The table as a slice: a function that names a table has all of it written out.
+fn seen_rows() -> &'static [(Put, i64, u8, Option<Shown>)] {
+    SEEN
+}
+
 /// The epoch after a change of the record of epoch 2.
 const EPOCHS: [(Put, u64); 5] = [
     (Put::Epoch(9), 9),
@@ -216,7 +226,7 @@ const EPOCHS: [(Put, u64); 5] = [
 ];
 
 /// Why the record of epoch 2 refuses a change: 0 for nothing, 1 where the compactor isn't open, 2 where it is fenced by 2.
-const FENCED: [(Put, u8); 17] = [
+const FENCED: &[(Put, u8)] = &[
     (Put::Epoch(1), 2),
     (Put::Epoch(2), 0),
     (Put::Epoch(3), 0),
@@ -236,8 +246,13 @@ const FENCED: [(Put, u8); 17] = [
     (Put::Submit((100, 8)), 0),
 ];
 
+// The table as a slice: a function that names a table has all of it written out.
+fn fenced_rows() -> &'static [(Put, u8)] {
+    FENCED
+}
+
 /// How many are pending under a change's right, where that is a holder's of the record.
-const RIGHTS: [(Put, Option<usize>); 7] = [
+const RIGHTS: &[(Put, Option<usize>)] = &[
     (Put::Epoch(9), Some(0)),
     (Put::Reset(9), Some(0)),
     (Put::Statuses(Some(9), &[(100, 4), (100, 5)]), Some(2)),
@@ -246,6 +261,11 @@ const RIGHTS: [(Put, Option<usize>); 7] = [
     (Put::Report(3, 7, TABLE), None),
     (Put::Submit((100, 8)), None),
 ];
+
+// The table as a slice: a function that names a table has all of it written out.
+fn rights() -> &'static [(Put, Option<usize>)] {
+    RIGHTS
+}
 
 fn cause_told(cause: StateCause) -> Answer {
     match cause {
@@ -288,7 +308,7 @@ fn told_of(rt: &impl Abort, alloc: Global, put: Put) -> Answer {
 
 #[test]
 fn changes_are_made_or_refused(rt: HostRuntime) {
-    for (row, (put, wanted)) in TOLD.iter().enumerate() {
+    for (row, (put, wanted)) in told_rows().iter().enumerate() {
         assert!(rt; told_of(&rt, rt.alloc(), *put) == *wanted, "at row {row}");
     }
 }
@@ -347,7 +367,7 @@ fn epoch_after(rt: &impl Abort, alloc: Global, put: Put) -> u64 {
 
 #[test]
 fn changes_make_what_they_say(rt: HostRuntime) {
-    for (row, (put, now, tail, wanted)) in SEEN.iter().enumerate() {
+    for (row, (put, now, tail, wanted)) in seen_rows().iter().enumerate() {
         let seen = seen_after(&rt, rt.alloc(), *put, *now, *tail);
         assert!(rt; seen == *wanted, "at row {row}");
     }
@@ -394,7 +414,7 @@ fn fenced_by(rt: &impl Abort, alloc: Global, put: Put) -> u8 {
 
 #[test]
 fn compactors_are_fenced(rt: HostRuntime) {
-    for (row, (put, wanted)) in FENCED.iter().enumerate() {
+    for (row, (put, wanted)) in fenced_rows().iter().enumerate() {
         assert!(rt; fenced_by(&rt, rt.alloc(), *put) == *wanted, "at row {row}");
     }
 }
@@ -418,7 +438,7 @@ fn pending_under(rt: &impl Abort, alloc: Global, put: Put) -> Option<usize> {
 
 #[test]
 fn holders_of_the_record_remove(rt: HostRuntime) {
-    for (row, (put, wanted)) in RIGHTS.iter().enumerate() {
+    for (row, (put, wanted)) in rights().iter().enumerate() {
         assert!(rt;
             pending_under(&rt, rt.alloc(), *put) == *wanted,
             "at row {row}"

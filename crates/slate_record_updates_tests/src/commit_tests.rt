@@ -18,7 +18,7 @@ const OVER: &[Held] = &[
 
 /// A change of the record of epoch 2, and its commit after version 7: 0 where version 8 is put, 98 where nothing is, and else the
 /// number of the refusal.
-const COMMITS: [(&[Held], Put, u8); 19] = [
+const COMMITS: &[(&[Held], Put, u8)] = &[
     (HELD, Put::Epoch(2), 0),
     (HELD, Put::Epoch(3), 0),
     (HELD, Put::Epoch(1), 2),
@@ -43,6 +43,11 @@ const COMMITS: [(&[Held], Put, u8); 19] = [
     (OVER, Put::Statuses(Some(2), &[]), 0),
     (OVER, Put::Statuses(Some(2), &[(100, 4)]), 0),
 ];
+
+// The table as a slice: a function that names a table has all of it written out.
+fn commits() -> &'static [(&'static [Held], Put, u8)] {
+    COMMITS
+}
 
 /// Whether a commit puts version 8.
 fn puts_eight(commit: &Option<CommitPhase<Compactions>>) -> u8 {
@@ -72,7 +77,7 @@ fn committed(rt: &impl Abort, alloc: Global, all: &[Held], put: Put, n: u64) -> 
 
 #[test]
 fn changes_are_committed(rt: HostRuntime) {
-    for (row, (all, put, wanted)) in COMMITS.iter().enumerate() {
+    for (row, (all, put, wanted)) in commits().iter().enumerate() {
         assert!(rt;
             committed(&rt, rt.alloc(), *all, *put, 7) == *wanted,
             "at row {row}"

@@ -43,7 +43,7 @@ const TWO: &[Row] = &[((100, 1), &[]), ((200, 1), &[])];
 const ANY_HOLDER: Under = Under::Holder(&[]);
 
 /// Each rule broken alone, and what just keeps it; then several.
-const CASES: [Case; 33] = [
+const CASES: &[Case] = &[
     // the epoch
     Case {
         old: (2, ONE),
@@ -265,6 +265,11 @@ const CASES: [Case; 33] = [
     },
 ];
 
+/// These cases.
+fn cases() -> &'static [Case] {
+    CASES
+}
+
 fn right(rt: &impl Abort, alloc: Global, under: Under) -> Right {
     match under {
         Under::Plain => Right::Plain,
@@ -307,7 +312,7 @@ fn first_broken(rt: &impl Abort, alloc: Global, case: &Case) -> Broken {
 
 #[test]
 fn the_first_rule_that_is_broken_is_told(rt: HostRuntime) {
-    for (i, case) in CASES.iter().enumerate() {
+    for (i, case) in cases().iter().enumerate() {
         assert!(rt;
             first_broken(&rt, rt.alloc(), case) == case.broken,
             "case {i}"

@@ -5,7 +5,7 @@ use std::alloc::Global;
 use std::process::Abort;
 
 /// Texts, the kind of their path, if they are one, and its number, if it has one.
-const KINDS: [(&str, &str, u64); 20] = [
+const KINDS: &[(&str, &str, u64)] = &[
     ("db/manifest/00000000000000000003.manifest", "manifest", 3),
     (
         "db/compactions/18446744073709551615.compactions",
@@ -35,6 +35,11 @@ const KINDS: [(&str, &str, u64); 20] = [
         0,
     ),
 ];
+
+// The table as a slice: a function that names a table has all of it written out.
+fn kinds() -> &'static [(&'static str, &'static str, u64)] {
+    KINDS
+}
 
 /// The kind of a path and its number, of a table the milliseconds of its id.
 fn kind_of(path: &ObjectPath) -> (&'static str, u64) {
@@ -81,7 +86,7 @@ fn is_read(rt: &impl Abort, alloc: Global, row: (&str, &str, u64)) -> bool {
 
 #[test]
 fn texts_are_paths_of_kinds(rt: HostRuntime) {
-    for row in &KINDS {
+    for row in kinds() {
         assert!(rt; is_read(&rt, rt.alloc(), *row), "at {}", row.0);
     }
 }

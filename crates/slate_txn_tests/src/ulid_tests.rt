@@ -5,7 +5,7 @@ use std::alloc::Global;
 use std::process::Abort;
 
 /// Texts of another length, with letters that no id has, and with a first letter above 7.
-const NO_IDS: [&str; 9] = [
+const NO_IDS: &[&str] = &[
     "",
     "0000000034000000000000000",
     "000000003400000000000000001",
@@ -16,6 +16,11 @@ const NO_IDS: [&str; 9] = [
     "0000000034000000000000000U",
     "80000000340000000000000001",
 ];
+
+// The table as a slice: a function that names a table has all of it written out.
+fn no_ids() -> &'static [&'static str] {
+    NO_IDS
+}
 
 /// Whether an id is written as a text, and read from it.
 fn is_written(rt: &impl Abort, alloc: Global, id: Ulid, text: &str) -> bool {
@@ -36,7 +41,7 @@ fn ids_have_texts(rt: HostRuntime) {
 
 #[test]
 fn other_texts_are_no_ids(rt: HostRuntime) {
-    for text in &NO_IDS {
+    for text in no_ids() {
         assert!(rt; Ulid::from_text(text).is_none(), "at {text}");
     }
 }

@@ -8,7 +8,7 @@ use std::alloc::Global;
 use std::process::Abort;
 
 /// What the current manifest has, what the dirty one has, and the two ticks of the refusal.
-const CUTOFF: [(&[With], &[With], Option<(i64, i64)>); 18] = [
+const CUTOFF: &[(&[With], &[With], Option<(i64, i64)>)] = &[
     (&[Table(100, 0)], &[Table(100, 0), Table(100, 1)], None),
     (
         &[Table(100, 0)],
@@ -65,6 +65,11 @@ const CUTOFF: [(&[With], &[With], Option<(i64, i64)>); 18] = [
     (&[Floor(400)], &[Run(100)], None),
 ];
 
+// The table as a slice: a function that names a table has all of it written out.
+fn cutoff() -> &'static [(&'static [With], &'static [With], Option<(i64, i64)>)] {
+    CUTOFF
+}
+
 /// The ticks of a refusal; (-1, -1) for another refusal.
 fn ticks_in(checked: &Result<(), SlateDBError>) -> Option<(i64, i64)> {
     match checked {
@@ -93,7 +98,7 @@ fn ticks(rt: &impl Abort, alloc: Global, current: &[With], dirty: &[With]) -> Op
 
 #[test]
 fn new_tables_are_from_the_floor_and_the_watermark_on(rt: HostRuntime) {
-    for (row, (current, dirty, refused)) in CUTOFF.iter().enumerate() {
+    for (row, (current, dirty, refused)) in cutoff().iter().enumerate() {
         assert!(rt;
             ticks(&rt, rt.alloc(), current, dirty) == *refused,
             "at row {row}"

@@ -5,7 +5,7 @@ use crate::test_values::{With, broken};
 use slate_log::Right;
 
 /// What the old manifest has, what the new one has, and whether it passes.
-const ENTRIES: [(&[With], &[With], bool); 18] = [
+const ENTRIES: &[(&[With], &[With], bool)] = &[
     (
         &[Entry("src", Some(9), 1, &[5, 6])],
         &[Entry("src", Some(9), 1, &[5, 6])],
@@ -107,9 +107,14 @@ const ENTRIES: [(&[With], &[With], bool); 18] = [
     ),
 ];
 
+// The table as a slice: a function that names a table has all of it written out.
+fn entries() -> &'static [(&'static [With], &'static [With], bool)] {
+    ENTRIES
+}
+
 #[test]
 fn entries_are_kept(rt: HostRuntime) {
-    for (row, (old, new, passes)) in ENTRIES.iter().enumerate() {
+    for (row, (old, new, passes)) in entries().iter().enumerate() {
         let rule = if *passes { 0 } else { 3 };
         let found = broken(&rt, rt.alloc(), &[*old], &[*new], &Right::Plain);
         assert!(rt; found == rule, "at row {row}");

@@ -15,7 +15,7 @@ type Row = (u32, u32, &'static str);
 
 /// What the manifest has, the tables of the flush, and the text of the trees afterwards: of each its prefix, `:`, and the moments of its
 /// L0's tables.
-const FLUSHES: [(&[With], &[Row], &str); 9] = [
+const FLUSHES: &[(&[With], &[Row], &str)] = &[
     (&[], &[], ": "),
     (&[], &[(5, 50, "")], ": 5 "),
     (&[], &[(5, 50, ""), (6, 60, "")], ": 6 5 "),
@@ -38,6 +38,11 @@ const FLUSHES: [(&[With], &[Row], &str); 9] = [
     ),
     (&[With::Log(4)], &[(4, 50, "")], ": 4 w4 "),
 ];
+
+// The table as a slice: a function that names a table has all of it written out.
+fn flushes() -> &'static [(&'static [With], &'static [Row], &'static str)] {
+    FLUSHES
+}
 
 /// The table of a row, with keys from `a` to `b`.
 fn flushed(row: &Row) -> FlushedTable {
@@ -134,7 +139,7 @@ fn has_trees(rt: &impl Abort, alloc: Global, manifest: Manifest, expected: &str)
 
 #[test]
 fn a_flush_puts_new_tables_in_front_of_their_prefixes(rt: HostRuntime) {
-    for (withs, rows, expected) in &FLUSHES {
+    for (withs, rows, expected) in flushes() {
         assert!(rt;
             flushes_to(&rt, rt.alloc(), withs, rows, expected),
             "{expected}"
@@ -176,7 +181,7 @@ enum Told {
 }
 
 /// What version 7 has, the tables of the flush, and what its commit comes to.
-const COMMITS: [(&[With], &[Row], Told); 9] = [
+const COMMITS: &[(&[With], &[Row], Told)] = &[
     (&[], &[(5, 50, ""), (4, 60, "b")], Told::Put),
     (&[With::Replay(3)], &[], Told::Put),
     (&[With::Replay(4)], &[], Told::Lowered),
@@ -207,6 +212,11 @@ const COMMITS: [(&[With], &[Row], Told); 9] = [
         Told::Nested("ab", "a"),
     ),
 ];
+
+// The table as a slice: a function that names a table has all of it written out.
+fn commits() -> &'static [(&'static [With], &'static [Row], Told)] {
+    COMMITS
+}
 
 /// Whether a refusal is this one.
 fn is_refusal(e: &SlateDBError, told: Told) -> bool {
@@ -286,7 +296,7 @@ fn flush_comes_to(
 
 #[test]
 fn the_rules_see_what_a_flush_puts(rt: HostRuntime) {
-    for (row, (withs, rows, told)) in COMMITS.iter().enumerate() {
+    for (row, (withs, rows, told)) in commits().iter().enumerate() {
         assert!(rt;
             flush_comes_to(&rt, rt.alloc(), withs, rows, *told),
             "at row {row}"

@@ -17,7 +17,7 @@ enum Under {
 }
 
 /// The right, what the old manifest has, what the new one has, and whether it passes. A compactor made the table of the moment 500.
-const RUNS: [(Under, &[With], &[With], bool); 12] = [
+const RUNS: &[(Under, &[With], &[With], bool)] = &[
     (Under::Plain, &[Run(5)], &[Run(5), Run(5)], true),
     (Under::Plain, &[Table(5, 0)], &[Run(5)], true),
     (Under::Plain, &[Segment("a", &[5])], &[Run(5)], true),
@@ -36,6 +36,11 @@ const RUNS: [(Under, &[With], &[With], bool); 12] = [
         true,
     ),
 ];
+
+// The table as a slice: a function that names a table has all of it written out.
+fn runs() -> &'static [(Under, &'static [With], &'static [With], bool)] {
+    RUNS
+}
 
 /// A list of the id of the moment 500.
 fn made(rt: &impl Abort, alloc: Global) -> Listed<Ulid> {
@@ -68,7 +73,7 @@ fn broken_under(rt: &impl Abort, alloc: Global, under: Under, old: &[With], new:
 
 #[test]
 fn runs_have_known_tables(rt: HostRuntime) {
-    for (row, (under, old, new, passes)) in RUNS.iter().enumerate() {
+    for (row, (under, old, new, passes)) in runs().iter().enumerate() {
         let rule = if *passes { 0 } else { 5 };
         assert!(rt;
             broken_under(&rt, rt.alloc(), *under, old, new) == rule,
