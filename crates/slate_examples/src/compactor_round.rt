@@ -1,5 +1,4 @@
 //! A compactor's round over a store in memory: two tables of L0 become a sorted run.
-#![tactic(auto)]
 
 use bytes::Bytes;
 use slate_ids::{CheckpointId, DbPath, Listed, Millis, SlateDBError, Ulid};
@@ -125,7 +124,11 @@ fn print(rt: &HostRuntime, view: &CompactorStateView) {
 }
 
 /// The database, the round, and what is read then.
-fn shows(rt: &HostRuntime, store: &mut MemoryStore, db: DbPath) -> Result<(), SlateDBError> {
+pub(crate) fn show_round(
+    rt: &HostRuntime,
+    store: &mut MemoryStore,
+    db: DbPath,
+) -> Result<(), SlateDBError> {
     let alloc = rt.alloc();
     create(alloc, store, db)?;
     opened(alloc, store, db)?;
@@ -133,13 +136,4 @@ fn shows(rt: &HostRuntime, store: &mut MemoryStore, db: DbPath) -> Result<(), Sl
     print(rt, &view);
     drop(view);
     Ok(())
-}
-
-fn main(rt: HostRuntime) {
-    if let Ok(Some(db)) = DbPath::from_text("db") {
-        let mut store = MemoryStore::new(rt.alloc(), Vec::new(rt.alloc()));
-        if let Err(e) = shows(&rt, &mut store, db) {
-            let _ = println!(rt; "refused: {e}");
-        }
-    }
 }

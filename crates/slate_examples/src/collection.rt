@@ -1,5 +1,4 @@
 //! A collector over a store in memory, and its report as a table.
-#![tactic(auto)]
 
 use slate_collector::{GarbageCollector, GarbageCollectorOptions, GcReport};
 use slate_ids::{CheckpointId, DbPath, SlateDBError};
@@ -74,16 +73,12 @@ fn collect(rt: &HostRuntime, store: &mut MemoryStore, db: DbPath) -> Result<(), 
     Ok(())
 }
 
-fn shows(rt: &HostRuntime, store: &mut MemoryStore, db: DbPath) -> Result<(), SlateDBError> {
+/// The database, and its collection.
+pub(crate) fn show_collection(
+    rt: &HostRuntime,
+    store: &mut MemoryStore,
+    db: DbPath,
+) -> Result<(), SlateDBError> {
     use_database(rt.alloc(), store, db)?;
     collect(rt, store, db)
-}
-
-fn main(rt: HostRuntime) {
-    if let Ok(Some(db)) = DbPath::from_text("db") {
-        let mut store = MemoryStore::new(rt.alloc(), Vec::new(rt.alloc()));
-        if let Err(e) = shows(&rt, &mut store, db) {
-            let _ = println!(rt; "refused: {e}");
-        }
-    }
 }

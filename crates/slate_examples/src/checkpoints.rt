@@ -1,5 +1,4 @@
 //! Creates a database in memory, writes a checkpoint, and lists the versions of its manifest.
-#![tactic(auto)]
 
 use slate_ids::{CheckpointId, DbPath, NumberRange, SlateDBError};
 use slate_model::{CheckpointOptions, ManifestCore};
@@ -49,16 +48,12 @@ fn list(rt: &HostRuntime, store: &mut MemoryStore, db: DbPath) -> Result<(), Sla
     Ok(())
 }
 
-fn shows(rt: &HostRuntime, store: &mut MemoryStore, db: DbPath) -> Result<(), SlateDBError> {
+/// Both, over a store in memory.
+pub(crate) fn show_checkpoints(
+    rt: &HostRuntime,
+    store: &mut MemoryStore,
+    db: DbPath,
+) -> Result<(), SlateDBError> {
     create(rt, store, db)?;
     list(rt, store, db)
-}
-
-fn main(rt: HostRuntime) {
-    if let Ok(Some(db)) = DbPath::from_text("db") {
-        let mut store = MemoryStore::new(rt.alloc(), Vec::new(rt.alloc()));
-        if let Err(e) = shows(&rt, &mut store, db) {
-            let _ = println!(rt; "refused: {e}");
-        }
-    }
 }
