@@ -8,47 +8,27 @@ use slate_store::{Mark, MemoryStore, Step};
 use std::alloc::Global;
 use std::process::Abort;
 
-/// Of the store call of this place in a write of the whole state, that has no effect and that loses its answer: the greatest numbers of
-/// the manifest and of the record that stand.
-const STANDS: &[((u64, u64), (u64, u64))] = &[
-    ((2, 7), (2, 7)),
-    ((2, 7), (2, 7)),
-    ((2, 7), (2, 7)),
-    ((2, 7), (3, 7)),
-    ((3, 7), (3, 7)),
-    ((3, 7), (4, 7)),
-    ((4, 7), (4, 7)),
-    ((4, 7), (4, 7)),
-    ((4, 7), (4, 7)),
-    ((4, 7), (4, 7)),
-    ((4, 7), (4, 8)),
-    ((4, 8), (4, 8)),
+/// Of the store call of this place in a write of the whole state: the greatest numbers of the manifest and of the record that stand where it
+/// has no effect, and where it loses its answer; and the number of the manifest that the compactor holds then, and how many compactions are
+/// pending.
+const STANDS: &[((u64, u64), (u64, u64), (u64, usize))] = &[
+    ((2, 7), (2, 7), (2, 1)),
+    ((2, 7), (2, 7), (2, 1)),
+    ((2, 7), (2, 7), (2, 1)),
+    ((2, 7), (3, 7), (2, 1)),
+    ((3, 7), (3, 7), (2, 1)),
+    ((3, 7), (4, 7), (3, 1)),
+    ((4, 7), (4, 7), (3, 1)),
+    ((4, 7), (4, 7), (4, 0)),
+    ((4, 7), (4, 7), (4, 0)),
+    ((4, 7), (4, 7), (4, 0)),
+    ((4, 7), (4, 8), (4, 0)),
+    ((4, 8), (4, 8), (4, 0)),
 ];
 
 // The table as a slice: a function that names a table has all of it written out.
-fn stands_rows() -> &'static [((u64, u64), (u64, u64))] {
+fn stands_rows() -> &'static [((u64, u64), (u64, u64), (u64, usize))] {
     STANDS
-}
-
-/// And what the compactor has then: the number of the manifest that it holds, and how many compactions are pending.
-const HELD: &[(u64, usize)] = &[
-    (2, 1),
-    (2, 1),
-    (2, 1),
-    (2, 1),
-    (2, 1),
-    (3, 1),
-    (3, 1),
-    (4, 0),
-    (4, 0),
-    (4, 0),
-    (4, 0),
-    (4, 0),
-];
-
-// The table as a slice: a function that names a table has all of it written out.
-fn held_rows() -> &'static [(u64, usize)] {
-    HELD
 }
 
 /// The calls before the write of a state: of the first manifest, the open, the submission, the schedule, the claim, the report and the
@@ -75,7 +55,7 @@ fn marked(
 
 #[test]
 fn a_call_without_effect_leaves_what_stood(rt: HostRuntime) {
-    for (place, ((stands, _), held)) in stands_rows().iter().zip(held_rows().iter()).enumerate() {
+    for (place, (stands, _, held)) in stands_rows().iter().enumerate() {
         let left = marked(&rt, rt.alloc(), place, Mark::Fail);
         assert!(rt; left == (20, *stands, *held), "{place}");
     }
@@ -83,7 +63,7 @@ fn a_call_without_effect_leaves_what_stood(rt: HostRuntime) {
 
 #[test]
 fn a_lost_answer_leaves_its_put(rt: HostRuntime) {
-    for (place, ((_, stands), held)) in stands_rows().iter().zip(held_rows().iter()).enumerate() {
+    for (place, (_, stands, held)) in stands_rows().iter().enumerate() {
         let left = marked(&rt, rt.alloc(), place, Mark::Lost);
         assert!(rt; left == (20, *stands, *held), "{place}");
     }
