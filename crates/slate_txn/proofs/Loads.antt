@@ -1,9 +1,8 @@
 -- Running out of memory leaves a load as it was; a load is one that may find none, and refuses none.
 use Rattle.std.specs.Prelude.{◌≡◌, ℕ, ℤ, List, Option, Result, Ok, Err, false, true, refl}
 use Rattle.std.proofs.Common.{inl, inr, ap}
-use Rattle.slate_ids.specs.Answers.{ran_out}
+use Rattle.slate_ids.specs.Answers.{ran_out, is_memory}
 use Rattle.slate_ids.specs.declared.error.SlateDBError.{SlateDBError}
-use Rattle.slate_ids.specs.declared.error.SlateDBError.TheVariants.{OutOfMemory}
 use Rattle.slate_store.specs.Calls.{Told}
 use Rattle.slate_store.specs.Machines.{Held}
 use Rattle.slate_store.specs.declared.step.Step.{Step}
@@ -20,9 +19,9 @@ abbrev reading : {T C R : Type 0} → Sequenced T C → R → ReadPhase T → Tr
 reading sequenced rules read = Reading read sequenced rules
 
 -- running out of memory leaves a load as it was
-pub load_held : {T C R : Type 0} (decoded : C → List ℕ → Result T SlateDBError) (old new : Told) (moment : ℤ) (p q : ReadPhase T) (sequenced : Sequenced T C) (rules : R) → Held old new (read_asks sequenced.db sequenced.log p) moment p q
-    → TryLoadSteps decoded old new moment (Reading p sequenced rules) (Reading q sequenced rules) (Done (Err OutOfMemory))
-load_held decoded old new moment p q sequenced rules held = inr (refl, record { kept = ap (λ (r : ReadPhase _). reading sequenced rules r) held.kept; made = held.made })
+pub load_held : {T C R : Type 0} (decoded : C → List ℕ → Result T SlateDBError) (old new : Told) (moment : ℤ) (p q : ReadPhase T) (sequenced : Sequenced T C) (rules : R) (e : SlateDBError) → is_memory e ≡ true → Held old new (read_asks sequenced.db sequenced.log p) moment p q
+    → TryLoadSteps decoded old new moment (Reading p sequenced rules) (Reading q sequenced rules) (Done (Err e))
+load_held decoded old new moment p q sequenced rules e out held = inr (out, record { kept = ap (λ (r : ReadPhase _). reading sequenced rules r) held.kept; made = held.made })
 
 found_out : {X : Type 0} (reply : Result (Option X) SlateDBError) → ran_out reply ≡ true → ran_out (found reply) ≡ true
 found_out (Ok x) out = absurd (let both : false ≡ true = out in cc)

@@ -167,16 +167,22 @@ impl<T: Drop, C: Drop, R: Drop> CreateMachine<T, C, R> {
                         ));
                         Step::Again
                     }
-                    Step::Done(Err(SlateDBError::OutOfMemory)) => {
-                        drop(mem::replace(
-                            self,
-                            CreateMachine::Committing(commit, sequenced, rules),
-                        ));
-                        Step::Done(Err(SlateDBError::OutOfMemory))
+                    Step::Done(Err(e)) => {
+                        if e.is_memory() {
+                            drop(mem::replace(
+                                self,
+                                CreateMachine::Committing(commit, sequenced, rules),
+                            ));
+                        } else {
+                            drop(commit);
+                            drop(sequenced);
+                            drop(rules);
+                        }
+                        Step::Done(Err(e))
                     }
-                    Step::Done(reply) => {
+                    Step::Done(Ok(version)) => {
                         drop(commit);
-                        Step::Done(hold(sequenced, rules, reply))
+                        Step::Done(hold(sequenced, rules, Ok(version)))
                     }
                 }
             }

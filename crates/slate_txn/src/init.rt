@@ -182,14 +182,27 @@ impl<T: Drop, C: ObjectCodec<T> + Drop, R: Rules<T> + Drop, E: Epochs<T> + Drop>
                 let step = commit.next(alloc, &stored.sequenced, store, moment);
                 match step {
                     Step::Again => {
-                        *self = InitMachine::Committing(commit, stored, epochs);
+                        drop(mem::replace(self, InitMachine::Committing(commit, stored, epochs)));
                         Step::Again
                     }
-                    Step::Done(Err(SlateDBError::OutOfMemory)) => {
-                        *self = InitMachine::Committing(commit, stored, epochs);
-                        Step::Done(Err(SlateDBError::OutOfMemory))
+                    Step::Done(Err(e)) => {
+                        if e.is_memory() {
+                            drop(mem::replace(
+                                self,
+                                InitMachine::Committing(commit, stored, epochs),
+                            ));
+                            Step::Done(Err(e))
+                        } else {
+                            drop(commit);
+                            drop(stored);
+                            drop(epochs);
+                            Step::Done(Err(e))
+                        }
                     }
-                    Step::Done(reply) => Step::Done(fence(stored, epochs, reply)),
+                    Step::Done(Ok(version)) => {
+                        drop(commit);
+                        Step::Done(fence(stored, epochs, Ok(version)))
+                    }
                 }
             }
         }

@@ -167,13 +167,23 @@ impl<T: Drop, C: ObjectCodec<T> + Drop, R: Rules<T> + Drop> TryLoadMachine<T, C,
                         drop(mem::replace(self, TryLoadMachine::Reading(read, sequenced, rules)));
                         Step::Again
                     }
-                    Step::Done(Err(SlateDBError::OutOfMemory)) => {
-                        *self = TryLoadMachine::Reading(read, sequenced, rules);
-                        Step::Done(Err(SlateDBError::OutOfMemory))
+                    Step::Done(Err(e)) => {
+                        if e.is_memory() {
+                            drop(mem::replace(
+                                self,
+                                TryLoadMachine::Reading(read, sequenced, rules),
+                            ));
+                            Step::Done(Err(e))
+                        } else {
+                            drop(read);
+                            drop(sequenced);
+                            drop(rules);
+                            Step::Done(Err(e))
+                        }
                     }
-                    Step::Done(reply) => {
+                    Step::Done(Ok(version)) => {
                         drop(read);
-                        Step::Done(hold(sequenced, rules, reply))
+                        Step::Done(hold(sequenced, rules, Ok(version)))
                     }
                 }
             }
