@@ -32,7 +32,18 @@ fn keep(trail: &mut Vec<Entry>, entry: Entry)
     requires { vec_len trail.old < vec_capacity trail.old }
     ensures { trail.new.items ≡ trail.old.items ++ entry ∷ [] }
 {
-    let _ = trail.push(entry);
+    if let Err(e) = trail.push(entry) {
+        drop(e);
+    }
+}
+
+// Adds a copy of an entry.
+fn push_copy(alloc: Global, copied: &mut Vec<Entry>, entry: &Entry) -> Result<(), OutOfMemory>
+    ensures { IfOk result (λ o. copied.new.items ≡ copied.old.items ++ entry.now ∷ []) }
+{
+    copied.reserve(1)?;
+    keep(copied, entry.copy(alloc)?);
+    Ok(())
 }
 
 // Equal entries.
@@ -41,7 +52,10 @@ fn copy_entries(alloc: Global, entries: &[Entry]) -> Result<Vec<Entry>, OutOfMem
 {
     let mut copied = Vec::new(alloc);
     for entry in entries {
-        copied.push(entry.copy(alloc)?)?;
+        if let Err(e) = push_copy(alloc, &mut copied, entry) {
+            drop(copied);
+            return Err(e);
+        }
     }
     Ok(copied)
 }

@@ -107,11 +107,17 @@ impl ClusterState {
     {
         match (self.parties.get(&number), self.tallies.get(&db)) {
             (None, Some(_)) => {
-                let before = self
-                    .parties
-                    .insert(number, newcomer(alloc, number, kind, db))?;
-                drop(before);
-                Ok(Some(Entry::Opened { party: number }))
+                let comes = newcomer(alloc, number, kind, db);
+                match self.parties.insert(number, comes) {
+                    Ok(before) => {
+                        drop(before);
+                        Ok(Some(Entry::Opened { party: number }))
+                    }
+                    Err(e) => {
+                        drop(e);
+                        Err(OutOfMemory)
+                    }
+                }
             }
             _ => Ok(None),
         }

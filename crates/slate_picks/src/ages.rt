@@ -2,6 +2,7 @@
 ghost use Rattle.std.specs.Prelude.{◌≡◌, IfOk};
 ghost use Rattle.slate_picks.specs.Ages as ages;
 
+use crate::keeping::push_if;
 use slate_ids::{Listed, Millis, OutOfMemory};
 use slate_store::ObjectMetadata;
 use std::alloc::Global;
@@ -25,8 +26,10 @@ pub fn aged(
 {
     let mut listed = Listed::new(alloc);
     for object in found {
-        if is_aged(min_age, now, object.last_modified) {
-            listed.push(object.copy(alloc)?)?;
+        let keeps = is_aged(min_age, now, object.last_modified);
+        if let Err(e) = push_if(alloc, keeps, &mut listed, object) {
+            drop(listed);
+            return Err(e);
         }
     }
     Ok(listed)
