@@ -28,7 +28,8 @@ use Rattle.slate_passes.specs.Pass as passes
 use Rattle.slate_passes.specs.Pass.{PassGoes, first_phase, pass_goes}
 use Rattle.slate_passes.specs.Ways.{Ways}
 use Rattle.slate_passes.specs.declared.gc_phase.GcPhase.{GcPhase}
-use Rattle.slate_passes.specs.declared.gc_phase.GcPhase.TheVariants.{Reading, Committing, Collecting}
+use Rattle.slate_changes.specs.declared.log_work.LogWork.TheVariants.{Reading, Committing}
+use Rattle.slate_passes.specs.declared.gc_phase.GcPhase.TheVariants.{Removing, Collecting}
 use Rattle.slate_passes.specs.declared.heads.Heads.{Heads}
 use Rattle.slate_passes.specs.declared.pass_counts.PassCounts.{PassCounts}
 use Rattle.slate_passes.specs.declared.pass_phase.PassPhase.{PassPhase}
@@ -60,8 +61,7 @@ failed_within (Deleting left counts) = counts.failed
 failed_within Over = 0
 
 abbrev failed_at : GcPhase → ℕ
-failed_at (Reading phase) = 0
-failed_at (Committing now phase) = 0
+failed_at (Removing work) = 0
 failed_at (Collecting at phase) = failed_within phase
 
 abbrev failed_of : Result PassCounts SlateDBError → ℕ
@@ -214,15 +214,15 @@ first_zero named.Compacted = refl
 first_zero named.Compactions = refl
 first_zero named.Detach = refl
 
-removal_zero : (pass : GcMessage) (now : ℤ) (start : Result (Option (CommitPhase Manifest)) SlateDBError) → gc_tells (removal_goes pass now start) ≡ 0
-removal_zero pass now (Ok None) = first_zero pass
-removal_zero pass now (Ok (Some commit)) = refl
-removal_zero pass now (Err e) = refl
+removal_zero : (pass : GcMessage) (now : ℤ) (n : ℕ) (m : Manifest) (start : Result (Option (CommitPhase Manifest)) SlateDBError) → gc_tells (removal_goes pass now n m start) ≡ 0
+removal_zero pass now n m (Ok None) = first_zero pass
+removal_zero pass now n m (Ok (Some commit)) = refl
+removal_zero pass now n m (Err e) = refl
 
 read_zero : (bytes_of : Manifest → Result (List ℕ) SlateDBError) (pass : GcMessage) (now : ℤ) (out : Reply Manifest) → gc_tells (read_on bytes_of pass now out) ≡ 0
 read_zero bytes_of pass now (Stay phase) = refl
 read_zero bytes_of pass now (End phase (Ok None)) = refl
-read_zero bytes_of pass now (End phase (Ok (Some version))) = removal_zero pass now _
+read_zero bytes_of pass now (End phase (Ok (Some version))) = removal_zero pass now version.0 version.1 _
 read_zero bytes_of pass now (End phase (Err e)) = refl
 
 commit_zero : (pass : GcMessage) (now : ℤ) (out : CommitGoes Manifest) → gc_tells (commit_on pass now out) ≡ 0
@@ -231,8 +231,8 @@ commit_zero pass now (End phase (Ok version)) = first_zero pass
 commit_zero pass now (End phase (Err e)) = refl
 
 gc_step : (ways : Ways) (settings : PassSettings) (moment : ℤ) (phase : GcPhase) (answer : StoreAnswer) → gc_tells (gc_goes ways settings moment phase answer) ≤ failed_at phase + one_of answer
-gc_step ways settings moment (Reading phase) answer = from_zero (read_zero ways.bytes_of settings.pass moment (read_goes logs.Manifest ways.manifest_of phase answer))
-gc_step ways settings moment (Committing made phase) answer = from_zero (commit_zero settings.pass made (commit_goes phase answer))
+gc_step ways settings moment (Removing (Reading phase)) answer = from_zero (read_zero ways.bytes_of settings.pass moment (read_goes logs.Manifest ways.manifest_of phase answer))
+gc_step ways settings moment (Removing (Committing made phase)) answer = from_zero (commit_zero settings.pass made (commit_goes phase answer))
 gc_step ways settings moment (Collecting at phase) answer =
     let now = moment_of_pass at moment in
     let same = collect_tells at now (pass_goes ways settings now phase answer) in

@@ -33,7 +33,8 @@ use Rattle.slate_passes.specs.Pass as passes
 use Rattle.slate_passes.specs.Pass.{PassGoes, first_phase, pass_goes}
 use Rattle.slate_passes.specs.Ways.{Ways}
 use Rattle.slate_passes.specs.declared.gc_phase.GcPhase.{GcPhase}
-use Rattle.slate_passes.specs.declared.gc_phase.GcPhase.TheVariants.{Reading, Committing, Collecting}
+use Rattle.slate_changes.specs.declared.log_work.LogWork.TheVariants.{Reading, Committing}
+use Rattle.slate_passes.specs.declared.gc_phase.GcPhase.TheVariants.{Removing, Collecting}
 use Rattle.slate_passes.specs.declared.pass_counts.PassCounts.{PassCounts}
 use Rattle.slate_passes.specs.declared.pass_phase.PassPhase.{PassPhase}
 use Rattle.slate_passes.specs.declared.pass_phase.PassPhase.TheVariants.{ReadingRecord, ReadingManifest, Fetching, Listing, Getting, Bounding, Advancing, Deleting, Over}
@@ -221,8 +222,8 @@ rank_within Over = 0
 
 -- the same of a whole pass
 abbrev pub steps_left : GcPhase → ℕ
-steps_left (Reading phase) = rank phase
-steps_left (Committing now phase) = commit_rank phase
+steps_left (Removing (Reading phase)) = rank phase
+steps_left (Removing (Committing now phase)) = commit_rank phase
 steps_left (Collecting at phase) = rank_within phase
 
 -- fewer stages are left, or fewer steps of the stage
@@ -240,7 +241,7 @@ MovesOn old new = (at later : Option ℤ) → Moves (Collecting at old) (Collect
 stage_on : (old new : PassPhase) → stages_within new < stages_within old → MovesOn old new
 stage_on old new less = λ at later. inr (inl less)
 
-first_on : (pass : GcMessage) (phase : CommitPhase Manifest) (now : ℤ) → Moves (Committing now phase) (Collecting None (first_phase pass))
+first_on : (pass : GcMessage) (phase : CommitPhase Manifest) (now : ℤ) → Moves (Removing (Committing now phase)) (Collecting None (first_phase pass))
 first_on named.Manifest phase now = inr (inl (omega arith))
 first_on named.Wal phase now = inr (inl (omega arith))
 first_on named.WalFence phase now = inr (inl (omega arith))
@@ -248,7 +249,7 @@ first_on named.Compacted phase now = inr (inl (omega arith))
 first_on named.Compactions phase now = inr (inl (omega arith))
 first_on named.Detach phase now = inr (inl (omega arith))
 
-first_after_read : (pass : GcMessage) (phase : ReadPhase Manifest) → Moves (Reading phase) (Collecting None (first_phase pass))
+first_after_read : (pass : GcMessage) (phase : ReadPhase Manifest) → Moves (Removing (Reading phase)) (Collecting None (first_phase pass))
 first_after_read named.Manifest phase = inr (inl (omega arith))
 first_after_read named.Wal phase = inr (inl (omega arith))
 first_after_read named.WalFence phase = inr (inl (omega arith))
@@ -258,22 +259,22 @@ first_after_read named.Detach phase = inr (inl (omega arith))
 
 -- ---- the removal
 
-reading_on : (old new : ReadPhase Manifest) → Down old new → Moves (Reading old) (Reading new)
+reading_on : (old new : ReadPhase Manifest) → Down old new → Moves (Removing (Reading old)) (Removing (Reading new))
 reading_on old new (inl starts) = inl starts
 reading_on old new (inr falls) = inr (inr (refl, falls))
 
-removal_moves : (pass : GcMessage) (now : ℤ) (old : ReadPhase Manifest) (start : Result (Option (CommitPhase Manifest)) SlateDBError) → IfStay (Moves (Reading old)) (removal_goes pass now start)
-removal_moves pass now old (Ok None) = first_after_read pass old
-removal_moves pass now old (Ok (Some commit)) = inr (inl (omega arith))
-removal_moves pass now old (Err e) = tt
+removal_moves : (pass : GcMessage) (now : ℤ) (old : ReadPhase Manifest) (n : ℕ) (m : Manifest) (start : Result (Option (CommitPhase Manifest)) SlateDBError) → IfStay (Moves (Removing (Reading old))) (removal_goes pass now n m start)
+removal_moves pass now old n m (Ok None) = first_after_read pass old
+removal_moves pass now old n m (Ok (Some commit)) = inr (inl (omega arith))
+removal_moves pass now old n m (Err e) = tt
 
-read_moves : (bytes_of : Manifest → Result (List ℕ) SlateDBError) (pass : GcMessage) (now : ℤ) (old : ReadPhase Manifest) (out : Reply Manifest) → IfStay (Down old) out → IfStay (Moves (Reading old)) (read_on bytes_of pass now out)
+read_moves : (bytes_of : Manifest → Result (List ℕ) SlateDBError) (pass : GcMessage) (now : ℤ) (old : ReadPhase Manifest) (out : Reply Manifest) → IfStay (Down old) out → IfStay (Moves (Removing (Reading old))) (read_on bytes_of pass now out)
 read_moves bytes_of pass now old (Stay phase) down = reading_on old phase down
 read_moves bytes_of pass now old (End phase (Ok None)) down = tt
-read_moves bytes_of pass now old (End phase (Ok (Some version))) down = removal_moves pass now old (commit_of bytes_of DropExpired now version.0 version.1)
+read_moves bytes_of pass now old (End phase (Ok (Some version))) down = removal_moves pass now old version.0 version.1 (commit_of bytes_of DropExpired now version.0 version.1)
 read_moves bytes_of pass now old (End phase (Err e)) down = tt
 
-commit_moves : (pass : GcMessage) (now : ℤ) (old : CommitPhase Manifest) (out : CommitGoes Manifest) → IfStay (CommitDown old) out → IfStay (Moves (Committing now old)) (commit_on pass now out)
+commit_moves : (pass : GcMessage) (now : ℤ) (old : CommitPhase Manifest) (out : CommitGoes Manifest) → IfStay (CommitDown old) out → IfStay (Moves (Removing (Committing now old))) (commit_on pass now out)
 commit_moves pass now old (Stay phase) down = inr (inr (refl, down))
 commit_moves pass now old (End phase (Ok version)) down = first_on pass old now
 commit_moves pass now old (End phase (Err e)) down = tt
@@ -412,8 +413,8 @@ collect_moves at now old (Stay phase) moves = moves at (Some now)
 collect_moves at now old (End phase r) moves = tt
 
 gc_moves : (ways : Ways) (settings : PassSettings) (moment : ℤ) (phase : GcPhase) (answer : StoreAnswer) → IfStay (Moves phase) (gc_goes ways settings moment phase answer)
-gc_moves ways settings moment (Reading phase) answer = read_moves ways.bytes_of settings.pass moment phase _ (read_down logs.Manifest ways.manifest_of phase answer)
-gc_moves ways settings moment (Committing made phase) answer = commit_moves settings.pass made phase _ (commit_down phase answer)
+gc_moves ways settings moment (Removing (Reading phase)) answer = read_moves ways.bytes_of settings.pass moment phase _ (read_down logs.Manifest ways.manifest_of phase answer)
+gc_moves ways settings moment (Removing (Committing made phase)) answer = commit_moves settings.pass made phase _ (commit_down phase answer)
 gc_moves ways settings moment (Collecting at phase) answer = collect_moves at (moment_of_pass at moment) phase _ (pass_moves ways settings (moment_of_pass at moment) phase answer)
 
 -- ---- the plain call

@@ -9,7 +9,9 @@ use Rattle.slate_log.specs.ReadPhase.{is_listing}
 use Rattle.slate_passes.specs.GcPhase.{GcGoes, gc_asks, gc_goes, gc_start}
 use Rattle.slate_passes.specs.Ways.{Ways}
 use Rattle.slate_passes.specs.declared.gc_phase.GcPhase.{GcPhase}
-use Rattle.slate_passes.specs.declared.gc_phase.GcPhase.TheVariants.{Reading, Committing, Collecting}
+use Rattle.slate_changes.specs.LogWorks.{work_starts}
+use Rattle.slate_changes.specs.declared.log_work.LogWork.TheVariants.{Reading, Committing}
+use Rattle.slate_passes.specs.declared.gc_phase.GcPhase.TheVariants.{Removing, Collecting}
 use Rattle.slate_passes.specs.declared.pass_counts.PassCounts.{PassCounts}
 use Rattle.slate_passes.specs.declared.pass_phase.PassPhase.{PassPhase}
 use Rattle.slate_passes.specs.declared.pass_phase.PassPhase.TheVariants.{ReadingRecord, ReadingManifest, Fetching, Listing, Getting, Bounding, Advancing, Deleting, Over}
@@ -36,8 +38,8 @@ stages_within Over = 0
 
 -- the same of a whole pass
 abbrev pub stages_left : GcPhase → ℕ
-stages_left (Reading phase) = 10
-stages_left (Committing now phase) = 9
+stages_left (Removing (Reading phase)) = 10
+stages_left (Removing (Committing now phase)) = 9
 stages_left (Collecting at phase) = stages_within phase
 
 -- whether a stage that may start again is at its start: a read of the latest version, or the advance of the boundary
@@ -54,8 +56,7 @@ begins_within Over = false
 
 -- the same of a whole pass
 abbrev pub begins_stage : GcPhase → Bool
-begins_stage (Reading phase) = is_listing phase
-begins_stage (Committing now phase) = false
+begins_stage (Removing work) = work_starts work
 begins_stage (Collecting at phase) = begins_within phase
 
 -- whether a pass that had so many stages left starts a stage again
@@ -118,8 +119,7 @@ deleted_within Over = 0
 
 -- the same of a whole pass
 abbrev pub deleted_at : GcPhase → ℕ
-deleted_at (Reading phase) = 0
-deleted_at (Committing now phase) = 0
+deleted_at (Removing work) = 0
 deleted_at (Collecting at phase) = deleted_within phase
 
 -- how many it deleted where it ends: its counts say so; where memory ran out it stands at its deletes, and any other refusal comes before the first

@@ -11,6 +11,7 @@ ghost use Rattle.slate_picks.specs.WalPicks.{wal_candidates};
 ghost use Rattle.slate_store.specs.Machines.{IsAgain, Steps};
 
 use crate::gc_pass::GcPass;
+use slate_changes::LogWork;
 use slate_ids::{DbPath, Millis, SlateDBError};
 use slate_passes::{GcPhase, PassCounts, PassPhase, PassSettings};
 use slate_picks::{GcFilter, WalGc};
@@ -47,8 +48,8 @@ fn stages_of(phase: &GcPhase) -> u8
     ensures { result ≡ stages_left phase.now }
 {
     match phase {
-        GcPhase::Reading(_) => 10,
-        GcPhase::Committing(_, _) => 9,
+        GcPhase::Removing(LogWork::Reading(_)) => 10,
+        GcPhase::Removing(LogWork::Committing(_, _)) => 9,
         GcPhase::Collecting(_, phase) => stages_within(phase),
     }
 }
@@ -70,8 +71,7 @@ fn begins_stage(phase: &GcPhase) -> bool
     ensures { result ≡ turns.begins_stage phase.now }
 {
     match phase {
-        GcPhase::Reading(read) => read.is_listing(),
-        GcPhase::Committing(_, _) => false,
+        GcPhase::Removing(work) => work.is_start(),
         GcPhase::Collecting(_, phase) => begins_within(phase),
     }
 }

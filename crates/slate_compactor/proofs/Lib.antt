@@ -1,4 +1,3 @@
 mod Sets
 mod Placing
-mod Trees
 mod Ends

@@ -1,5 +1,4 @@
 pub mod Sources
 pub mod Finishing
-pub mod Trees
 pub mod Local
 pub mod EndLaws

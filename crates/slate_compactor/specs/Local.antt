@@ -16,7 +16,7 @@ use Rattle.slate_tables.specs.declared.ss_table_id.SsTableId.{SsTableId}
 use Rattle.slate_tables.specs.declared.ss_table_id.SsTableId.TheVariants.{Wal, Compacted}
 use Rattle.slate_record_updates.specs.EntrySteps.{with_local_statuses, with_entry, with_status, no_such}
 use Rattle.slate_compactor.specs.Finishing.{finished_tree}
-use Rattle.slate_compactor.specs.Trees.{Trees, trees_of, tree_of, with_tree, trees_merged}
+use Rattle.slate_merges.specs.Trees.{Trees, trees_of, tree_of, with_tree, trees_merged}
 use Rattle.slate_compactor.specs.declared.local_state.LocalState.{LocalState}
 
 -- ---- calls

@@ -4,9 +4,7 @@
 mod finishing;
 mod laws;
 mod local_state;
-mod local_trees;
 mod taken;
 
 pub use laws::ends_keep_order;
 pub use local_state::LocalState;
-pub use local_trees::LocalTrees;

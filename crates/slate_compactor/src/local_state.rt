@@ -6,8 +6,8 @@ ghost use Rattle.slate_ids.specs.Answers.{Gives, is_memory};
 ghost use Rattle.slate_records.specs.Retaining.{has_id};
 
 use crate::finishing::finished_tree;
-use crate::local_trees::LocalTrees;
 use slate_ids::{Listed, OutOfMemory, SlateDBError, StateCause, Ulid};
+use slate_merges::LocalTrees;
 use slate_model::{
     Compaction, CompactionStatus, Compactions, LsmTreeState, ManifestCore, Plain, SsTableHandle,
     SsTableId,

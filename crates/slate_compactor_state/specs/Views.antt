@@ -7,7 +7,7 @@ use Rattle.slate_both_reads.specs.BothReads.{BothBegan, BothRan, both_goes}
 use Rattle.slate_both_reads.specs.declared.both_phase.Both.{Both}
 use Rattle.slate_both_reads.specs.declared.both_phase.BothPhase.{BothPhase}
 use Rattle.slate_compactions_store.specs.CompactionsStore as records
-use Rattle.slate_compactor.specs.Trees.{manifest_with}
+use Rattle.slate_merges.specs.Trees.{manifest_with}
 use Rattle.slate_compactor_writer.specs.Writer.{Writer}
 use Rattle.slate_layout.specs.declared.codec.ManifestCodec.{ManifestCodec}
 use Rattle.slate_layout.specs.declared.record_codec.CompactionsCodec.{CompactionsCodec}
@@ -58,6 +58,6 @@ view_goes logs phase answer = goes_as viewed (both_goes records.compactions_deco
 -- what a compactor has: its local record under the number of the record held, and the manifest held with its local trees
 abbrev pub of_state : Writer → View
 of_state w = record {
-  compactions = Some (records.version_of (w.record_id, w.local.compactions));
-  manifest = manifests.version_of (w.manifest_id, manifest_with w.local.trees w.manifest);
+  compactions = Some (records.version_of (w.compactor.record_id, w.compactor.local.compactions));
+  manifest = manifests.version_of (w.compactor.manifest_id, manifest_with w.compactor.local.trees w.compactor.manifest);
 }

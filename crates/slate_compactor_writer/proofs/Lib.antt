@@ -1,10 +1,5 @@
-mod CommitEnds
-mod ReadEnds
-mod Ranks
 mod Measures
-mod Retries
 mod Owns
-mod Sound
 mod PutFaults
 mod OpenFaults
 mod StateFaults

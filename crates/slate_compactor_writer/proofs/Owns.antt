@@ -1,7 +1,6 @@
 -- The database and the epoch stay along a call.
 use Rattle.std.proofs.Common.{◌∙◌}
-use Rattle.slate_compactor_writer.specs.StateCalls.{KeepsOwn}
-use Rattle.slate_compactor_writer.specs.Writer.{Writer}
+use Rattle.slate_compactor_writer.specs.Writer.{KeepsOwn, Writer}
 
 -- over two steps, too
 pub keeps_on : {from mid to : Writer} → KeepsOwn from mid → KeepsOwn mid to → KeepsOwn from to

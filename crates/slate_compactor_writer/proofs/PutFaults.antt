@@ -1,188 +1,119 @@
 -- What a commit of a compactor is refused for: what it puts, or a fence, and never a fault of the store.
-use Rattle.std.specs.Prelude.{◌≡◌, ◌≢◌, ◌+◌, ◌==◌, nat_lt, ℕ, ℤ, pos, Bool, true, false, List, map, Option, Some, None, Result, Ok, Err, if◌then◌else◌, refl}
+use Rattle.std.specs.Prelude.{◌≡◌, ◌≢◌, ◌+◌, ◌==◌, nat_lt, ℕ, ℤ, Bool, true, false, List, Option, Some, None, Result, Ok, Err, if◌then◌else◌, refl}
 use Rattle.std.proofs.Common.{ap}
-use Rattle.std.specs.List.{find}
-use Rattle.slate_compactor.specs.Local.{refreshed, with_trees}
-use Rattle.slate_compactor.specs.Trees.{manifest_merged, trees_merged, with_merged, with_segments, Trees}
-use Rattle.slate_compactor.specs.declared.local_state.LocalState.{LocalState}
-use Rattle.slate_compactor_changes.specs.CompactorChanges.{made, right_of, fence_of, checkpoint_options, some_merged}
-use Rattle.slate_compactor_changes.specs.declared.compactor_change.CompactorChange.{CompactorChange}
-use Rattle.slate_compactor_changes.specs.declared.compactor_change.CompactorChange.TheVariants.{Raise, KeepTrees, MergeTrees}
-use Rattle.slate_compactor_writer.specs.Puts.{sure, unfenced_put, change_put, raise_put, merge_of, trees_put, first_put, unfenced_record_put, record_change_put}
-use Rattle.slate_compactor_writer.specs.Retrying.{leads}
-use Rattle.slate_compactions_store.specs.CompactionsStore.{compactions_decoded, compactions_encoded}
+use Rattle.slate_changes.proofs.WorkFaults.{MayPut}
+use Rattle.slate_changes.specs.Changes.{change_commit, holder_fence}
 use Rattle.slate_compactions.specs.Holding.{record_rules}
-use Rattle.slate_encodable.specs.Normal.{normal_manifest}
+use Rattle.slate_compactions_store.specs.CompactionsStore.{compactions_decoded, compactions_encoded}
+use Rattle.slate_compactor.specs.Local.{refreshed, with_trees}
+use Rattle.slate_compactor.specs.declared.local_state.LocalState.{LocalState}
+use Rattle.slate_changes.specs.LogWorks.{work_due}
+use Rattle.slate_changes.specs.declared.changing.Changing.{Changing}
+use Rattle.slate_compactor_calls.specs.Commits.{begun, first_of, first_put, manifest_put, manifest_put_of, put_of, record_put}
 use Rattle.slate_ids.specs.Limits.{last_number}
 use Rattle.slate_ids.specs.declared.error.SlateDBError.{SlateDBError}
 use Rattle.slate_ids.specs.declared.error.SlateDBError.TheVariants.{Exhausted, Fenced, StoreFault}
 use Rattle.slate_layout.specs.Codec.{encoded}
 use Rattle.slate_layout.specs.RecordCodec.{record_encoded}
 use Rattle.slate_log.specs.Change.{some_commit, wanted}
-use Rattle.slate_log.specs.CommitPhase.{prepared, checked_commit, encoded_commit, commit_due}
+use Rattle.slate_log.specs.CommitPhase.{checked_commit, encoded_commit, prepared}
 use Rattle.slate_log.specs.Fence.{fence, unless}
 use Rattle.slate_log.specs.declared.commit_phase.CommitPhase.{CommitPhase}
 use Rattle.slate_log.specs.declared.right.Right.{Right}
-use Rattle.slate_manifests.proofs.ChangeFaults.{change_fine, manifests_plain, raise_fine}
-use Rattle.slate_merges.specs.Merging.{merged}
-use Rattle.slate_merges.specs.SegmentMerging.{from_writer, is_orphan, merged_with, unless_orphan}
+use Rattle.slate_manifests.proofs.ChangeFaults.{change_fine, manifests_plain, trees_fine}
+use Rattle.slate_merges.specs.Trees.{Trees, trees_merged}
 use Rattle.slate_model.specs.Cores.{Core}
-use Rattle.slate_model.specs.Segments.{Prefixed}
-use Rattle.slate_model.specs.declared.lsm_tree_state.LsmTreeState.{LsmTreeState}
 use Rattle.slate_model.specs.declared.manifest.Manifest.{Manifest}
-use Rattle.slate_record_bytes.specs.RecordNormal.{normal_record}
-use Rattle.slate_record_updates.specs.EntrySteps.{put_in, found_stepped, to_scheduled, to_running, to_compacted}
-use Rattle.slate_record_updates.specs.RecordChanges.{made as record_made, right_of as record_right_of, fence_of as record_fence_of, compactor_fence}
+use Rattle.slate_record_updates.specs.EntrySteps.{found_stepped, put_in, to_compacted, to_running, to_scheduled}
+use Rattle.slate_record_updates.specs.RecordChanges as records
 use Rattle.slate_record_updates.specs.RecordEpochs.{first_record}
 use Rattle.slate_record_updates.specs.RecordRules.{record_refusal_of}
 use Rattle.slate_record_updates.specs.declared.record_change.RecordChange.{RecordChange}
-use Rattle.slate_record_updates.specs.declared.record_change.RecordChange.TheVariants.{GiveEpoch, Reset, Schedule, Claim, Report, PutStatuses, Submit}
+use Rattle.slate_record_updates.specs.declared.record_change.RecordChange.TheVariants.{GiveEpoch, Reset, Schedule, Claim, Report, PutStatuses}
 use Rattle.slate_records.specs.Records.{Record, entry_of}
 use Rattle.slate_records.specs.declared.compaction.Compaction.{Compaction}
-use Rattle.slate_replies.specs.Plain.{is_plain, answers_plainly, refuses_plainly, Plainly, PlainLog}
+use Rattle.slate_replies.proofs.PlainCommits.{apart as stays_apart}
+use Rattle.slate_replies.specs.Plain.{PlainLog, Plainly, is_plain, refuses_plainly}
+use Rattle.slate_updates.specs.Changes as manifests
 use Rattle.slate_updates.specs.Rules.{manifest_refusal}
-use Rattle.slate_updates.specs.declared.epochs.ManifestEpochs.TheVariants as epochs
-use Rattle.slate_updates.specs.declared.manifest_change.ManifestChange.TheVariants.{WriteCheckpoint}
+use Rattle.slate_updates.specs.declared.manifest_change.ManifestChange.{ManifestChange}
+use Rattle.slate_updates.specs.declared.manifest_change.ManifestChange.TheVariants.{Flush, KeepTrees, MergeTrees}
 
 -- what is said of the codec of records and of the rules on them
 abbrev pub RecordsPlain : Type 0
 RecordsPlain = PlainLog compactions_decoded compactions_encoded record_rules
 
--- what it leads to is due, or it is refused otherwise than by a fault
-abbrev pub Fits : {X : Type 0} → (X → Bool) → Result X SlateDBError → Type 0
-Fits due (Ok x) = due x ≡ true
-Fits due (Err e) = e ≢ StoreFault
-
--- the same of a commit
-abbrev pub Puts : {T : Type 0} → Result (CommitPhase T) SlateDBError → Type 0
-Puts commit = Fits commit_due commit
-
--- and of a commit where there may be none
-abbrev pub maybe_due : {T : Type 0} → Option (CommitPhase T) → Bool
-maybe_due None = true
-maybe_due (Some commit) = commit_due commit
-
-abbrev pub MayPut : {T : Type 0} → Result (Option (CommitPhase T)) SlateDBError → Type 0
-MayPut commit = Fits maybe_due commit
-
 -- no refusal, or one that isn't a fault
-abbrev Apart : Option SlateDBError → Type 0
+abbrev pub Apart : Option SlateDBError → Type 0
 Apart None = Unit {0}
 Apart (Some e) = e ≢ StoreFault
 
 -- ---- any value
 
-plain_fits : (e : SlateDBError) → is_plain e ≡ true → e ≢ StoreFault
-plain_fits e plainly = λ same. (let both : is_plain e ≡ is_plain StoreFault = ap is_plain same in absurd cc)
+pub plain_apart : (e : SlateDBError) → is_plain e ≡ true → e ≢ StoreFault
+plain_apart e plainly = λ same. (let both : is_plain e ≡ is_plain StoreFault = ap is_plain same in absurd cc)
 
-test_fits : {X : Type 0} (due : X → Bool) (b : Bool) (x y : Result X SlateDBError) → Fits due x → Fits due y → Fits due (if b then x else y)
-test_fits due true x y one other = one
-test_fits due false x y one other = other
-
-fence_apart : (own read : ℕ) → Apart (fence own read)
+pub fence_apart : (own read : ℕ) → Apart (fence own read)
 fence_apart own read = by_test (nat_lt own read) where
   by_test : (b : Bool) → Apart (if b then Some (Fenced own read) else None)
   by_test true = λ same. absurd cc
   by_test false = tt
 
-compactor_apart : (own : Option ℕ) (read : ℕ) → Apart (compactor_fence own read)
-compactor_apart None read = λ same. absurd cc
-compactor_apart (Some own) read = fence_apart own read
+holder_apart : (own : Option ℕ) (read : ℕ) → Apart (holder_fence own read)
+holder_apart None read = λ same. absurd cc
+holder_apart (Some own) read = fence_apart own read
 
--- what a fence doesn't refuse
-unless_fits : {X : Type 0} (due : X → Bool) (refusal : Option SlateDBError) (x : Result X SlateDBError) → Apart refusal → Fits due x → Fits due (unless refusal x)
-unless_fits due None x apart fits = fits
-unless_fits due (Some e) x apart fits = apart
+module _ {V : Type 0} where
+  bytes_put : (n : ℕ) (value : V) (bytes : Result (List ℕ) SlateDBError) → Plainly bytes → MayPut (some_commit (encoded_commit n value bytes))
+  bytes_put n value (Ok bytes) plainly = refl
+  bytes_put n value (Err e) plainly = plain_apart e plainly
 
-pub fence_fits : {X : Type 0} (due : X → Bool) (own read : ℕ) (x : Result X SlateDBError) → Fits due x → Fits due (unless (fence own read) x)
-fence_fits due own read x fits = unless_fits due (fence own read) x (fence_apart own read) fits
+  checked_put : (refusal : Option SlateDBError) (n : ℕ) (value : V) (bytes : Result (List ℕ) SlateDBError) → refuses_plainly refusal ≡ true → Plainly bytes → MayPut (some_commit (checked_commit refusal n value bytes))
+  checked_put None n value bytes rules plainly = bytes_put n value bytes plainly
+  checked_put (Some e) n value bytes rules plainly = plain_apart e rules
 
--- what follows is due where what it follows is
-pub leads_fits : {X Y : Type 0} (due : X → Bool) (after : Y → Bool) (to : X → Y) (x : Result X SlateDBError) → ((k : X) → due k ≡ true → after (to k) ≡ true) → Fits due x → Fits after (leads to x)
-leads_fits due after to (Ok k) here fits = here k fits
-leads_fits due after to (Err e) here fits = fits
+  test_put : (b : Bool) (x y : Result (CommitPhase V) SlateDBError) → MayPut (some_commit x) → MayPut (some_commit y) → MayPut (some_commit (if b then x else y))
+  test_put true x y one other = one
+  test_put false x y one other = other
 
-bytes_fit : {T : Type 0} (n : ℕ) (value : T) (bytes : Result (List ℕ) SlateDBError) → Plainly bytes → Puts (encoded_commit n value bytes)
-bytes_fit n value (Ok bytes) plainly = refl
-bytes_fit n value (Err e) plainly = plain_fits e plainly
+  -- what a change made, where that isn't refused by a fault
+  wanted_put : (prepare : V → Result (CommitPhase V) SlateDBError) (changed : Result (Option V) SlateDBError) → ((new : V) → MayPut (some_commit (prepare new))) → changed ≢ Err StoreFault → MayPut (wanted prepare changed)
+  wanted_put prepare (Ok (Some new)) each other = each new
+  wanted_put prepare (Ok None) each other = tt
+  wanted_put prepare (Err e) each other = λ same. other (ap (λ (k : SlateDBError). Err k) same)
 
-checked_fits : {T : Type 0} (refusal : Option SlateDBError) (n : ℕ) (value : T) (bytes : Result (List ℕ) SlateDBError) → refuses_plainly refusal ≡ true → Plainly bytes → Puts (checked_commit refusal n value bytes)
-checked_fits None n value bytes rules plainly = bytes_fit n value bytes plainly
-checked_fits (Some e) n value bytes rules plainly = plain_fits e rules
+  unless_put : (refusal : Option SlateDBError) (x : Result (Option (CommitPhase V)) SlateDBError) → Apart refusal → MayPut x → MayPut (unless refusal x)
+  unless_put None x other puts = puts
+  unless_put (Some e) x other puts = other
 
-prepared_fits : {T : Type 0} (refusal : ℕ → T → T → Right → Option SlateDBError) (encoded : T → Result (List ℕ) SlateDBError) (n : ℕ) (old new : T) (right : Right)
-    → refuses_plainly (refusal n old new right) ≡ true → Plainly (encoded new) → Puts (prepared refusal encoded n old new right)
-prepared_fits refusal encoded n old new right rules plainly =
-    test_fits commit_due (n == last_number) (Err (Exhausted n)) (checked_commit (refusal n old new right) (n + 1) new (encoded new)) (λ same. absurd cc) (checked_fits (refusal n old new right) (n + 1) new (encoded new) rules plainly)
-
-some_fits : {T : Type 0} (commit : Result (CommitPhase T) SlateDBError) → Puts commit → MayPut (some_commit commit)
-some_fits (Ok commit) fits = fits
-some_fits (Err e) fits = fits
-
--- what a change made, where that isn't refused by a fault
-wanted_fits : {T : Type 0} (prepare : T → Result (CommitPhase T) SlateDBError) (changed : Result (Option T) SlateDBError) → ((new : T) → Puts (prepare new)) → changed ≢ Err StoreFault → MayPut (wanted prepare changed)
-wanted_fits prepare (Ok (Some new)) each apart = some_fits (prepare new) (each new)
-wanted_fits prepare (Ok None) each apart = refl
-wanted_fits prepare (Err e) each apart = λ same. apart (ap (λ (k : SlateDBError). Err k) same)
-
-sure_fits : {T : Type 0} (commit : Result (Option (CommitPhase T)) SlateDBError) → MayPut commit → Puts (sure commit)
-sure_fits (Ok (Some commit)) fits = fits
-sure_fits (Ok None) fits = λ same. absurd cc
-sure_fits (Err e) fits = fits
+  -- a commit under rules and with bytes that refuse a value for what it is
+  change_put : (made : ℤ → ℕ → V → Result (Option V) SlateDBError) (right : Right) (fenced : V → Option SlateDBError) (refusal : ℕ → V → V → Right → Option SlateDBError) (bytes : V → Result (List ℕ) SlateDBError) (now : ℤ) (n : ℕ) (v : V)
+      → Apart (fenced v) → made now n v ≢ Err StoreFault → ((new : V) → refuses_plainly (refusal n v new right) ≡ true) → ((new : V) → Plainly (bytes new)) → MayPut (change_commit made right fenced refusal bytes now n v)
+  change_put made right fenced refusal bytes now n v open_to makes rules plainly = unless_put (fenced v) _ open_to (wanted_put (λ new. prepared refusal bytes n v new right) (made now n v)
+      (λ new. test_put (n == last_number) (Err (Exhausted n)) (checked_commit (refusal n v new right) (n + 1) new (bytes new)) (λ same. absurd cc) (checked_put (refusal n v new right) (n + 1) new (bytes new) (rules new) (plainly new))) makes)
 
 -- ---- manifests
 
-orphan_apart : (found : Option Prefixed) (segments : List Prefixed) → unless_orphan found segments ≢ Err StoreFault
-orphan_apart None segments = λ same. absurd cc
-orphan_apart (Some s) segments = λ same. absurd cc
+refusal_apart : (change : ManifestChange) (m : Manifest) → Apart (manifests.fence_of change m)
+refusal_apart (Flush writer batch) m = holder_apart writer m.writer_epoch
+refusal_apart (KeepTrees compactor checkpoint) m = holder_apart compactor m.compactor_epoch
+refusal_apart (MergeTrees compactor trees outputs) m = holder_apart compactor m.compactor_epoch
+refusal_apart _ m = tt
 
-segments_apart : (tree : LsmTreeState) (segments : Result (List Prefixed) SlateDBError) → segments ≢ Err StoreFault → with_segments tree segments ≢ Err StoreFault
-segments_apart tree (Ok segments) apart = λ same. absurd cc
-segments_apart tree (Err e) apart = λ same. apart (let both : e ≡ StoreFault = cc in ap (λ (k : SlateDBError). Err k) both)
-
-trees_apart : (core : Core) (trees : Trees) → trees_merged core trees ≢ Err StoreFault
-trees_apart core trees = segments_apart (merged core.tree trees.tree) (from_writer trees.segments core.segments) (orphan_apart (find (is_orphan core.segments) trees.segments) (map (merged_with trees.segments) core.segments))
-
-merged_apart : (m : Manifest) (trees : Result Trees SlateDBError) → trees ≢ Err StoreFault → some_merged (with_merged m trees) ≢ Err StoreFault
-merged_apart m (Ok trees) apart = λ same. absurd cc
-merged_apart m (Err e) apart = λ same. apart (let both : e ≡ StoreFault = cc in ap (λ (k : SlateDBError). Err k) both)
-
--- a change is refused for what it is
-made_apart : (change : CompactorChange) (now : ℤ) (n : ℕ) (m : Manifest) → made change now n m ≢ Err StoreFault
-made_apart Raise now n m = raise_fine epochs.Compactor n m
-made_apart (KeepTrees compactor checkpoint) now n m = change_fine (WriteCheckpoint checkpoint checkpoint_options) now n m
-made_apart (MergeTrees compactor trees outputs) now n m = merged_apart m (trees_merged m.core trees) (trees_apart m.core trees)
-
-refusal_apart : (change : CompactorChange) (m : Manifest) → Apart (fence_of change m)
-refusal_apart Raise m = tt
-refusal_apart (KeepTrees compactor checkpoint) m = compactor_apart compactor m.compactor_epoch
-refusal_apart (MergeTrees compactor trees outputs) m = compactor_apart compactor m.compactor_epoch
-
-unfenced_fits : (change : CompactorChange) (now : ℤ) (n : ℕ) (m : Manifest) → MayPut (unfenced_put change now n m)
-unfenced_fits change now n m = wanted_fits (λ new. prepared manifest_refusal encoded n m (normal_manifest new) (right_of change)) (made change now n m)
-    (λ new. prepared_fits manifest_refusal encoded n m (normal_manifest new) (right_of change) (manifests_plain.refuses (record {}) n m (normal_manifest new) (right_of change)) (manifests_plain.encodes (record {}) (normal_manifest new))) (made_apart change now n m)
-
-pub change_fits : (change : CompactorChange) (now : ℤ) (n : ℕ) (m : Manifest) → MayPut (change_put change now n m)
-change_fits change now n m = unless_fits maybe_due (fence_of change m) (unfenced_put change now n m) (refusal_apart change m) (unfenced_fits change now n m)
-
-pub raise_fits : (n : ℕ) (m : Manifest) → Puts (raise_put n m)
-raise_fits n m = sure_fits (change_put Raise (pos 0) n m) (change_fits Raise (pos 0) n m)
-
-pub trees_fit : (epoch : ℕ) (local : LocalState) (n : ℕ) (m : Manifest) → Puts (trees_put epoch local n m)
-trees_fit epoch local n m = sure_fits (unfenced_put (merge_of epoch local) (pos 0) n m) (unfenced_fits (merge_of epoch local) (pos 0) n m)
+pub manifest_puts : (change : Option ManifestChange) (now : ℤ) (n : ℕ) (m : Manifest) → MayPut (manifest_put change now n m)
+manifest_puts None now n m = tt
+manifest_puts (Some change) now n m = change_put (manifests.made change) (manifests.right_of change) (manifests.fence_of change) manifest_refusal encoded now n m
+    (refusal_apart change m) (change_fine change now n m) (λ new. manifests_plain.refuses (record {}) n m new (manifests.right_of change)) (λ new. manifests_plain.encodes (record {}) new)
 
 with_apart : (read : Record) (local : LocalState) (trees : Result Trees SlateDBError) → trees ≢ Err StoreFault → with_trees read local trees ≢ Err StoreFault
-with_apart read local (Ok trees) apart = λ same. absurd cc
-with_apart read local (Err e) apart = λ same. apart (let both : e ≡ StoreFault = cc in ap (λ (k : SlateDBError). Err k) both)
+with_apart read local (Ok trees) other = λ same. absurd cc
+with_apart read local (Err e) other = λ same. other (let both : e ≡ StoreFault = cc in ap (λ (k : SlateDBError). Err k) both)
 
 -- a refresh is refused for what was read
 pub refreshed_apart : (read : Record) (core : Core) (local : LocalState) → refreshed read core local ≢ Err StoreFault
-refreshed_apart read core local = with_apart read local (trees_merged core local.trees) (trees_apart core local.trees)
+refreshed_apart read core local = with_apart read local (trees_merged core local.trees) (stays_apart StoreFault (trees_merged core local.trees) refl (trees_fine core local.trees))
 
 -- ---- records
-
-pub first_fits : RecordsPlain → Puts first_put
-first_fits plain = bytes_fit 1 first_record (record_encoded first_record) (plain.encodes (record {}) first_record)
 
 put_apart : (id : ℕ × ℕ) (r : Record) (found : Option Compaction) → put_in id r found ≢ Err StoreFault
 put_apart id r None = λ same. absurd cc
@@ -192,29 +123,45 @@ found_apart : (id : ℕ × ℕ) (step : Compaction → Option Compaction) (r : R
 found_apart id step r None = λ same. absurd cc
 found_apart id step r (Some c) = put_apart id r (step c)
 
-record_made_apart : (change : RecordChange) (now : ℤ) (n : ℕ) (r : Record) → record_made change now n r ≢ Err StoreFault
-record_made_apart (GiveEpoch epoch) now n r = λ same. absurd cc
-record_made_apart (Reset epoch) now n r = λ same. absurd cc
+record_made_apart : (change : RecordChange) (now : ℤ) (n : ℕ) (r : Record) → records.made change now n r ≢ Err StoreFault
 record_made_apart (Schedule compactor id) now n r = found_apart id to_scheduled r (entry_of id r.entries)
 record_made_apart (Claim id worker) now n r = found_apart id (to_running worker now) r (entry_of id r.entries)
 record_made_apart (Report id worker outputs) now n r = found_apart id (to_compacted worker outputs) r (entry_of id r.entries)
-record_made_apart (PutStatuses compactor local pending) now n r = λ same. absurd cc
-record_made_apart (Submit id spec) now n r = λ same. absurd cc
+record_made_apart _ now n r = λ same. absurd cc
 
-record_refusal_apart : (change : RecordChange) (r : Record) → Apart (record_fence_of change r)
+record_refusal_apart : (change : RecordChange) (r : Record) → Apart (records.fence_of change r)
 record_refusal_apart (GiveEpoch epoch) r = fence_apart epoch r.compactor_epoch
 record_refusal_apart (Reset epoch) r = fence_apart epoch r.compactor_epoch
-record_refusal_apart (Schedule compactor id) r = compactor_apart compactor r.compactor_epoch
-record_refusal_apart (Claim id worker) r = tt
-record_refusal_apart (Report id worker outputs) r = tt
-record_refusal_apart (PutStatuses compactor local pending) r = compactor_apart compactor r.compactor_epoch
-record_refusal_apart (Submit id spec) r = tt
+record_refusal_apart (Schedule compactor id) r = holder_apart compactor r.compactor_epoch
+record_refusal_apart (PutStatuses compactor local pending) r = holder_apart compactor r.compactor_epoch
+record_refusal_apart _ r = tt
 
-pub unfenced_record_fits : RecordsPlain → (change : RecordChange) (n : ℕ) (r : Record) → Puts (unfenced_record_put change n r)
-unfenced_record_fits plain change n r = sure_fits (wanted prepare (record_made change (pos 0) n r)) (wanted_fits prepare (record_made change (pos 0) n r)
-    (λ new. prepared_fits record_refusal_of record_encoded n r (normal_record new) (record_right_of change) (plain.refuses (record {}) n r (normal_record new) (record_right_of change)) (plain.encodes (record {}) (normal_record new))) (record_made_apart change (pos 0) n r)) where
-      prepare : Record → Result (CommitPhase Record) SlateDBError
-      prepare new = prepared record_refusal_of record_encoded n r (normal_record new) (record_right_of change)
+pub record_puts : RecordsPlain → (change : Option RecordChange) (now : ℤ) (n : ℕ) (r : Record) → MayPut (record_put change now n r)
+record_puts plain None now n r = tt
+record_puts plain (Some change) now n r = change_put (records.made change) (records.right_of change) (records.fence_of change) record_refusal_of record_encoded now n r
+    (record_refusal_apart change r) (record_made_apart change now n r) (λ new. plain.refuses (record {}) n r new (records.right_of change)) (λ new. plain.encodes (record {}) new)
 
-pub record_change_fits : RecordsPlain → (change : RecordChange) (n : ℕ) (r : Record) → Puts (record_change_put change n r)
-record_change_fits plain change n r = unless_fits commit_due (record_fence_of change r) (unfenced_record_put change n r) (record_refusal_apart change r) (unfenced_record_fits plain change n r)
+-- ---- changes that are put at once
+
+-- a change whose call is due, or a refusal that isn't a fault
+abbrev pub MayBegin : {C V : Type 0} → Result (Changing C V) SlateDBError → Type 0
+MayBegin (Ok p) = work_due p.work ≡ true
+MayBegin (Err e) = e ≢ StoreFault
+
+begins : {C V : Type 0} (change : C) (now : ℤ) (commit : Result (Option (CommitPhase V)) SlateDBError) → MayPut commit → MayBegin (begun change now commit)
+begins change now (Ok (Some commit)) due = due
+begins change now (Ok None) due = λ same. absurd cc
+begins change now (Err e) other = other
+
+pub record_begins : RecordsPlain → (change : RecordChange) (now : ℤ) (r : ℕ × Record) → MayBegin (put_of change now r)
+record_begins plain change now r = begins change now (record_put (Some change) now r.0 r.1) (record_puts plain (Some change) now r.0 r.1)
+
+pub manifest_begins : (change : ManifestChange) (now : ℤ) (m : ℕ × Manifest) → MayBegin (manifest_put_of change now m)
+manifest_begins change now m = begins change now (manifest_put (Some change) now m.0 m.1) (manifest_puts (Some change) now m.0 m.1)
+
+first_bytes : (now : ℤ) (bytes : Result (List ℕ) SlateDBError) → Plainly bytes → MayBegin (first_of now (encoded_commit 1 first_record bytes))
+first_bytes now (Ok bytes) plainly = refl
+first_bytes now (Err e) plainly = plain_apart e plainly
+
+pub first_begins : RecordsPlain → (now : ℤ) → MayBegin (first_of now first_put)
+first_begins plain now = first_bytes now (record_encoded first_record) (plain.encodes (record {}) first_record)

@@ -1,142 +1,145 @@
 -- A call on the state ends in a fault only where the store faults.
 use Rattle.std.specs.Prelude.{◌≡◌, ◌≢◌, ℕ, ℤ, Bool, true, false, List, Option, Some, None, Result, Ok, Err, refl}
 use Rattle.std.proofs.Common.{ap}
+use Rattle.slate_changes.proofs.Sound.{IsFault, Sound, sound_ends, sound_turned, turn_due}
+use Rattle.slate_changes.proofs.WorkFaults.{work_sound}
+use Rattle.slate_changes.specs.LogWorks.{WorkGoes, work_due}
+use Rattle.slate_changes.specs.Turns.{turn_asks}
+use Rattle.slate_changes.specs.declared.log_work.LogEnd.{LogEnd}
+use Rattle.slate_changes.specs.declared.log_work.LogEnd.TheVariants.{Absent, Unchanged, Committed}
 use Rattle.slate_compactions_store.proofs.NoFaults as record_bytes
 use Rattle.slate_compactor.specs.Local.{refreshed}
 use Rattle.slate_compactor.specs.declared.local_state.LocalState.{LocalState}
-use Rattle.slate_compactor_changes.specs.declared.compactor_change.CompactorChange.TheVariants.{KeepTrees}
-use Rattle.slate_compactor_writer.specs.Puts.{change_put, record_change_put, trees_put}
-use Rattle.slate_compactor_writer.specs.Retrying.{leads}
-use Rattle.slate_compactor_writer.specs.StateCalls.{begins_again, start_phase, state_retrying}
-use Rattle.slate_compactor_writer.specs.StateSteps.{StateAt, StateGoes, after_manifest, after_record, after_trees, checkpoint_or_trees, goes_to, manifest_read, phase_due, record_read, refresh_of, refresh_read, refreshed_to, state_asks, state_due, state_goes, trees_phase, was_checkpointed, was_merged, was_recorded, was_scheduled}
-use Rattle.slate_compactor_writer.specs.Writer.{Writer, with_manifest, with_record, with_local}
-use Rattle.slate_compactor_writer.specs.declared.state_phase.ManifestWrite.{ManifestWrite}
-use Rattle.slate_compactor_writer.specs.declared.state_phase.RecordUse.{RecordUse}
-use Rattle.slate_compactor_writer.specs.declared.state_phase.RecordUse.TheVariants.{Refresh, Schedule, Statuses}
-use Rattle.slate_compactor_writer.specs.declared.state_phase.StatePhase.{StatePhase}
-use Rattle.slate_compactor_writer.specs.declared.state_phase.StatePhase.TheVariants.{ReadingRecord, CommittingSchedule, CommittingStatuses, RefreshingManifest, ReadingManifest, CommittingCheckpoint, CommittingTrees, Over}
-use Rattle.slate_compactor_writer.specs.declared.state_phase.StateStart.{StateStart}
-use Rattle.slate_compactor_writer.specs.declared.state_phase.StateStart.TheVariants.{AtRecord, AtManifest}
-use Rattle.slate_compactor_writer.proofs.PutFaults.{Fits, MayPut, RecordsPlain, change_fits, fence_fits, leads_fits, record_change_fits, refreshed_apart, trees_fit}
-use Rattle.slate_compactor_writer.proofs.Sound.{Sound, sound_again, sound_commit, sound_ends, sound_read}
+use Rattle.slate_compactor_calls.specs.Commits.{ManifestChanging, RecordChanging, manifest_in, manifest_put, merge_of, record_in, record_put, statuses_of}
+use Rattle.slate_compactor_calls.specs.Compactors.{with_manifest}
+use Rattle.slate_compactor_calls.specs.StateSteps.{StateAt, StateGoes, follows, manifest_next, merge_by, merges, next_after, on_manifest, on_record, onward, or_missing, record_next, records, refresh_of, refreshes, start_phase, state_due, state_goes}
+use Rattle.slate_compactor_calls.specs.declared.compactor.Compactor.{Compactor}
+use Rattle.slate_compactor_calls.specs.declared.state_phase.ManifestStep.{ManifestStep}
+use Rattle.slate_compactor_calls.specs.declared.state_phase.ManifestStep.TheVariants.{Follow, Keep, Merge}
+use Rattle.slate_compactor_calls.specs.declared.state_phase.RecordStep.{RecordStep}
+use Rattle.slate_compactor_calls.specs.declared.state_phase.RecordStep.TheVariants as steps
+use Rattle.slate_compactor_calls.specs.declared.state_phase.StatePhase.{StatePhase}
+use Rattle.slate_compactor_calls.specs.declared.state_phase.StatePhase.TheVariants.{OnManifest, OnRecord, Over}
+use Rattle.slate_compactor_calls.specs.declared.state_start.StateStart.{StateStart}
+use Rattle.slate_compactor_calls.specs.declared.state_start.StateStart.TheVariants.{Refresh, Schedule, WriteTrees, WriteRecord}
+use Rattle.slate_compactor_calls.specs.declared.state_start.TreesWrite.{TreesWrite}
+use Rattle.slate_compactor_writer.proofs.OpenFaults.{sound_follows}
+use Rattle.slate_compactor_writer.proofs.PutFaults.{Apart, MayBegin, RecordsPlain, fence_apart, manifest_begins, manifest_puts, record_begins, record_puts, refreshed_apart}
+use Rattle.slate_compactor_writer.specs.StateCalls.{asks_at, begins_again, lists_again, state_turning}
 use Rattle.slate_ids.specs.declared.error.SlateDBError.{SlateDBError}
 use Rattle.slate_ids.specs.declared.error.SlateDBError.TheVariants.{LatestTransactionalObjectVersionMissing, StoreFault}
-use Rattle.slate_log.specs.CommitPhase.{commit_due, CommitGoes}
-use Rattle.slate_log.specs.ReadPhase.{read_due, Reply}
+use Rattle.slate_log.proofs.Faults.{Fine, OnlyFaults, fine_err, fine_ok, fine_stay}
+use Rattle.slate_log.specs.Fence.{fence, unless}
 use Rattle.slate_log.specs.declared.log_kind.LogKind.TheVariants.{Compactions as RecordLog, Manifest as ManifestLog}
-use Rattle.slate_log.specs.declared.commit_phase.CommitPhase.{CommitPhase}
-use Rattle.slate_log.proofs.Faults.{OnlyFaults, Fine, fine_stay, fine_ok, fine_err}
 use Rattle.slate_manifest_parts.specs.Decoding.{decoded_manifest}
 use Rattle.slate_manifest_store.proofs.NoFaults as manifest_bytes
 use Rattle.slate_model.specs.declared.manifest.Manifest.{Manifest}
 use Rattle.slate_record_bytes.specs.Records.{decoded_record}
-use Rattle.slate_record_updates.specs.declared.record_change.RecordChange.{RecordChange}
-use Rattle.slate_record_updates.specs.declared.record_change.RecordChange.TheVariants as changes
 use Rattle.slate_records.specs.Records.{Record}
 use Rattle.slate_store.specs.Calls.{IsAnswerTo}
-use Rattle.slate_store.specs.Machines.{Goes, Stay, End}
+use Rattle.slate_store.specs.Machines.{Stay, End}
 use Rattle.slate_store.specs.declared.store_answer.StoreAnswer.{StoreAnswer}
 
-to_fine : (w : Writer) (next : Result StatePhase SlateDBError) → Fits phase_due next → Fine state_due (goes_to w next)
-to_fine w (Ok phase) fits = fine_stay state_due (phase, w) fits
-to_fine w (Err e) fits = fine_err state_due (Over, w) e fits
+-- whether a call is due
+abbrev pub due_at : StateAt → Bool
+due_at at = state_due at.0
+
+abbrev FineState : StateGoes → Type 0
+FineState out = Fine due_at out
+
+no_version : (c : Compactor) → FineState (End (Over, c) (Err LatestTransactionalObjectVersionMissing))
+no_version c = fine_err due_at (Over, c) LatestTransactionalObjectVersionMissing (λ same. absurd cc)
+
+missing_fine : {V : Type 0} (c : Compactor) (next : V → StateGoes) (found : Option V) → ((v : V) → FineState (next v)) → FineState (or_missing c next found)
+missing_fine c next None each = no_version c
+missing_fine c next (Some v) each = each v
 
 -- ---- the record
 
-commit_fits : RecordsPlain → (to : CommitPhase Record → StatePhase) → ((k : CommitPhase Record) → commit_due k ≡ true → phase_due (to k) ≡ true) → (change : RecordChange) (n : ℕ) (r : Record) → Fits phase_due (leads to (record_change_put change n r))
-commit_fits plain to here change n r = leads_fits commit_due phase_due to (record_change_put change n r) here (record_change_fits plain change n r)
+follows_fine : (c : Compactor) (v : ℕ × Record) (refusal : Option SlateDBError) → Apart refusal → FineState (follows c v refusal)
+follows_fine c v (Some e) other = fine_err due_at (Over, c) e other
+follows_fine c v None other = fine_stay due_at _ refl
 
-after_fits : RecordsPlain → (purpose : RecordUse) (w : Writer) (n : ℕ) (r : Record) → Fits phase_due (after_record purpose w n r)
-after_fits plain Refresh w n r = fence_fits phase_due w.epoch r.compactor_epoch _ refl
-after_fits plain (Schedule id) w n r = commit_fits plain CommittingSchedule (λ k due. due) (changes.Schedule (Some w.epoch) id) n r
-after_fits plain Statuses w n r = commit_fits plain CommittingStatuses (λ k due. due) (changes.PutStatuses (Some w.epoch) w.local.compactions w.local.pending) n r
+records_fine : (write : Option TreesWrite) (c : Compactor) (put : Result RecordChanging SlateDBError) → MayBegin put → FineState (records write c put)
+records_fine write c (Ok p) due = fine_stay due_at _ due
+records_fine write c (Err e) other = fine_err due_at (Over, c) e other
 
-record_fine : RecordsPlain → (purpose : RecordUse) (w : Writer) (out : Reply Record) → Fine read_due out → Fine state_due (record_read purpose w out)
-record_fine plain purpose w (Stay read) fine = fine_stay state_due (ReadingRecord purpose true read, w) (fine.stays read refl)
-record_fine plain purpose w (End read (Ok None)) fine = fine_err state_due (Over, w) LatestTransactionalObjectVersionMissing (λ same. absurd cc)
-record_fine plain purpose w (End read (Ok (Some v))) fine = to_fine (with_record v w) (after_record purpose w v.0 v.1) (after_fits plain purpose w v.0 v.1)
-record_fine plain purpose w (End read (Err e)) fine = fine_err state_due (Over, w) e (λ same. fine.ends read (ap (λ (k : SlateDBError). End read (Err k)) same))
+record_fine : RecordsPlain → (step : RecordStep) (now : ℤ) (c : Compactor) (v : ℕ × Record) → FineState (record_next step now c v)
+record_fine plain steps.Follow now c v = follows_fine c v (fence c.epoch v.1.compactor_epoch) (fence_apart c.epoch v.1.compactor_epoch)
+record_fine plain steps.Schedule now c v = fine_ok due_at _ tt
+record_fine plain (steps.Fetch write) now c v = records_fine write c _ (record_begins plain (statuses_of c.epoch c.local) now v)
+record_fine plain (steps.Record write) now c v = fine_ok due_at _ tt
 
-schedule_fine : (w : Writer) (out : CommitGoes Record) → Fine commit_due out → Fine state_due (was_scheduled w out)
-schedule_fine w (Stay commit) fine = fine_stay state_due (CommittingSchedule commit, w) (fine.stays commit refl)
-schedule_fine w (End commit (Ok v)) fine = fine_ok state_due _ tt
-schedule_fine w (End commit (Err e)) fine = fine_err state_due (Over, w) e (λ same. fine.ends commit (ap (λ (k : SlateDBError). End commit (Err k)) same))
+on_record_fine : RecordsPlain → (step : RecordStep) (now : ℤ) (c : Compactor) (p : RecordChanging) (out : WorkGoes Record) → Fine work_due out → FineState (on_record step now c p out)
+on_record_fine plain step now c p (Stay work) fine = fine_stay due_at (OnRecord step (record p { work = work }), c) (fine.stays work refl)
+on_record_fine plain step now c p (End work (Ok end)) fine = missing_fine c (record_next step now c) (record_in end) (record_fine plain step now c)
+on_record_fine plain step now c p (End work (Err e)) fine = fine_err due_at (Over, c) e (λ same. fine.ends work (ap (λ (k : SlateDBError). End work (Err k)) same))
 
-statuses_fine : (w : Writer) (out : CommitGoes Record) → Fine commit_due out → Fine state_due (was_recorded w out)
-statuses_fine w (Stay commit) fine = fine_stay state_due (CommittingStatuses commit, w) (fine.stays commit refl)
-statuses_fine w (End commit (Ok v)) fine = fine_ok state_due _ tt
-statuses_fine w (End commit (Err e)) fine = fine_err state_due (Over, w) e (λ same. fine.ends commit (ap (λ (k : SlateDBError). End commit (Err k)) same))
+on_record_fault : (step : RecordStep) (now : ℤ) (c : Compactor) (p : RecordChanging) (out : WorkGoes Record) → IsFault out → IsFault (on_record step now c p out)
+on_record_fault step now c p (Stay work) fault = absurd fault
+on_record_fault step now c p (End work (Ok end)) fault = absurd fault
+on_record_fault step now c p (End work (Err e)) fault = fault
 
 -- ---- the manifest
 
-local_fine : (w : Writer) (local : Result LocalState SlateDBError) → Fits (λ k. true) local → Fine state_due (refreshed_to w local)
-local_fine w (Ok local) fits = fine_ok state_due _ tt
-local_fine w (Err e) fits = fine_err state_due (Over, w) e fits
+refreshes_fine : (c : Compactor) (v : ℕ × Manifest) (local : Result LocalState SlateDBError) → local ≢ Err StoreFault → FineState (refreshes c v local)
+refreshes_fine c v (Ok local) other = fine_ok due_at _ tt
+refreshes_fine c v (Err e) other = fine_err due_at (Over, c) e (λ same. other (ap (λ (k : SlateDBError). Err k) same))
 
-apart_fits : (local : Result LocalState SlateDBError) → local ≢ Err StoreFault → Fits (λ k. true) local
-apart_fits (Ok local) apart = refl
-apart_fits (Err e) apart = λ same. apart (ap (λ (k : SlateDBError). Err k) same)
+unless_apart : (refusal : Option SlateDBError) (local : Result LocalState SlateDBError) → Apart refusal → local ≢ Err StoreFault → unless refusal local ≢ Err StoreFault
+unless_apart None local fenced other = other
+unless_apart (Some e) local fenced other = λ same. fenced (let both : e ≡ StoreFault = cc in both)
 
-refresh_fits : (w : Writer) (m : Manifest) → Fits (λ k. true) (refresh_of w m)
-refresh_fits w m = fence_fits (λ k. true) w.epoch m.compactor_epoch (refreshed w.compactions m.core w.local) (apart_fits (refreshed w.compactions m.core w.local) (refreshed_apart w.compactions m.core w.local))
+refresh_apart : (c : Compactor) (m : Manifest) → refresh_of c m ≢ Err StoreFault
+refresh_apart c m = unless_apart (fence c.epoch m.compactor_epoch) (refreshed c.compactions m.core c.local) (fence_apart c.epoch m.compactor_epoch) (refreshed_apart c.compactions m.core c.local)
 
-refresh_fine : (w : Writer) (out : Reply Manifest) → Fine read_due out → Fine state_due (refresh_read w out)
-refresh_fine w (Stay read) fine = fine_stay state_due (RefreshingManifest true read, w) (fine.stays read refl)
-refresh_fine w (End read (Ok None)) fine = fine_err state_due (Over, w) LatestTransactionalObjectVersionMissing (λ same. absurd cc)
-refresh_fine w (End read (Ok (Some v))) fine = local_fine (with_manifest v w) (refresh_of w v.1) (refresh_fits w v.1)
-refresh_fine w (End read (Err e)) fine = fine_err state_due (Over, w) e (λ same. fine.ends read (ap (λ (k : SlateDBError). End read (Err k)) same))
+merges_fine : (write : TreesWrite) (c : Compactor) (put : Result ManifestChanging SlateDBError) → MayBegin put → FineState (merges write c put)
+merges_fine write c (Ok p) due = fine_stay due_at _ due
+merges_fine write c (Err e) other = fine_err due_at (Over, c) e other
 
-phase_fits : (whole : Bool) (w : Writer) (n : ℕ) (m : Manifest) → Fits phase_due (trees_phase whole w n m)
-phase_fits whole w n m = leads_fits commit_due phase_due (CommittingTrees whole) (trees_put w.epoch w.local n m) (λ k due. due) (trees_fit w.epoch w.local n m)
+onward_fine : (whole : Bool) (write : TreesWrite) (c : Compactor) → FineState (onward c (next_after whole write))
+onward_fine true write c = fine_stay due_at _ refl
+onward_fine false write c = fine_ok due_at _ tt
 
-or_fits : (whole : Bool) (w : Writer) (n : ℕ) (m : Manifest) (commit : Result (Option (CommitPhase Manifest)) SlateDBError) → MayPut commit → Fits phase_due (checkpoint_or_trees whole w n m commit)
-or_fits whole w n m (Ok (Some commit)) fits = fits
-or_fits whole w n m (Ok None) fits = phase_fits whole w n m
-or_fits whole w n m (Err e) fits = fits
+manifest_fine : (step : ManifestStep) (now : ℤ) (c : Compactor) (end : LogEnd Manifest) → FineState (manifest_next step now c end)
+manifest_fine Follow now c end = missing_fine c _ (manifest_in end) (λ v. refreshes_fine c v (refresh_of c v.1) (refresh_apart c v.1))
+manifest_fine (Keep write) now c end = missing_fine c (merge_by write now c) (manifest_in end) (λ v. merges_fine write (with_manifest v c) _ (manifest_begins (merge_of c.epoch c.local) now v))
+manifest_fine (Merge write) now c Absent = no_version c
+manifest_fine (Merge write) now c (Unchanged n m) = no_version c
+manifest_fine (Merge write) now c (Committed n m) = onward_fine write.whole write _
 
-write_fits : (moment : ℤ) (write : ManifestWrite) (w : Writer) (n : ℕ) (m : Manifest) → Fits phase_due (after_manifest moment write w n m)
-write_fits moment write w n m = or_fits write.whole w n m (change_put (KeepTrees (Some w.epoch) write.checkpoint) moment n m) (change_fits (KeepTrees (Some w.epoch) write.checkpoint) moment n m)
+on_manifest_fine : (step : ManifestStep) (now : ℤ) (c : Compactor) (p : ManifestChanging) (out : WorkGoes Manifest) → Fine work_due out → FineState (on_manifest step now c p out)
+on_manifest_fine step now c p (Stay work) fine = fine_stay due_at (OnManifest step (record p { work = work }), c) (fine.stays work refl)
+on_manifest_fine step now c p (End work (Ok end)) fine = manifest_fine step now c end
+on_manifest_fine step now c p (End work (Err e)) fine = fine_err due_at (Over, c) e (λ same. fine.ends work (ap (λ (k : SlateDBError). End work (Err k)) same))
 
-manifest_fine : (moment : ℤ) (write : ManifestWrite) (w : Writer) (out : Reply Manifest) → Fine read_due out → Fine state_due (manifest_read moment write w out)
-manifest_fine moment write w (Stay read) fine = fine_stay state_due (ReadingManifest write read, w) (fine.stays read refl)
-manifest_fine moment write w (End read (Ok None)) fine = fine_err state_due (Over, w) LatestTransactionalObjectVersionMissing (λ same. absurd cc)
-manifest_fine moment write w (End read (Ok (Some v))) fine = to_fine (with_manifest v w) (after_manifest moment write w v.0 v.1) (write_fits moment write w v.0 v.1)
-manifest_fine moment write w (End read (Err e)) fine = fine_err state_due (Over, w) e (λ same. fine.ends read (ap (λ (k : SlateDBError). End read (Err k)) same))
-
-checkpoint_fine : (whole : Bool) (w : Writer) (out : CommitGoes Manifest) → Fine commit_due out → Fine state_due (was_checkpointed whole w out)
-checkpoint_fine whole w (Stay commit) fine = fine_stay state_due (CommittingCheckpoint whole commit, w) (fine.stays commit refl)
-checkpoint_fine whole w (End commit (Ok v)) fine = to_fine (with_manifest v w) (trees_phase whole w v.0 v.1) (phase_fits whole w v.0 v.1)
-checkpoint_fine whole w (End commit (Err e)) fine = fine_err state_due (Over, w) e (λ same. fine.ends commit (ap (λ (k : SlateDBError). End commit (Err k)) same))
-
-next_fine : (whole : Bool) (w : Writer) → Fine state_due (after_trees whole w)
-next_fine true w = fine_stay state_due _ refl
-next_fine false w = fine_ok state_due _ tt
-
-trees_fine : (whole : Bool) (w : Writer) (out : CommitGoes Manifest) → Fine commit_due out → Fine state_due (was_merged whole w out)
-trees_fine whole w (Stay commit) fine = fine_stay state_due (CommittingTrees whole commit, w) (fine.stays commit refl)
-trees_fine whole w (End commit (Ok v)) fine = next_fine whole _
-trees_fine whole w (End commit (Err e)) fine = fine_err state_due (Over, w) e (λ same. fine.ends commit (ap (λ (k : SlateDBError). End commit (Err k)) same))
+on_manifest_fault : (step : ManifestStep) (now : ℤ) (c : Compactor) (p : ManifestChanging) (out : WorkGoes Manifest) → IsFault out → IsFault (on_manifest step now c p out)
+on_manifest_fault step now c p (Stay work) fault = absurd fault
+on_manifest_fault step now c p (End work (Ok end)) fault = absurd fault
+on_manifest_fault step now c p (End work (Err e)) fault = fault
 
 -- ---- all phases
 
-by_phase : RecordsPlain → (moment : ℤ) (phase : StatePhase) (w : Writer) (answer : StoreAnswer) → phase_due phase ≡ true → IsAnswerTo (state_asks (phase, w)) answer → Sound state_due answer (state_goes moment (phase, w) answer)
-by_phase plain moment (ReadingRecord purpose counts read) w answer due kind = sound_read state_due (record_read purpose w) w.db RecordLog decoded_record read answer record_bytes.decoding_fine refl (record_fine plain purpose w) due kind
-by_phase plain moment (CommittingSchedule commit) w answer due kind = sound_commit state_due (was_scheduled w) w.db RecordLog commit answer refl (schedule_fine w) due kind
-by_phase plain moment (CommittingStatuses commit) w answer due kind = sound_commit state_due (was_recorded w) w.db RecordLog commit answer refl (statuses_fine w) due kind
-by_phase plain moment (RefreshingManifest counts read) w answer due kind = sound_read state_due (refresh_read w) w.db ManifestLog decoded_manifest read answer manifest_bytes.decoding_fine refl (refresh_fine w) due kind
-by_phase plain moment (ReadingManifest write read) w answer due kind = sound_read state_due (manifest_read moment write w) w.db ManifestLog decoded_manifest read answer manifest_bytes.decoding_fine refl (manifest_fine moment write w) due kind
-by_phase plain moment (CommittingCheckpoint whole commit) w answer due kind = sound_commit state_due (was_checkpointed whole w) w.db ManifestLog commit answer refl (checkpoint_fine whole w) due kind
-by_phase plain moment (CommittingTrees whole commit) w answer due kind = sound_commit state_due (was_merged whole w) w.db ManifestLog commit answer refl (trees_fine whole w) due kind
-by_phase plain moment Over w answer due kind = absurd cc
+by_phase : RecordsPlain → (db : List ℕ) (now : ℤ) (phase : StatePhase) (c : Compactor) (answer : StoreAnswer) → state_due phase ≡ true → IsAnswerTo (asks_at db (phase, c)) answer → Sound due_at answer (state_goes now (phase, c) answer)
+by_phase plain db now (OnRecord step p) c answer due kind = sound_follows work_due due_at (on_record step now c p) answer _ (on_record_fault step now c p _) (on_record_fine plain step now c p _)
+    (work_sound db RecordLog decoded_record (record_put p.change) record_bytes.decoding_fine (record_puts plain p.change) now p.work answer due kind)
+by_phase plain db now (OnManifest step p) c answer due kind = sound_follows work_due due_at (on_manifest step now c p) answer _ (on_manifest_fault step now c p _) (on_manifest_fine step now c p _)
+    (work_sound db ManifestLog decoded_manifest (manifest_put p.change) manifest_bytes.decoding_fine (manifest_puts p.change) now p.work answer due kind)
+by_phase plain db now Over c answer due kind = absurd cc
 
 -- its machine
-pub state_faults : RecordsPlain → (moment : ℤ) → OnlyFaults state_due state_asks (state_goes moment)
-state_faults plain moment = record { sound = λ at answer due kind. sound_ends state_due answer (state_goes moment at answer) (by_phase plain moment at.0 at.1 answer due kind) }
+pub state_faults : RecordsPlain → (db : List ℕ) (now : ℤ) → OnlyFaults due_at (asks_at db) (state_goes now)
+state_faults plain db now = record { sound = λ at answer due kind. sound_ends due_at answer (state_goes now at answer) (by_phase plain db now at.0 at.1 answer due kind) }
 
-pub start_due : (start : StateStart) → phase_due (start_phase start) ≡ true
-start_due (AtRecord purpose) = refl
-start_due (AtManifest write) = refl
+pub start_due : (start : StateStart) (c : Compactor) → state_due (start_phase start c) ≡ true
+start_due Refresh c = refl
+start_due (Schedule id) c = refl
+start_due (WriteTrees write) c = refl
+start_due WriteRecord c = refl
 
 -- and the plain call
-pub retrying_faults : RecordsPlain → (start : StateStart) (moment : ℤ) → OnlyFaults state_due state_asks (state_retrying start moment)
-retrying_faults plain start moment = record { sound = λ at answer due kind. sound_ends state_due answer (state_retrying start moment at answer) (sound_again state_due (begins_again start) answer (state_goes moment at answer) (λ p. start_due start) (by_phase plain moment at.0 at.1 answer due kind)) }
+pub turning_faults : RecordsPlain → (db : List ℕ) (start : StateStart) (now : ℤ) → OnlyFaults (turn_due due_at) (turn_asks (asks_at db)) (state_turning start now)
+turning_faults plain db start now = record {
+  sound = λ turn answer due kind. sound_ends (turn_due due_at) answer (state_turning start now turn answer)
+      (sound_turned due_at lists_again (begins_again start) turn answer (state_goes now turn.0 answer) (λ p. start_due start p.1) (by_phase plain db now turn.0.0 turn.0.1 answer due kind));
+}

@@ -1,220 +1,152 @@
 -- Steps of the calls on the state: what each keeps of the local state, and when the record comes.
-use Rattle.std.specs.Prelude.{◌≡◌, ℕ, ℤ, not, Bool, true, false, Option, Some, None, Result, Ok, Err, refl}
-use Rattle.std.proofs.Common.{◌⊎◌, inl, inr, ap, sym, ◌∙◌}
+use Rattle.std.specs.Prelude.{◌≡◌, ℕ, ℤ, Bool, true, false, List, Option, Some, None, Result, Ok, Err, refl}
+use Rattle.std.proofs.Common.{◌⊎◌, inl, inr, ap, subst}
+use Rattle.slate_changes.proofs.CommitEnds.{ends_bounding}
+use Rattle.slate_changes.specs.LogWorks.{WorkGoes, change_goes, commit_on, read_on, work_goes}
+use Rattle.slate_changes.specs.declared.log_work.LogEnd.{LogEnd}
+use Rattle.slate_changes.specs.declared.log_work.LogEnd.TheVariants.{Absent, Unchanged, Committed}
+use Rattle.slate_changes.specs.declared.log_work.LogWork.{LogWork}
+use Rattle.slate_changes.specs.declared.log_work.LogWork.TheVariants.{Reading, Committing}
 use Rattle.slate_compactor.specs.declared.local_state.LocalState.{LocalState}
-use Rattle.slate_compactor_changes.specs.declared.compactor_change.CompactorChange.TheVariants.{KeepTrees}
-use Rattle.slate_compactor_writer.specs.Puts.{change_put, record_change_put, trees_put}
-use Rattle.slate_compactor_writer.specs.Retrying.{leads}
-use Rattle.slate_compactor_writer.specs.StateLaws.{RecordFollows, RefusalsKeepLocal, StepsKeepLocal, TreesStand}
-use Rattle.slate_compactor_writer.specs.StateSteps.{StateAt, StateGoes, after_manifest, after_record, after_trees, checkpoint_or_trees, goes_to, manifest_read, record_read, refresh_of, refresh_read, refreshed_to, state_goes, trees_phase, was_checkpointed, was_merged, was_recorded, was_scheduled}
-use Rattle.slate_compactor_writer.specs.Writer.{Writer, with_local, with_manifest, with_record}
-use Rattle.slate_compactor_writer.specs.declared.state_phase.ManifestWrite.{ManifestWrite}
-use Rattle.slate_compactor_writer.specs.declared.state_phase.RecordUse.{RecordUse}
-use Rattle.slate_compactor_writer.specs.declared.state_phase.RecordUse.TheVariants.{Refresh, Schedule, Statuses}
-use Rattle.slate_compactor_writer.specs.declared.state_phase.StatePhase.{StatePhase}
-use Rattle.slate_compactor_writer.specs.declared.state_phase.StatePhase.TheVariants.{ReadingRecord, CommittingSchedule, CommittingStatuses, RefreshingManifest, ReadingManifest, CommittingCheckpoint, CommittingTrees, Over}
-use Rattle.slate_compactor_writer.proofs.CommitEnds.{ends_bounding}
+use Rattle.slate_compactor_calls.specs.Commits.{ManifestChanging, RecordChanging, manifest_in, manifest_put, manifest_put_of, merge_of, put_of, record_in, record_put, statuses_of}
+use Rattle.slate_compactor_calls.specs.Compactors.{with_manifest}
+use Rattle.slate_compactor_calls.specs.StateSteps.{StateAt, StateGoes, follows, manifest_next, merge_by, merged, merges, next_after, on_manifest, on_record, onward, or_missing, record_next, records, refresh_of, refreshes, state_goes}
+use Rattle.slate_compactor_calls.specs.declared.compactor.Compactor.{Compactor}
+use Rattle.slate_compactor_calls.specs.declared.state_phase.ManifestStep.{ManifestStep}
+use Rattle.slate_compactor_calls.specs.declared.state_phase.ManifestStep.TheVariants.{Follow, Keep, Merge}
+use Rattle.slate_compactor_calls.specs.declared.state_phase.RecordStep.{RecordStep}
+use Rattle.slate_compactor_calls.specs.declared.state_phase.RecordStep.TheVariants as steps
+use Rattle.slate_compactor_calls.specs.declared.state_phase.StatePhase.{StatePhase}
+use Rattle.slate_compactor_calls.specs.declared.state_phase.StatePhase.TheVariants.{OnManifest, OnRecord, Over}
+use Rattle.slate_compactor_calls.specs.declared.state_start.TreesWrite.{TreesWrite}
+use Rattle.slate_compactor_writer.specs.StateLaws.{RecordFollows, RefusalsKeepLocal, StepsKeepLocal, TreesStand, after_trees, is_at_record}
 use Rattle.slate_ids.specs.declared.error.SlateDBError.{SlateDBError}
-use Rattle.slate_log.specs.CommitPhase.{commit_goes, CommitGoes}
-use Rattle.slate_log.specs.Fence.{unless, fence}
-use Rattle.slate_log.specs.ReadPhase.{read_goes, Reply}
+use Rattle.slate_log.specs.CommitPhase.{CommitGoes, commit_goes}
+use Rattle.slate_log.specs.Fence.{fence}
+use Rattle.slate_log.specs.ReadPhase.{Reply, read_goes}
 use Rattle.slate_log.specs.declared.commit_phase.CommitPhase.{CommitPhase}
 use Rattle.slate_log.specs.declared.commit_phase.CommitPhase.TheVariants.{Bounding}
+use Rattle.slate_log.specs.declared.log_kind.LogKind.{LogKind}
 use Rattle.slate_log.specs.declared.log_kind.LogKind.TheVariants.{Compactions as RecordLog, Manifest as ManifestLog}
-use Rattle.slate_log.specs.declared.read_phase.ReadPhase.{ReadPhase}
 use Rattle.slate_manifest_parts.specs.Decoding.{decoded_manifest}
 use Rattle.slate_model.specs.declared.manifest.Manifest.{Manifest}
 use Rattle.slate_record_bytes.specs.Records.{decoded_record}
-use Rattle.slate_record_updates.specs.declared.record_change.RecordChange.TheVariants as changes
 use Rattle.slate_records.specs.Records.{Record}
 use Rattle.slate_store.specs.Machines.{Goes, Stay, End}
 use Rattle.slate_store.specs.declared.store_answer.StoreAnswer.{StoreAnswer}
 
+-- ---- where a commit stands
+
+module _ {V : Type 0} where
+  made_never : (now : ℤ) (n : ℕ) (v : V) (commit : Result (Option (CommitPhase V)) SlateDBError) (to : LogWork V) (k : ℕ) (w : V) → change_goes now n v commit ≡ End to (Ok (Committed k w)) → ⊥
+  made_never now n v (Ok (Some commit)) to k w h = absurd cc
+  made_never now n v (Ok None) to k w h = absurd cc
+  made_never now n v (Err e) to k w h = absurd cc
+
+  read_never : (commit : ℤ → ℕ → V → Result (Option (CommitPhase V)) SlateDBError) (now : ℤ) (out : Reply V) (to : LogWork V) (k : ℕ) (w : V) → read_on commit now out ≡ End to (Ok (Committed k w)) → ⊥
+  read_never commit now (Stay phase) to k w h = absurd cc
+  read_never commit now (End phase (Ok None)) to k w h = absurd cc
+  read_never commit now (End phase (Ok (Some version))) to k w h = made_never now version.0 version.1 (commit now version.0 version.1) to k w h
+  read_never commit now (End phase (Err e)) to k w h = absurd cc
+
+  commit_stood : (made : ℤ) (phase : CommitPhase V) (answer : StoreAnswer) (out : CommitGoes V) (to : LogWork V) (k : ℕ) (w : V) → commit_goes phase answer ≡ out → commit_on made out ≡ End to (Ok (Committed k w)) → phase ≡ Bounding k w
+  commit_stood made phase answer (Stay next) to k w same h = absurd cc
+  commit_stood made phase answer (End q (Ok version)) to k w same h = (let stood : phase ≡ Bounding version.0 version.1 = ends_bounding phase answer q version same in let both : phase ≡ Bounding k w = cc in both)
+  commit_stood made phase answer (End q (Err e)) to k w same h = absurd cc
+
+  -- work that ends with what it committed was at the boundary of that
+  work_stood : (log : LogKind) (decoded : List ℕ → Result V SlateDBError) (commit : ℤ → ℕ → V → Result (Option (CommitPhase V)) SlateDBError) (now : ℤ) (work : LogWork V) (answer : StoreAnswer) (to : LogWork V) (k : ℕ) (w : V)
+      → work_goes log decoded commit now work answer ≡ End to (Ok (Committed k w)) → (made : ℤ) × (work ≡ Committing made (Bounding k w))
+  work_stood log decoded commit now (Reading phase) answer to k w h = absurd (read_never commit now (read_goes log decoded phase answer) to k w h)
+  work_stood log decoded commit now (Committing made phase) answer to k w h = (made, ap (λ (c : CommitPhase V). Committing made c) (commit_stood made phase answer (commit_goes phase answer) to k w refl h))
+
+-- the merge's commit is at its boundary
+abbrev Stood : ManifestChanging → Type 0
+Stood p = (made : ℤ) × (n : ℕ) × (m : Manifest) × (p.work ≡ Committing made (Bounding n m))
+
+trees_stand : (write : TreesWrite) (p : ManifestChanging) (c : Compactor) → Stood p → write.whole ≡ true → TreesStand (OnManifest (Merge write) p, c)
+trees_stand write p c stood whole = (write, p.change, stood.0, stood.1, stood.2, ap (λ (w : LogWork Manifest). OnManifest (Merge write) (record { change = p.change; work = w })) stood.3, whole)
+
 -- ---- what a step keeps
 
--- it keeps this local state, unless it ends well
-abbrev Keeps : LocalState → StateGoes → Type 0
-Keeps local (Stay to) = to.1.local ≡ local
-Keeps local (End to (Ok r)) = Unit {0}
-Keeps local (End to (Err e)) = to.1.local ≡ local
+-- a step keeps this local state, unless it ends well or the trees stand, and comes to the record only there or from it
+abbrev Kept : StatePhase → Compactor → StateGoes → Type 0
+Kept from c (Stay to) = ((to.1.local ≡ c.local) × (is_at_record to.0 ≡ true → is_at_record from ≡ true)) ⊎ TreesStand (from, c)
+Kept from c (End to (Ok r)) = Unit {0}
+Kept from c (End to (Err e)) = to.1.local ≡ c.local
 
-to_keeps : (w : Writer) (next : Result StatePhase SlateDBError) → Keeps w.local (goes_to w next)
-to_keeps w (Ok phase) = refl
-to_keeps w (Err e) = refl
+missing_kept : {V : Type 0} (from : StatePhase) (c : Compactor) (next : V → StateGoes) (found : Option V) → ((v : V) → Kept from c (next v)) → Kept from c (or_missing c next found)
+missing_kept from c next None each = refl
+missing_kept from c next (Some v) each = each v
 
-record_keeps : (purpose : RecordUse) (w : Writer) (out : Reply Record) → Keeps w.local (record_read purpose w out)
-record_keeps purpose w (Stay read) = refl
-record_keeps purpose w (End read (Ok None)) = refl
-record_keeps purpose w (End read (Ok (Some v))) = to_keeps (with_record v w) (after_record purpose w v.0 v.1)
-record_keeps purpose w (End read (Err e)) = refl
+follows_kept : (from : StatePhase) (c : Compactor) (v : ℕ × Record) (refusal : Option SlateDBError) → Kept from c (follows c v refusal)
+follows_kept from c v (Some e) = refl
+follows_kept from c v None = inl (refl, λ late. absurd cc)
 
-schedule_keeps : (w : Writer) (out : CommitGoes Record) → Keeps w.local (was_scheduled w out)
-schedule_keeps w (Stay commit) = refl
-schedule_keeps w (End commit (Ok v)) = tt
-schedule_keeps w (End commit (Err e)) = refl
+same_trees : (write : Option TreesWrite) → after_trees (steps.Record write) ≡ true → after_trees (steps.Fetch write) ≡ true
+same_trees (Some write) late = refl
+same_trees None late = absurd cc
 
-statuses_keep : (w : Writer) (out : CommitGoes Record) → Keeps w.local (was_recorded w out)
-statuses_keep w (Stay commit) = refl
-statuses_keep w (End commit (Ok v)) = tt
-statuses_keep w (End commit (Err e)) = refl
+records_kept : (write : Option TreesWrite) (q : RecordChanging) (c : Compactor) (put : Result RecordChanging SlateDBError) → Kept (OnRecord (steps.Fetch write) q) c (records write c put)
+records_kept write q c (Ok p) = inl (refl, same_trees write)
+records_kept write q c (Err e) = refl
 
-local_keeps : (w : Writer) (local : Result LocalState SlateDBError) → Keeps w.local (refreshed_to w local)
-local_keeps w (Ok local) = tt
-local_keeps w (Err e) = refl
+record_kept : (step : RecordStep) (p : RecordChanging) (now : ℤ) (c : Compactor) (v : ℕ × Record) → Kept (OnRecord step p) c (record_next step now c v)
+record_kept steps.Follow p now c v = follows_kept (OnRecord steps.Follow p) c v (fence c.epoch v.1.compactor_epoch)
+record_kept steps.Schedule p now c v = tt
+record_kept (steps.Fetch write) p now c v = records_kept write p c (put_of (statuses_of c.epoch c.local) now v)
+record_kept (steps.Record write) p now c v = tt
 
-refresh_keeps : (w : Writer) (out : Reply Manifest) → Keeps w.local (refresh_read w out)
-refresh_keeps w (Stay read) = refl
-refresh_keeps w (End read (Ok None)) = refl
-refresh_keeps w (End read (Ok (Some v))) = local_keeps (with_manifest v w) (refresh_of w v.1)
-refresh_keeps w (End read (Err e)) = refl
+on_record_kept : (step : RecordStep) (p : RecordChanging) (now : ℤ) (c : Compactor) (out : WorkGoes Record) → Kept (OnRecord step p) c (on_record step now c p out)
+on_record_kept step p now c (Stay work) = inl (refl, λ late. late)
+on_record_kept step p now c (End work (Ok end)) = missing_kept (OnRecord step p) c (record_next step now c) (record_in end) (record_kept step p now c)
+on_record_kept step p now c (End work (Err e)) = refl
 
-manifest_keeps : (moment : ℤ) (write : ManifestWrite) (w : Writer) (out : Reply Manifest) → Keeps w.local (manifest_read moment write w out)
-manifest_keeps moment write w (Stay read) = refl
-manifest_keeps moment write w (End read (Ok None)) = refl
-manifest_keeps moment write w (End read (Ok (Some v))) = to_keeps (with_manifest v w) (after_manifest moment write w v.0 v.1)
-manifest_keeps moment write w (End read (Err e)) = refl
+refreshes_kept : (from : StatePhase) (c : Compactor) (v : ℕ × Manifest) (local : Result LocalState SlateDBError) → Kept from c (refreshes c v local)
+refreshes_kept from c v (Ok local) = tt
+refreshes_kept from c v (Err e) = refl
 
-checkpoint_keeps : (whole : Bool) (w : Writer) (out : CommitGoes Manifest) → Keeps w.local (was_checkpointed whole w out)
-checkpoint_keeps whole w (Stay commit) = refl
-checkpoint_keeps whole w (End commit (Ok v)) = to_keeps (with_manifest v w) (trees_phase whole w v.0 v.1)
-checkpoint_keeps whole w (End commit (Err e)) = refl
+merges_kept : (from : StatePhase) (write : TreesWrite) (c : Compactor) (v : ℕ × Manifest) (put : Result ManifestChanging SlateDBError) → Kept from c (merges write (with_manifest v c) put)
+merges_kept from write c v (Ok p) = inl (refl, λ late. absurd cc)
+merges_kept from write c v (Err e) = refl
 
--- a step of the last commit of the manifest keeps it, or the trees stand
-merged_keeps : (whole : Bool) (commit : CommitPhase Manifest) (w : Writer) (out : CommitGoes Manifest) (answer : StoreAnswer) → commit_goes commit answer ≡ out
-    → Keeps w.local (was_merged whole w out) ⊎ ((n : ℕ) × (m : Manifest) × (commit ≡ Bounding n m) × ((to : StateAt) (e : SlateDBError) → was_merged whole w out ≡ End to (Err e) → ⊥) × ((to : StateAt) → was_merged whole w out ≡ Stay to → whole ≡ true))
-merged_keeps whole commit w (Stay next) answer same = inl refl
-merged_keeps whole commit w (End q (Err e)) answer same = inl refl
-merged_keeps true commit w (End q (Ok v)) answer same = inr (v.0, v.1, ends_bounding commit answer q v same, (λ to e h. absurd cc), λ to h. refl)
-merged_keeps false commit w (End q (Ok v)) answer same = inr (v.0, v.1, ends_bounding commit answer q v same, (λ to e h. absurd cc), λ to h. absurd cc)
+whole_kept : (whole : Bool) (write : TreesWrite) (from : StatePhase) (old new : Compactor) → (whole ≡ true → TreesStand (from, old)) → Kept from old (onward new (next_after whole write))
+whole_kept true write from old new stand = inr (stand refl)
+whole_kept false write from old new stand = tt
 
-err_kept : (local : LocalState) (out : StateGoes) (to : StateAt) (e : SlateDBError) → Keeps local out → out ≡ End to (Err e) → to.1.local ≡ local
-err_kept local (Stay at) to e keeps h = absurd cc
-err_kept local (End at (Ok r)) to e keeps h = absurd cc
-err_kept local (End at (Err k)) to e keeps h = (let both : at ≡ to = cc in sym (ap (λ (p : StateAt). p.1.local) both) ∙ keeps)
+manifest_kept : (step : ManifestStep) (p : ManifestChanging) (now : ℤ) (c : Compactor) (end : LogEnd Manifest) → ((n : ℕ) (m : Manifest) → end ≡ Committed n m → Stood p) → Kept (OnManifest step p) c (manifest_next step now c end)
+manifest_kept Follow p now c end stood = missing_kept (OnManifest Follow p) c _ (manifest_in end) (λ v. refreshes_kept (OnManifest Follow p) c v (refresh_of c v.1))
+manifest_kept (Keep write) p now c end stood = missing_kept (OnManifest (Keep write) p) c (merge_by write now c) (manifest_in end) (λ v. merges_kept (OnManifest (Keep write) p) write c v (manifest_put_of (merge_of c.epoch c.local) now v))
+manifest_kept (Merge write) p now c Absent stood = refl
+manifest_kept (Merge write) p now c (Unchanged n m) stood = refl
+manifest_kept (Merge write) p now c (Committed n m) stood = whole_kept write.whole write (OnManifest (Merge write) p) c _ (λ whole. trees_stand write p c (stood n m refl) whole)
 
-stay_kept : (local : LocalState) (out : StateGoes) (to : StateAt) → Keeps local out → out ≡ Stay to → to.1.local ≡ local
-stay_kept local (Stay at) to keeps h = (let both : at ≡ to = cc in sym (ap (λ (p : StateAt). p.1.local) both) ∙ keeps)
-stay_kept local (End at (Ok r)) to keeps h = absurd cc
-stay_kept local (End at (Err k)) to keeps h = absurd cc
+on_manifest_kept : (step : ManifestStep) (p : ManifestChanging) (now : ℤ) (c : Compactor) (out : WorkGoes Manifest) → ((to : LogWork Manifest) (n : ℕ) (m : Manifest) → out ≡ End to (Ok (Committed n m)) → Stood p) → Kept (OnManifest step p) c (on_manifest step now c p out)
+on_manifest_kept step p now c (Stay work) stood = inl (refl, λ late. late)
+on_manifest_kept step p now c (End work (Ok end)) stood = manifest_kept step p now c end (λ n m same. stood work n m (ap (λ (k : LogEnd Manifest). End work (Ok k)) same))
+on_manifest_kept step p now c (End work (Err e)) stood = refl
+
+stood_at : (now : ℤ) (p : ManifestChanging) (answer : StoreAnswer) (to : LogWork Manifest) (n : ℕ) (m : Manifest) → work_goes ManifestLog decoded_manifest (manifest_put p.change) now p.work answer ≡ End to (Ok (Committed n m)) → Stood p
+stood_at now p answer to n m h = (let stood = work_stood ManifestLog decoded_manifest (manifest_put p.change) now p.work answer to n m h in (stood.0, n, m, stood.1))
+
+all_kept : (now : ℤ) (from : StatePhase) (c : Compactor) (answer : StoreAnswer) → Kept from c (state_goes now (from, c) answer)
+all_kept now (OnRecord step p) c answer = on_record_kept step p now c (work_goes RecordLog decoded_record (record_put p.change) now p.work answer)
+all_kept now (OnManifest step p) c answer = on_manifest_kept step p now c (work_goes ManifestLog decoded_manifest (manifest_put p.change) now p.work answer) (stood_at now p answer)
+all_kept now Over c answer = refl
+
+-- ---- the laws
 
 pub refusals_keep : RefusalsKeepLocal
-refusals_keep moment (ReadingRecord purpose counts read, w) to answer e h = err_kept w.local _ to e (record_keeps purpose w (read_goes RecordLog decoded_record read answer)) h
-refusals_keep moment (CommittingSchedule commit, w) to answer e h = err_kept w.local _ to e (schedule_keeps w (commit_goes commit answer)) h
-refusals_keep moment (CommittingStatuses commit, w) to answer e h = err_kept w.local _ to e (statuses_keep w (commit_goes commit answer)) h
-refusals_keep moment (RefreshingManifest counts read, w) to answer e h = err_kept w.local _ to e (refresh_keeps w (read_goes ManifestLog decoded_manifest read answer)) h
-refusals_keep moment (ReadingManifest write read, w) to answer e h = err_kept w.local _ to e (manifest_keeps moment write w (read_goes ManifestLog decoded_manifest read answer)) h
-refusals_keep moment (CommittingCheckpoint whole commit, w) to answer e h = err_kept w.local _ to e (checkpoint_keeps whole w (commit_goes commit answer)) h
-refusals_keep moment (CommittingTrees whole commit, w) to answer e h = elim (merged_keeps whole commit w (commit_goes commit answer) answer refl) [
-  | inl keeps ↦ err_kept w.local _ to e keeps h
-  | inr stands ↦ absurd (stands.3 to e h)
-]
-refusals_keep moment (Over, w) to answer e h = err_kept w.local _ to e refl h
+refusals_keep moment at to answer e h = subst (λ (out : StateGoes). Kept at.0 at.1 out) h (all_kept moment at.0 at.1 answer)
 
 pub steps_keep : StepsKeepLocal
-steps_keep moment (ReadingRecord purpose counts read, w) to answer h = inl (stay_kept w.local _ to (record_keeps purpose w (read_goes RecordLog decoded_record read answer)) h)
-steps_keep moment (CommittingSchedule commit, w) to answer h = inl (stay_kept w.local _ to (schedule_keeps w (commit_goes commit answer)) h)
-steps_keep moment (CommittingStatuses commit, w) to answer h = inl (stay_kept w.local _ to (statuses_keep w (commit_goes commit answer)) h)
-steps_keep moment (RefreshingManifest counts read, w) to answer h = inl (stay_kept w.local _ to (refresh_keeps w (read_goes ManifestLog decoded_manifest read answer)) h)
-steps_keep moment (ReadingManifest write read, w) to answer h = inl (stay_kept w.local _ to (manifest_keeps moment write w (read_goes ManifestLog decoded_manifest read answer)) h)
-steps_keep moment (CommittingCheckpoint whole commit, w) to answer h = inl (stay_kept w.local _ to (checkpoint_keeps whole w (commit_goes commit answer)) h)
-steps_keep moment (CommittingTrees whole commit, w) to answer h = elim (merged_keeps whole commit w (commit_goes commit answer) answer refl) [
-  | inl keeps ↦ inl (stay_kept w.local _ to keeps h)
-  | inr stands ↦ inr (stands.0, stands.1, ap (λ (b : Bool). CommittingTrees b commit) (stands.4 to h) ∙ ap (λ (k : CommitPhase Manifest). CommittingTrees true k) stands.2)
+steps_keep moment at to answer h = elim (subst (λ (out : StateGoes). Kept at.0 at.1 out) h (all_kept moment at.0 at.1 answer)) [
+  | inl kept ↦ inl kept.0
+  | inr stand ↦ inr stand
 ]
-steps_keep moment (Over, w) to answer h = absurd cc
-
--- ---- when the record comes
-
--- whether a call is at the record, which it comes to from elsewhere
-abbrev is_late : StatePhase → Bool
-is_late (ReadingRecord purpose counts read) = not counts
-is_late _ = false
-
--- the same of how it goes on, and of what follows
-abbrev comes_late : StateGoes → Bool
-comes_late (Stay to) = is_late to.0
-comes_late (End to r) = false
-
-abbrev follows_late : Result StatePhase SlateDBError → Bool
-follows_late (Ok phase) = is_late phase
-follows_late (Err e) = false
-
-to_early : (w : Writer) (next : Result StatePhase SlateDBError) → follows_late next ≡ false → comes_late (goes_to w next) ≡ false
-to_early w (Ok phase) early = early
-to_early w (Err e) early = refl
-
-fence_early : (refusal : Option SlateDBError) (next : Result StatePhase SlateDBError) → follows_late next ≡ false → follows_late (unless refusal next) ≡ false
-fence_early None next early = early
-fence_early (Some e) next early = refl
-
-leads_early : {X : Type 0} (to : X → StatePhase) (x : Result X SlateDBError) → ((k : X) → is_late (to k) ≡ false) → follows_late (leads to x) ≡ false
-leads_early to (Ok k) early = early k
-leads_early to (Err e) early = refl
-
-after_early : (purpose : RecordUse) (w : Writer) (n : ℕ) (r : Record) → follows_late (after_record purpose w n r) ≡ false
-after_early Refresh w n r = fence_early (fence w.epoch r.compactor_epoch) _ refl
-after_early (Schedule id) w n r = leads_early CommittingSchedule (record_change_put (changes.Schedule (Some w.epoch) id) n r) (λ k. refl)
-after_early Statuses w n r = leads_early CommittingStatuses (record_change_put (changes.PutStatuses (Some w.epoch) w.local.compactions w.local.pending) n r) (λ k. refl)
-
-or_early : (whole : Bool) (w : Writer) (n : ℕ) (m : Manifest) (commit : Result (Option (CommitPhase Manifest)) SlateDBError) → follows_late (checkpoint_or_trees whole w n m commit) ≡ false
-or_early whole w n m (Ok (Some commit)) = refl
-or_early whole w n m (Ok None) = leads_early (CommittingTrees whole) (trees_put w.epoch w.local n m) (λ k. refl)
-or_early whole w n m (Err e) = refl
-
-record_early : (purpose : RecordUse) (w : Writer) (out : Reply Record) → comes_late (record_read purpose w out) ≡ false
-record_early purpose w (Stay read) = refl
-record_early purpose w (End read (Ok None)) = refl
-record_early purpose w (End read (Ok (Some v))) = to_early (with_record v w) (after_record purpose w v.0 v.1) (after_early purpose w v.0 v.1)
-record_early purpose w (End read (Err e)) = refl
-
-schedule_early : (w : Writer) (out : CommitGoes Record) → comes_late (was_scheduled w out) ≡ false
-schedule_early w (Stay commit) = refl
-schedule_early w (End commit (Ok v)) = refl
-schedule_early w (End commit (Err e)) = refl
-
-statuses_early : (w : Writer) (out : CommitGoes Record) → comes_late (was_recorded w out) ≡ false
-statuses_early w (Stay commit) = refl
-statuses_early w (End commit (Ok v)) = refl
-statuses_early w (End commit (Err e)) = refl
-
-local_early : (w : Writer) (local : Result LocalState SlateDBError) → comes_late (refreshed_to w local) ≡ false
-local_early w (Ok local) = refl
-local_early w (Err e) = refl
-
-refresh_early : (w : Writer) (out : Reply Manifest) → comes_late (refresh_read w out) ≡ false
-refresh_early w (Stay read) = refl
-refresh_early w (End read (Ok None)) = refl
-refresh_early w (End read (Ok (Some v))) = local_early (with_manifest v w) (refresh_of w v.1)
-refresh_early w (End read (Err e)) = refl
-
-manifest_early : (moment : ℤ) (write : ManifestWrite) (w : Writer) (out : Reply Manifest) → comes_late (manifest_read moment write w out) ≡ false
-manifest_early moment write w (Stay read) = refl
-manifest_early moment write w (End read (Ok None)) = refl
-manifest_early moment write w (End read (Ok (Some v))) =
-    to_early (with_manifest v w) (after_manifest moment write w v.0 v.1) (or_early write.whole w v.0 v.1 (change_put (KeepTrees (Some w.epoch) write.checkpoint) moment v.0 v.1))
-manifest_early moment write w (End read (Err e)) = refl
-
-checkpoint_early : (whole : Bool) (w : Writer) (out : CommitGoes Manifest) → comes_late (was_checkpointed whole w out) ≡ false
-checkpoint_early whole w (Stay commit) = refl
-checkpoint_early whole w (End commit (Ok v)) = to_early (with_manifest v w) (trees_phase whole w v.0 v.1) (leads_early (CommittingTrees whole) (trees_put w.epoch w.local v.0 v.1) (λ k. refl))
-checkpoint_early whole w (End commit (Err e)) = refl
-
--- what isn't there doesn't come to the record
-never_late : (out : StateGoes) (purpose : RecordUse) (read : ReadPhase Record) (w : Writer) → comes_late out ≡ false → out ≡ Stay (ReadingRecord purpose false read, w) → ⊥
-never_late out purpose read w early h = (let both : comes_late out ≡ true = ap comes_late h in absurd cc)
-
-merged_stands : (whole : Bool) (commit : CommitPhase Manifest) (w : Writer) (out : CommitGoes Manifest) (answer : StoreAnswer) → commit_goes commit answer ≡ out → comes_late (was_merged whole w out) ≡ true → TreesStand (CommittingTrees whole commit, w)
-merged_stands whole commit w (Stay next) answer same late = absurd cc
-merged_stands whole commit w (End q (Err e)) answer same late = absurd cc
-merged_stands true commit w (End q (Ok v)) answer same late = (v.0, v.1, ap (λ (k : CommitPhase Manifest). CommittingTrees true k) (ends_bounding commit answer q v same))
-merged_stands false commit w (End q (Ok v)) answer same late = absurd cc
 
 pub record_follows : RecordFollows
-record_follows moment (ReadingRecord other counts read, w) answer purpose next to h = absurd (never_late _ purpose next to (record_early other w (read_goes RecordLog decoded_record read answer)) h)
-record_follows moment (CommittingSchedule commit, w) answer purpose next to h = absurd (never_late _ purpose next to (schedule_early w (commit_goes commit answer)) h)
-record_follows moment (CommittingStatuses commit, w) answer purpose next to h = absurd (never_late _ purpose next to (statuses_early w (commit_goes commit answer)) h)
-record_follows moment (RefreshingManifest counts read, w) answer purpose next to h = absurd (never_late _ purpose next to (refresh_early w (read_goes ManifestLog decoded_manifest read answer)) h)
-record_follows moment (ReadingManifest write read, w) answer purpose next to h = absurd (never_late _ purpose next to (manifest_early moment write w (read_goes ManifestLog decoded_manifest read answer)) h)
-record_follows moment (CommittingCheckpoint whole commit, w) answer purpose next to h = absurd (never_late _ purpose next to (checkpoint_early whole w (commit_goes commit answer)) h)
-record_follows moment (CommittingTrees whole commit, w) answer purpose next to h = merged_stands whole commit w (commit_goes commit answer) answer refl (ap comes_late h)
-record_follows moment (Over, w) answer purpose next to h = absurd cc
+record_follows moment at to answer h late = elim (subst (λ (out : StateGoes). Kept at.0 at.1 out) h (all_kept moment at.0 at.1 answer)) [
+  | inl kept ↦ inl (kept.1 late)
+  | inr stand ↦ inr stand
+]

@@ -1,50 +1,52 @@
 -- The plain calls of a compactor on its state, whole.
-use Rattle.std.specs.Prelude.{◌≡◌, ℕ, ℤ, true, false, List, Result}
-use Rattle.slate_compactor_writer.specs.Retrying.{retrying}
-use Rattle.slate_compactor_writer.specs.StateSteps.{StateAt, StateGoes, state_asks, state_goes, state_starts}
-use Rattle.slate_compactor_writer.specs.Writer.{Writer}
-use Rattle.slate_compactor_writer.specs.declared.state_phase.ManifestWrite.{ManifestWrite}
-use Rattle.slate_compactor_writer.specs.declared.state_phase.RecordUse.{RecordUse}
-use Rattle.slate_compactor_writer.specs.declared.state_phase.StatePhase.{StatePhase}
-use Rattle.slate_compactor_writer.specs.declared.state_phase.StatePhase.TheVariants.{ReadingRecord, ReadingManifest}
-use Rattle.slate_compactor_writer.specs.declared.state_phase.StateStart.{StateStart}
-use Rattle.slate_compactor_writer.specs.declared.state_phase.StateStart.TheVariants.{AtRecord, AtManifest}
+use Rattle.std.specs.Prelude.{◌≡◌, ◌⊎◌, ◌<◌, ℕ, ℤ, Bool, true, false, List, Result}
+use Rattle.slate_changes.specs.Turns.{Turn, is_turned, turn_asks, turn_goes}
+use Rattle.slate_compactor_calls.specs.StateSteps.{StateAt, start_phase, state_asks, state_goes, state_lists_again, state_rank}
+use Rattle.slate_compactor_calls.specs.declared.compactor.Compactor.{Compactor}
+use Rattle.slate_compactor_calls.specs.declared.state_phase.StatePhase.{StatePhase}
+use Rattle.slate_compactor_calls.specs.declared.state_start.StateStart.{StateStart}
 use Rattle.slate_ids.specs.Answers.{OrMemory}
 use Rattle.slate_ids.specs.declared.error.SlateDBError.{SlateDBError}
-use Rattle.slate_log.specs.declared.read_phase.ReadPhase.TheVariants.{Listing}
 use Rattle.slate_store.specs.Calls.{Told}
+use Rattle.slate_store.specs.Machines.{Goes}
 use Rattle.slate_store.specs.Runs.{Began, Ran}
 use Rattle.slate_store.specs.declared.store_answer.StoreAnswer.{StoreAnswer}
+use Rattle.slate_store.specs.declared.store_call.StoreCall.{StoreCall}
 
--- where a call begins, also after a conflict
-abbrev pub start_phase : StateStart → StatePhase
-start_phase (AtRecord purpose) = ReadingRecord purpose true Listing
-start_phase (AtManifest write) = ReadingManifest write Listing
+-- the one call of a phase
+abbrev pub asks_at : List ℕ → StateAt → StoreCall
+asks_at db at = state_asks db at.0
 
--- a call begins again with what is held by then
+-- a step led back to a list of the same log
+abbrev pub lists_again : StateAt → StateAt → Bool
+lists_again from to = state_lists_again from.0 to.0
+
+-- after a conflict a call begins again, with what is held by then
 abbrev pub begins_again : StateStart → StateAt → StateAt
-begins_again start at = (start_phase start, at.1)
+begins_again start at = (start_phase start at.1, at.1)
+
+abbrev pub first_turn : StateStart → Compactor → Turn StateAt
+first_turn start c = ((start_phase start c, c), false)
 
 -- how a plain call goes on
-abbrev pub state_retrying : StateStart → ℤ → StateAt → StoreAnswer → StateGoes
-state_retrying start moment at answer = retrying (begins_again start) (state_goes moment) at answer
+abbrev pub state_turning : StateStart → ℤ → Turn StateAt → StoreAnswer → Goes (Turn StateAt) (Unit {0})
+state_turning start now = turn_goes lists_again (begins_again start) (state_goes now)
 
 -- a plain call ran, from what was held before it to what is held after it
-abbrev pub StateRan : StateStart → ℤ → ℕ → Told → Told → Writer → Writer → Result (Unit {0}) SlateDBError → Type 0
-StateRan start moment tries old new from to result =
-    (phase : StatePhase) × Ran state_starts state_asks (state_retrying start moment) moment tries old new (start_phase start, from) (phase, to) result
+abbrev pub StateRan : List ℕ → StateStart → ℤ → ℕ → Told → Told → Compactor → Compactor → Result (Unit {0}) SlateDBError → Type 0
+StateRan db start moment tries old new from to result =
+    (phase : StatePhase) × (turned : Bool) × Ran is_turned (turn_asks (asks_at db)) (state_turning start moment) moment tries old new (first_turn start from) ((phase, to), turned) result
 
 -- memory ran out within it
-abbrev pub StateBegan : StateStart → ℤ → ℕ → Told → Told → Writer → Writer → Type 0
-StateBegan start moment tries old new from to =
-    (phase : StatePhase) × Began state_starts state_asks (state_retrying start moment) moment tries old new (start_phase start, from) (phase, to)
+abbrev pub StateBegan : List ℕ → StateStart → ℤ → ℕ → Told → Told → Compactor → Compactor → Type 0
+StateBegan db start moment tries old new from to =
+    (phase : StatePhase) × (turned : Bool) × Began is_turned (turn_asks (asks_at db)) (state_turning start moment) moment tries old new (first_turn start from) ((phase, to), turned)
 
 -- a whole plain call
-abbrev pub StateCalled : StateStart → ℤ → ℕ → Told → Told → Writer → Writer → Result (Unit {0}) SlateDBError → Type 0
-StateCalled start moment tries old new from to result =
-    OrMemory result (StateBegan start moment tries old new from to) (StateRan start moment tries old new from to result)
+abbrev pub StateCalled : List ℕ → StateStart → ℤ → ℕ → Told → Told → Compactor → Compactor → Result (Unit {0}) SlateDBError → Type 0
+StateCalled db start moment tries old new from to result =
+    OrMemory result (StateBegan db start moment tries old new from to) (StateRan db start moment tries old new from to result)
 
--- the database and the epoch stay
-pub record KeepsOwn (old new : Writer) : Type 0 where
-  pub db : new.db ≡ old.db
-  pub epoch : new.epoch ≡ old.epoch
+-- a step used a turn, or fewer steps of the turn are left
+abbrev pub StateTurnFalls : StatePhase → StatePhase → Bool → Type 0
+StateTurnFalls from to turned = (turned ≡ true) ⊎ (state_rank to < state_rank from)

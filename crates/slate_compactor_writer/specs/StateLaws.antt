@@ -1,20 +1,34 @@
 -- What the calls of a compactor keep to, in words of what is held and of what stands.
-use Rattle.std.specs.Prelude.{◌≡◌, ◌⊎◌, ℕ, ℤ, true, false, Err}
-use Rattle.slate_compactor_writer.specs.StateSteps.{StateAt, state_goes}
-use Rattle.slate_compactor_writer.specs.Writer.{Writer}
-use Rattle.slate_compactor_writer.specs.declared.state_phase.RecordUse.{RecordUse}
-use Rattle.slate_compactor_writer.specs.declared.state_phase.StatePhase.TheVariants.{CommittingTrees, ReadingRecord}
+use Rattle.std.specs.Prelude.{◌≡◌, ◌⊎◌, ℕ, ℤ, Bool, true, false, Option, Some, Err}
+use Rattle.slate_compactor_calls.specs.Commits.{committing}
+use Rattle.slate_compactor_calls.specs.StateSteps.{StateAt, state_goes}
+use Rattle.slate_compactor_calls.specs.declared.state_phase.ManifestStep.TheVariants.{Merge}
+use Rattle.slate_compactor_calls.specs.declared.state_phase.RecordStep.{RecordStep}
+use Rattle.slate_compactor_calls.specs.declared.state_phase.RecordStep.TheVariants.{Fetch, Record}
+use Rattle.slate_compactor_calls.specs.declared.state_phase.StatePhase.{StatePhase}
+use Rattle.slate_compactor_calls.specs.declared.state_phase.StatePhase.TheVariants.{OnManifest, OnRecord}
+use Rattle.slate_compactor_calls.specs.declared.state_start.TreesWrite.{TreesWrite}
 use Rattle.slate_ids.specs.declared.error.SlateDBError.{SlateDBError}
 use Rattle.slate_log.specs.declared.commit_phase.CommitPhase.TheVariants.{Bounding}
-use Rattle.slate_log.specs.declared.read_phase.ReadPhase.{ReadPhase}
 use Rattle.slate_model.specs.declared.manifest.Manifest.{Manifest}
-use Rattle.slate_records.specs.Records.{Record}
 use Rattle.slate_store.specs.Machines.{Stay, End}
 use Rattle.slate_store.specs.declared.store_answer.StoreAnswer.{StoreAnswer}
+use Rattle.slate_updates.specs.declared.manifest_change.ManifestChange.{ManifestChange}
 
 -- the manifest with the local trees stands, and the record is to be written after it
 abbrev pub TreesStand : StateAt → Type 0
-TreesStand at = (n : ℕ) × (m : Manifest) × (at.0 ≡ CommittingTrees true (Bounding n m))
+TreesStand at = (write : TreesWrite) × (change : Option ManifestChange) × (made : ℤ) × (n : ℕ) × (m : Manifest)
+    × (at.0 ≡ OnManifest (Merge write) (committing change made (Bounding n m))) × (write.whole ≡ true)
+
+-- whether a call is at the record, after the manifest with the local trees
+abbrev pub after_trees : RecordStep → Bool
+after_trees (Fetch (Some write)) = true
+after_trees (Record (Some write)) = true
+after_trees _ = false
+
+abbrev pub is_at_record : StatePhase → Bool
+is_at_record (OnRecord step p) = after_trees step
+is_at_record _ = false
 
 -- a refusal leaves the local state as it was
 abbrev pub RefusalsKeepLocal : Type 0
@@ -26,5 +40,4 @@ StepsKeepLocal = (moment : ℤ) (at to : StateAt) (answer : StoreAnswer) → sta
 
 -- a write of the whole state comes to the record only where the manifest with the local trees stands
 abbrev pub RecordFollows : Type 0
-RecordFollows = (moment : ℤ) (at : StateAt) (answer : StoreAnswer) (purpose : RecordUse) (read : ReadPhase Record) (w : Writer)
-    → state_goes moment at answer ≡ Stay (ReadingRecord purpose false read, w) → TreesStand at
+RecordFollows = (moment : ℤ) (at to : StateAt) (answer : StoreAnswer) → state_goes moment at answer ≡ Stay to → is_at_record to.0 ≡ true → (is_at_record at.0 ≡ true) ⊎ TreesStand at

@@ -1,40 +1,25 @@
 -- What the writer of a compactor's state holds.
-use Rattle.std.specs.Prelude.{ℕ, List}
-use Rattle.slate_compactor.specs.Local.{opened}
+use Rattle.std.specs.Prelude.{◌≡◌, ℕ, List, Result, Ok, Err}
 use Rattle.slate_compactor.specs.declared.local_state.LocalState.{LocalState}
-use Rattle.slate_model.specs.declared.manifest.Manifest.{Manifest}
-use Rattle.slate_records.specs.Records.{Record}
+use Rattle.slate_compactor_calls.specs.Compactors.{with_local}
+use Rattle.slate_compactor_calls.specs.declared.compactor.Compactor.{Compactor}
+use Rattle.slate_ids.specs.declared.error.SlateDBError.{SlateDBError}
 
--- the epoch that it committed in both logs, the versions of both that it read or committed last, and what it holds between its calls
+-- the database, and what a compactor holds of it
 pub record Writer : Type 0 where
   pub db : List ℕ
-  pub epoch : ℕ
-  pub record_id : ℕ
-  pub compactions : Record
-  pub manifest_id : ℕ
-  pub manifest : Manifest
-  pub local : LocalState
+  pub compactor : Compactor
 
--- it holds this version of the record
-abbrev pub with_record : ℕ × Record → Writer → Writer
-with_record v w = record w { record_id = v.0; compactions = v.1 }
+-- after the end of a compaction it has this local state
+abbrev pub ended : LocalState → Writer → Writer
+ended local w = record w { compactor = with_local local w.compactor }
 
--- it holds this version of the manifest
-abbrev pub with_manifest : ℕ × Manifest → Writer → Writer
-with_manifest v w = record w { manifest_id = v.0; manifest = v.1 }
+-- the writer of a compactor that was opened
+abbrev pub held_by : List ℕ → Result Compactor SlateDBError → Result Writer SlateDBError
+held_by db (Ok c) = Ok (record { db = db; compactor = c })
+held_by db (Err e) = Err e
 
--- it has this local state
-abbrev pub with_local : LocalState → Writer → Writer
-with_local local w = record w { local = local }
-
--- the writer that an open makes of the manifest with its epoch and of the record that it committed last
-abbrev pub opened_writer : List ℕ → ℕ × Manifest → ℕ × Record → Writer
-opened_writer db m r = record {
-  db = db;
-  epoch = m.1.compactor_epoch;
-  record_id = r.0;
-  compactions = r.1;
-  manifest_id = m.0;
-  manifest = m.1;
-  local = opened m.1.core r.1;
-}
+-- the database and the epoch stay
+pub record KeepsOwn (old new : Writer) : Type 0 where
+  pub db : new.db ≡ old.db
+  pub epoch : new.compactor.epoch ≡ old.compactor.epoch

@@ -3,7 +3,6 @@ ghost use Rattle.slate_compactor_writer.specs.StateLaws.{RecordFollows, Refusals
 
 /// A step of a call on the state that ends in a refusal leaves the local state as it was. So does one that goes on, but where the manifest
 /// with the local trees stands. And a write of the whole state comes to the record only there: never before the manifest.
-#[tactic(auto, using(crate::proofs::StateLaws::refusals_keep, crate::proofs::StateLaws::steps_keep))]
 pub fn records_follow_manifests()
     ensures refusals { RefusalsKeepLocal }
     ensures onward { StepsKeepLocal }

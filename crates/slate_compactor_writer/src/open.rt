@@ -1,22 +1,145 @@
-//! The open of a database by a compactor.
-ghost use Rattle.std.specs.Prelude.{◌≡◌, ◌<◌, true};
-ghost use Rattle.slate_compactor_writer.specs.Opening.{open_asks, open_due, open_goes, open_start, Opens};
+//! The open of a database by a compactor, as a machine and as a plain call.
+ghost use Rattle.std.specs.Prelude.{◌<◌, ◌≡◌, false, true};
+ghost use Rattle.slate_compactor_calls.specs.Opening.{open_asks, open_due, open_start, OpenFalls};
+ghost use Rattle.slate_compactor_writer.specs.Opening.{open_turning, writer_goes, OpenTurnFalls, Opens};
+ghost use Rattle.slate_compactor_writer.specs.Writer.{held_by};
 ghost use Rattle.slate_log.specs.Due.{FaultOf, FaultRose, StillDue};
-ghost use Rattle.slate_store.specs.Machines.{Steps};
+ghost use Rattle.slate_replies.specs.Replies.{step_as};
+ghost use Rattle.slate_store.specs.Machines.{IsAgain, Steps};
 
 use crate::compactor_writer::CompactorStateWriter;
-use crate::open_phase::OpenPhase;
 use slate_compactions::records_are_plain;
+use slate_compactor_calls::{Compactor, OpenPhase};
 use slate_ids::{DbPath, Millis, SlateDBError};
-use slate_log::ReadPhase;
-use slate_store::{ObjectStore, Step};
+use slate_store::{ObjectStore, Step, perform};
 use std::alloc::Global;
+use std::mem;
 
 /// The machine of an open, which makes one try of each commit.
 #[derive(Drop)]
 pub struct OpenStateMachine {
     pub db: DbPath,
     pub phase: OpenPhase,
+}
+
+impl CompactorStateWriter {
+    /// The machine of `new`, which makes one try of each commit.
+    pub fn start_new(db: DbPath) -> OpenStateMachine
+        ensures db { result.db ≡ db }
+        ensures phase { result.phase ≡ open_start }
+    {
+        OpenStateMachine {
+            db,
+            phase: OpenPhase::start(),
+        }
+    }
+}
+
+// The step of a machine that ends with the writer of this database.
+fn held_step(db: DbPath, step: Step<Compactor>) -> Step<CompactorStateWriter>
+    ensures { result ≡ step_as (held_by db) step }
+{
+    match step {
+        Step::Again => Step::Again,
+        Step::Done(Ok(compactor)) => Step::Done(Ok(CompactorStateWriter { db, compactor })),
+        Step::Done(Err(e)) => Step::Done(Err(e)),
+    }
+}
+
+impl OpenStateMachine {
+    /// Whether a call is due. None is after an end, unless memory ran out.
+    pub fn due(&self) -> bool
+        ensures { result ≡ open_due self.now.phase }
+    {
+        self.phase.due()
+    }
+
+    // Begins again.
+    fn begin_again(&mut self)
+        ensures db { self.new.db ≡ self.old.db }
+        ensures phase { self.new.phase ≡ open_start }
+    {
+        drop(mem::replace(&mut self.phase, OpenPhase::start()));
+    }
+
+    /// Makes the one call that is due. A conflict ends it. Running out of memory leaves the machine as it was, and any other end leaves none
+    /// due.
+    pub fn next<S: ObjectStore>(
+        &mut self,
+        alloc: Global,
+        store: &mut S,
+        moment: Millis,
+    ) -> Step<CompactorStateWriter>
+        requires due { open_due self.now.phase ≡ true }
+        ensures steps { Steps (S.told store.old) (S.told store.new) (open_asks self.old.db self.old.phase) moment
+            (writer_goes self.old.db moment self.old.phase) self.old.phase self.new.phase result }
+        ensures falls { IsAgain result → OpenFalls self.old.phase self.new.phase }
+        ensures db { self.new.db ≡ self.old.db }
+        ensures due { StillDue result (open_due self.new.phase) }
+        ensures fault { FaultRose (S.told store.old) (S.told store.new) result }
+    {
+        records_are_plain();
+        match self.phase.asks(alloc, self.db) {
+            Ok(call) => {
+                let performed = perform(alloc, store, &call, moment);
+                drop(call);
+                match performed {
+                    Ok(answer) => {
+                        let step = self.phase.goes_on(alloc, self.db, moment, &answer);
+                        drop(answer);
+                        held_step(self.db, step)
+                    }
+                    Err(_) => Step::Done(Err(SlateDBError::OutOfMemory)),
+                }
+            }
+            Err(_) => Step::Done(Err(SlateDBError::OutOfMemory)),
+        }
+    }
+}
+
+// An open as its plain call drives it.
+#[derive(Drop)]
+struct OpenTurns {
+    machine: OpenStateMachine,
+    // Whether the last step used a turn.
+    is_turned: bool,
+}
+
+impl OpenTurns {
+    // Makes the one call that is due; after a conflict all begins again.
+    fn next<S: ObjectStore>(
+        &mut self,
+        alloc: Global,
+        store: &mut S,
+        moment: Millis,
+    ) -> Step<CompactorStateWriter>
+        requires due { open_due self.now.machine.phase ≡ true }
+        ensures steps { Steps (S.told store.old) (S.told store.new) (open_asks self.old.machine.db self.old.machine.phase) moment
+            (open_turning self.old.machine.db moment (self.old.machine.phase, self.old.is_turned))
+            (self.old.machine.phase, self.old.is_turned) (self.new.machine.phase, self.new.is_turned) result }
+        ensures falls { IsAgain result → OpenTurnFalls self.old.machine.phase self.new.machine.phase self.new.is_turned }
+        ensures db { self.new.machine.db ≡ self.old.machine.db }
+        ensures due { StillDue result (open_due self.new.machine.phase) }
+    {
+        let raises = self.machine.phase.raises();
+        match self.machine.next(alloc, store, moment) {
+            Step::Again => {
+                self.is_turned = self.machine.phase.lists(raises);
+                Step::Again
+            }
+            Step::Done(Ok(writer)) => Step::Done(Ok(writer)),
+            Step::Done(Err(e)) => {
+                if e.is_conflict() {
+                    drop(e);
+                    self.machine.begin_again();
+                    self.is_turned = true;
+                    Step::Again
+                } else {
+                    Step::Done(Err(e))
+                }
+            }
+        }
+    }
 }
 
 impl CompactorStateWriter {
@@ -43,61 +166,26 @@ impl CompactorStateWriter {
         ensures fault { FaultOf (S.told store.old) (S.told store.new) result }
     {
         records_are_plain();
-        let mut phase = OpenPhase::ReadingManifest(ReadPhase::Listing);
+        let mut turns = OpenTurns {
+            machine: CompactorStateWriter::start_new(db),
+            is_turned: false,
+        };
         let mut left = tries;
         loop {
-            match phase.next_try(alloc, db, store, moment) {
+            match turns.next(alloc, store, moment) {
                 Step::Done(result) => {
-                    drop(phase);
+                    drop(turns);
                     return result;
                 }
                 Step::Again => {}
             }
-            if phase.is_start() {
+            if turns.is_turned {
                 if left == 1 {
-                    drop(phase);
+                    drop(turns);
                     return Err(SlateDBError::Contended);
                 }
                 left -= 1;
             }
         }
-    }
-
-    /// The machine of `new`, which makes one try of each commit.
-    pub fn start_new(db: DbPath) -> OpenStateMachine
-        ensures db { result.db ≡ db }
-        ensures phase { result.phase ≡ open_start }
-    {
-        OpenStateMachine {
-            db,
-            phase: OpenPhase::ReadingManifest(ReadPhase::Listing),
-        }
-    }
-}
-
-impl OpenStateMachine {
-    /// Whether a call is due. None is after an end, unless memory ran out.
-    pub fn due(&self) -> bool
-        ensures { result ≡ open_due self.now.phase }
-    {
-        self.phase.due()
-    }
-
-    /// Makes the one call that is due. A conflict ends it. Running out of memory leaves the machine as it was, and any other end leaves none
-    /// due.
-    pub fn next<S: ObjectStore>(
-        &mut self,
-        alloc: Global,
-        store: &mut S,
-        moment: Millis,
-    ) -> Step<CompactorStateWriter>
-        requires due { open_due self.now.phase ≡ true }
-        ensures steps { Steps (S.told store.old) (S.told store.new) (open_asks self.old.db self.old.phase) moment
-            (open_goes self.old.db self.old.phase) self.old.phase self.new.phase result }
-        ensures db { self.new.db ≡ self.old.db }
-        ensures due { StillDue result (open_due self.new.phase) }
-        ensures fault { FaultRose (S.told store.old) (S.told store.new) result }
-    {
-        self.phase.next(alloc, self.db, store, moment)
     }
 }

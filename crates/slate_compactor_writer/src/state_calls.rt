@@ -1,61 +1,25 @@
 //! The calls of a compactor on its state.
 ghost use Rattle.std.specs.Prelude.{◌<◌, pos, true, false};
-ghost use Rattle.slate_compactor_writer.specs.StateCalls.{KeepsOwn, StateCalled};
-ghost use Rattle.slate_compactor_writer.specs.declared.state_phase.RecordUse.TheVariants.{Refresh, Schedule, Statuses};
-ghost use Rattle.slate_compactor_writer.specs.declared.state_phase.StateStart.TheVariants.{AtManifest, AtRecord};
+ghost use Rattle.slate_compactor_calls.specs.declared.state_start.StateStart.TheVariants.{Refresh, Schedule, WriteRecord, WriteTrees};
+ghost use Rattle.slate_compactor_writer.specs.StateCalls.{StateCalled};
+ghost use Rattle.slate_compactor_writer.specs.Writer.{KeepsOwn};
 ghost use Rattle.slate_log.specs.Due.{FaultOf};
 
 use crate::compactor_writer::CompactorStateWriter;
-use crate::state_phase::{ManifestWrite, RecordUse, StateStart};
-use slate_compactions::records_are_plain;
+use slate_compactor_calls::{StateStart, TreesWrite};
 use slate_ids::{CheckpointId, Millis, SlateDBError, Ulid};
-use slate_store::{ObjectStore, Step};
+use slate_store::ObjectStore;
 use std::alloc::Global;
 
 impl CompactorStateWriter {
-    // A call on the state, from where it begins until it ends or the tries are used up.
-    fn call<S: ObjectStore>(
-        &mut self,
-        alloc: Global,
-        start: StateStart,
-        store: &mut S,
-        moment: Millis,
-        tries: u32,
-    ) -> Result<(), SlateDBError>
-        requires { 0 < tries }
-        ensures call { StateCalled start moment tries (S.told store.old) (S.told store.new) self.old self.new result }
-        ensures own { KeepsOwn self.old self.new }
-        ensures fault { FaultOf (S.told store.old) (S.told store.new) result }
-    {
-        records_are_plain();
-        let mut phase = start.phase();
-        let mut left = tries;
-        loop {
-            match phase.next_try(alloc, start, self, store, moment) {
-                Step::Done(result) => {
-                    drop(phase);
-                    return result;
-                }
-                Step::Again => {}
-            }
-            if phase.is_start() {
-                if left == 1 {
-                    drop(phase);
-                    return Err(SlateDBError::Contended);
-                }
-                left -= 1;
-            }
-        }
-    }
-
     /// Reads the latest version of the record and then that of the manifest, and holds each. The local record is then the one read with the
     /// local statuses of compactions that are over, and the local trees are merged with those of the manifest, as a compactor follows a
     /// writer. What is pending stays, and so does the epoch.
     ///
     /// Refused with `Fenced` where a version has a greater epoch, with `LatestTransactionalObjectVersionMissing` where a log has no version,
-    /// and with `SegmentWithoutWriter` where a local segment holds tables and the manifest has none of its prefix: then what was read is held
-    /// and the local state stays. A read starts again where its version is gone when it is got, or is at or below the boundary: of both logs
-    /// together so often as there are tries, then `Contended`. Commits nothing.
+    /// and with `SegmentWithoutWriter` where a local segment holds tables and the manifest has none of its prefix: then the version that
+    /// refused it isn't held, and the local state stays. A read starts again where its version is gone when it is got, or is at or below the
+    /// boundary: of both logs together so often as there are tries, then `Contended`. Commits nothing.
     pub fn refresh<S: ObjectStore>(
         &mut self,
         alloc: Global,
@@ -63,28 +27,22 @@ impl CompactorStateWriter {
         tries: u32,
     ) -> Result<(), SlateDBError>
         requires { 0 < tries }
-        ensures call { StateCalled (AtRecord Refresh) (pos 0) tries
-            (S.told store.old) (S.told store.new) self.old self.new result }
+        ensures call { StateCalled self.old.db Refresh (pos 0) tries (S.told store.old) (S.told store.new)
+            self.old.compactor self.new.compactor result }
         ensures own { KeepsOwn self.old self.new }
         ensures fault { FaultOf (S.told store.old) (S.told store.new) result }
     {
-        self.call(
-            alloc,
-            StateStart::AtRecord(RecordUse::Refresh),
-            store,
-            0,
-            tries,
-        )
+        self.call(alloc, StateStart::Refresh, store, 0, tries)
     }
 
-    /// Commits the record read with this compaction Scheduled. The local record is then the one committed with the local statuses of
+    /// Commits the record read with this compaction Scheduled. That is held, and the local record is the same with the local statuses of
     /// compactions that are over; all else stays.
     ///
     /// Refused with `Fenced` where the record read has a greater epoch, and with `InvalidDBState`: `NoSuchCompaction` where it lacks the
-    /// compaction, `CompactionState` where that isn't Submitted; then what was read is held and the local state stays. After a conflict it
-    /// begins again: each uses a turn, and so does each version that is gone when it is got, or is at or below the boundary; where all
-    /// `tries` are used the answer is `Contended`. A refusal leaves no commit, unless the one that it made lost its answer or the boundary
-    /// after it couldn't be read. `moment` is in milliseconds since the Unix epoch.
+    /// compaction, `CompactionState` where that isn't Submitted; then all that is held stays. After a conflict it begins again: each uses a
+    /// turn, and so does each version that is gone when it is got, or is at or below the boundary; where all `tries` are used the answer is
+    /// `Contended`. A refusal leaves no commit, unless the one that it made lost its answer or the boundary after it couldn't be read.
+    /// `moment` is in milliseconds since the Unix epoch.
     pub fn schedule<S: ObjectStore>(
         &mut self,
         alloc: Global,
@@ -94,13 +52,12 @@ impl CompactorStateWriter {
         tries: u32,
     ) -> Result<(), SlateDBError>
         requires { 0 < tries }
-        ensures call { StateCalled (AtRecord (Schedule id)) moment tries
-            (S.told store.old) (S.told store.new) self.old self.new result }
+        ensures call { StateCalled self.old.db (Schedule id) moment tries (S.told store.old) (S.told store.new)
+            self.old.compactor self.new.compactor result }
         ensures own { KeepsOwn self.old self.new }
         ensures fault { FaultOf (S.told store.old) (S.told store.new) result }
     {
-        let start = StateStart::AtRecord(RecordUse::Schedule(id));
-        self.call(alloc, start, store, moment, tries)
+        self.call(alloc, StateStart::Schedule(id), store, moment, tries)
     }
 
     /// Commits the manifest read with a checkpoint of this id, which keeps for a quarter of an hour what the local trees drop, and then that
@@ -112,8 +69,8 @@ impl CompactorStateWriter {
     /// initialised and lacks the checkpoint, with `SegmentWithoutWriter` where a local segment holds tables and the manifest has none of its
     /// prefix, and by the rules on new versions. After a conflict at either commit it begins again: each uses a turn, and so does each
     /// version that is gone when it is got, or is at or below the boundary; where all `tries` are used the answer is `Contended`. A refusal
-    /// leaves the checkpoint where its commit stood, also in an earlier turn; the local state changes with the second commit alone.
-    /// `moment` is in milliseconds since the Unix epoch.
+    /// leaves the checkpoint where its commit stood, also in an earlier turn; the manifest with it is held then, and the local state changes
+    /// with the second commit alone. `moment` is in milliseconds since the Unix epoch.
     pub fn write_manifest_safely<S: ObjectStore>(
         &mut self,
         alloc: Global,
@@ -123,25 +80,25 @@ impl CompactorStateWriter {
         tries: u32,
     ) -> Result<(), SlateDBError>
         requires { 0 < tries }
-        ensures call { StateCalled (AtManifest (record { checkpoint = checkpoint; whole = false })) moment tries
-            (S.told store.old) (S.told store.new) self.old self.new result }
+        ensures call { StateCalled self.old.db (WriteTrees (record { checkpoint = checkpoint; whole = false })) moment tries
+            (S.told store.old) (S.told store.new) self.old.compactor self.new.compactor result }
         ensures own { KeepsOwn self.old self.new }
         ensures fault { FaultOf (S.told store.old) (S.told store.new) result }
     {
-        let write = ManifestWrite {
+        let write = TreesWrite {
             checkpoint,
             whole: false,
         };
-        self.call(alloc, StateStart::AtManifest(write), store, moment, tries)
+        self.call(alloc, StateStart::WriteTrees(write), store, moment, tries)
     }
 
     /// Commits the record read with the local statuses of compactions that are over; of these the last one and those that are pending stay
-    /// in it. The local record is then the one committed; all else stays.
+    /// in it. That is held and is the local record then; all else stays.
     ///
     /// Refused with `Fenced` where the record read has a greater epoch, with `LatestTransactionalObjectVersionMissing` where there is none,
-    /// and by the rules on new records; then what was read is held and the local state stays. After a conflict it begins again: each uses a
-    /// turn, and so does each version that is gone when it is got, or is at or below the boundary; where all `tries` are used the answer is
-    /// `Contended`. `moment` is in milliseconds since the Unix epoch.
+    /// and by the rules on new records; then all that is held stays. After a conflict it begins again: each uses a turn, and so does each
+    /// version that is gone when it is got, or is at or below the boundary; where all `tries` are used the answer is `Contended`. `moment` is
+    /// in milliseconds since the Unix epoch.
     pub fn write_compactions_safely<S: ObjectStore>(
         &mut self,
         alloc: Global,
@@ -150,13 +107,12 @@ impl CompactorStateWriter {
         tries: u32,
     ) -> Result<(), SlateDBError>
         requires { 0 < tries }
-        ensures call { StateCalled (AtRecord Statuses) moment tries
-            (S.told store.old) (S.told store.new) self.old self.new result }
+        ensures call { StateCalled self.old.db WriteRecord moment tries (S.told store.old) (S.told store.new)
+            self.old.compactor self.new.compactor result }
         ensures own { KeepsOwn self.old self.new }
         ensures fault { FaultOf (S.told store.old) (S.told store.new) result }
     {
-        let start = StateStart::AtRecord(RecordUse::Statuses);
-        self.call(alloc, start, store, moment, tries)
+        self.call(alloc, StateStart::WriteRecord, store, moment, tries)
     }
 
     /// The manifest as `write_manifest_safely`, and after it the record as `write_compactions_safely`: never the record first, so that no
@@ -174,15 +130,15 @@ impl CompactorStateWriter {
         tries: u32,
     ) -> Result<(), SlateDBError>
         requires { 0 < tries }
-        ensures call { StateCalled (AtManifest (record { checkpoint = checkpoint; whole = true })) moment tries
-            (S.told store.old) (S.told store.new) self.old self.new result }
+        ensures call { StateCalled self.old.db (WriteTrees (record { checkpoint = checkpoint; whole = true })) moment tries
+            (S.told store.old) (S.told store.new) self.old.compactor self.new.compactor result }
         ensures own { KeepsOwn self.old self.new }
         ensures fault { FaultOf (S.told store.old) (S.told store.new) result }
     {
-        let state = ManifestWrite {
+        let write = TreesWrite {
             checkpoint,
             whole: true,
         };
-        self.call(alloc, StateStart::AtManifest(state), store, moment, tries)
+        self.call(alloc, StateStart::WriteTrees(write), store, moment, tries)
     }
 }

@@ -145,6 +145,7 @@ const REFUSALS: &[(&str, &[Row])] = &[
             (Of(0, WriteRecord), Refused(2)),
             (Of(0, WriteState), Refused(2)),
             (Latest, Numbers(3, 9)),
+            (Of(0, Held), Numbers(2, 7)),
             (Of(0, Epoch), Number(1)),
             (Of(0, Pending), Number(1)),
         ],
@@ -177,7 +178,7 @@ const REFUSALS: &[(&str, &[Row])] = &[
             (Of(0, Pending), Number(0)),
         ],
     ),
-    // What was read is held, and what is local stays.
+    // The record that was read is held, the manifest that refused it isn't, and what is local stays. The manifest with the checkpoint is held.
     (
         "a segment without a writer is refused",
         &[
@@ -187,11 +188,12 @@ const REFUSALS: &[(&str, &[Row])] = &[
             (Rewrite(Other::NoSegments), Done),
             (Submit, Done),
             (Of(0, Refresh), Refused(15)),
-            (Of(0, Held), Numbers(4, 4)),
+            (Of(0, Held), Numbers(3, 4)),
             (Of(0, Segments), Number(1)),
             (Of(0, Local), Status(None)),
             (Of(0, WriteManifest), Refused(15)),
             (Latest, Numbers(5, 4)),
+            (Of(0, Held), Numbers(5, 4)),
         ],
     ),
     (

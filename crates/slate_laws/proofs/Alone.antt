@@ -44,7 +44,8 @@ use Rattle.slate_passes.specs.GcPhase.{GcGoes, gc_asks, gc_goes, gc_due, read_on
 use Rattle.slate_passes.specs.Pass.{pass_asks, pass_goes, manifests_goes, decoded_goes, got_goes, bounded_goes, chosen_goes, advance_to, deletes_next, advanced_goes}
 use Rattle.slate_passes.specs.declared.directory_options.GarbageCollectorDirectoryOptions.{GarbageCollectorDirectoryOptions}
 use Rattle.slate_passes.specs.declared.gc_phase.GcPhase.{GcPhase}
-use Rattle.slate_passes.specs.declared.gc_phase.GcPhase.TheVariants.{Reading, Committing, Collecting}
+use Rattle.slate_changes.specs.declared.log_work.LogWork.TheVariants.{Reading, Committing}
+use Rattle.slate_passes.specs.declared.gc_phase.GcPhase.TheVariants.{Removing, Collecting}
 use Rattle.slate_passes.specs.declared.pass_counts.PassCounts.{PassCounts}
 use Rattle.slate_passes.specs.declared.pass_phase.PassPhase.TheVariants as passing
 use Rattle.slate_passes.specs.declared.pass_settings.PassSettings.{PassSettings}
@@ -181,13 +182,13 @@ pub record IsFirst (left : List ObjectMetadata) (counts : PassCounts) : Type 0 w
 
 -- what is known in a phase
 abbrev pub Knows : List ℕ → Store → GcPhase → Type 0
-Knows db s (Reading reading.Listing) = Unit {0}
-Knows db s (Reading (reading.Getting n)) = (v : Manifest) × IsLatest db s n v × IsUp db s n
-Knows db s (Reading (reading.Bounding n v)) = IsLatest db s n v × IsUp db s n
-Knows db s (Reading reading.Over) = ⊥
-Knows db s (Committing now (committing.Putting n bytes v)) = (n < 2 ^ 64) × (object_at (version_path ManifestLog db n) s ≡ None) × IsUp db s n
-Knows db s (Committing now (committing.Bounding n v)) = IsUp db s n
-Knows db s (Committing now committing.Over) = ⊥
+Knows db s (Removing (Reading reading.Listing)) = Unit {0}
+Knows db s (Removing (Reading (reading.Getting n))) = (v : Manifest) × IsLatest db s n v × IsUp db s n
+Knows db s (Removing (Reading (reading.Bounding n v))) = IsLatest db s n v × IsUp db s n
+Knows db s (Removing (Reading reading.Over)) = ⊥
+Knows db s (Removing (Committing now (committing.Putting n bytes v))) = (n < 2 ^ 64) × (object_at (version_path ManifestLog db n) s ≡ None) × IsUp db s n
+Knows db s (Removing (Committing now (committing.Bounding n v))) = IsUp db s n
+Knows db s (Removing (Committing now committing.Over)) = ⊥
 Knows db s (Collecting at (passing.ReadingRecord phase)) = ⊥
 Knows db s (Collecting at (passing.ReadingManifest least phase)) = ⊥
 Knows db s (Collecting at (passing.Fetching heads phase)) = ⊥
@@ -201,13 +202,13 @@ Knows db s (Collecting at passing.Over) = ⊥
 
 -- where so much is known a call is due
 pub known_due : (db : List ℕ) (s : Store) (phase : GcPhase) → Knows db s phase → gc_due phase ≡ true
-known_due db s (Reading reading.Listing) h = refl
-known_due db s (Reading (reading.Getting n)) h = refl
-known_due db s (Reading (reading.Bounding n v)) h = refl
-known_due db s (Reading reading.Over) h = absurd h
-known_due db s (Committing now (committing.Putting n bytes v)) h = refl
-known_due db s (Committing now (committing.Bounding n v)) h = refl
-known_due db s (Committing now committing.Over) h = absurd h
+known_due db s (Removing (Reading reading.Listing)) h = refl
+known_due db s (Removing (Reading (reading.Getting n))) h = refl
+known_due db s (Removing (Reading (reading.Bounding n v))) h = refl
+known_due db s (Removing (Reading reading.Over)) h = absurd h
+known_due db s (Removing (Committing now (committing.Putting n bytes v))) h = refl
+known_due db s (Removing (Committing now (committing.Bounding n v))) h = refl
+known_due db s (Removing (Committing now committing.Over)) h = absurd h
 known_due db s (Collecting at (passing.ReadingRecord phase)) h = absurd h
 known_due db s (Collecting at (passing.ReadingManifest least phase)) h = absurd h
 known_due db s (Collecting at (passing.Fetching heads phase)) h = absurd h
@@ -251,8 +252,8 @@ module _ (facts : Facts) (call : Call) (db : List ℕ) (options : GarbageCollect
 
   -- what a pass leaves, from a phase on: by the store there, the answers from there on, the reply, and the store at the end
   abbrev pub Ends : GcPhase → Store → List Answered → Reply → Store → Type 0
-  Ends (Reading phase) s answers r t = RemovalEnds db settings word (pass_answers call (standing (Reading phase)) answers) r t
-  Ends (Committing now phase) s answers r t = RemovalEnds db settings word (pass_answers call (standing (Committing now phase)) answers) r t
+  Ends (Removing (Reading phase)) s answers r t = RemovalEnds db settings word (pass_answers call (standing (Removing (Reading phase))) answers) r t
+  Ends (Removing (Committing now phase)) s answers r t = RemovalEnds db settings word (pass_answers call (standing (Removing (Committing now phase))) answers) r t
   Ends (Collecting at (passing.ReadingRecord phase)) s answers r t = ⊥
   Ends (Collecting at (passing.ReadingManifest least phase)) s answers r t = ⊥
   Ends (Collecting at (passing.Fetching heads phase)) s answers r t = ⊥
@@ -278,15 +279,15 @@ module _ (facts : Facts) (call : Call) (db : List ℕ) (options : GarbageCollect
   Removed s (End phase (Err e)) = e ≡ Exhausted last_number
 
   removal_brings : (s : Store) (moment : ℤ) (g : GcGoes) → Removed s g → Brings s (λ answers r t. RemovalEnds db settings word (pass_answers call (next_of moment g) answers) r t) g
-  removal_brings s moment (Stay (Reading phase)) h = (h.0, λ answers r t e. e)
-  removal_brings s moment (Stay (Committing now phase)) h = (h.0, λ answers r t e. e)
+  removal_brings s moment (Stay (Removing (Reading phase))) h = (h.0, λ answers r t e. e)
+  removal_brings s moment (Stay (Removing (Committing now phase))) h = (h.0, λ answers r t e. e)
   removal_brings s moment (Stay (Collecting None (passing.Listing heads versions))) h = (h.0, λ answers r t e. e)
   removal_brings s moment (Stay (Collecting _ _)) h = absurd h.1
   removal_brings s moment (End phase (Ok counts)) h = absurd h
   removal_brings s moment (End phase (Err e)) h = Lacks refl (ap (λ (x : SlateDBError). Refused x) h)
 
   -- what is made without the expired checkpoints is committed, or there is no number left for it
-  removal_made : (s : Store) (now : ℤ) (n : ℕ) (v : Manifest) → IsLatest db s n v → IsUp db s n → Removed s (removal_goes of.Manifest now (commit_of encoded DropExpired now n v))
+  removal_made : (s : Store) (now : ℤ) (n : ℕ) (v : Manifest) → IsLatest db s n v → IsUp db s n → Removed s (removal_goes of.Manifest now n v (commit_of encoded DropExpired now n v))
   removal_made s now n v h up = by_expired (list_any (is_expired now) v.core.checkpoints)
     where
       keep : Checkpoint → Bool
@@ -296,14 +297,14 @@ module _ (facts : Facts) (call : Call) (db : List ℕ) (options : GarbageCollect
       new = less (λ c. not (is_expired now c)) v
 
       by_number : HasBytes new → (b : Bool) → (n == last_number) ≡ b
-          → Removed s (removal_goes of.Manifest now (some_commit (if b then Err (Exhausted n) else checked_commit (manifest_refusal n v new Plain) (n + 1) new (encoded new))))
+          → Removed s (removal_goes of.Manifest now n v (some_commit (if b then Err (Exhausted n) else checked_commit (manifest_refusal n v new Plain) (n + 1) new (encoded new))))
       by_number k true is = ap (λ (i : ℕ). Exhausted i) (is_last n is)
         where
           is_last : (i : ℕ) → (i == last_number) ≡ true → i ≡ last_number
           is_last i e = grind (arith, nat_tests)
       by_number k false is =
-          subst (λ (o : Option SlateDBError). Removed s (removal_goes of.Manifest now (some_commit (checked_commit o (n + 1) new (encoded new))))) (sym (less_lawful n v keep h.apart))
-          (subst (λ (r : Result (List ℕ) SlateDBError). Removed s (removal_goes of.Manifest now (some_commit (encoded_commit (n + 1) new r)))) (sym k.is) ((fits n is h.small, h.free (fits n is h.small), λ b e. above b n (up b e)), tt))
+          subst (λ (o : Option SlateDBError). Removed s (removal_goes of.Manifest now n v (some_commit (checked_commit o (n + 1) new (encoded new))))) (sym (less_lawful n v keep h.apart))
+          (subst (λ (r : Result (List ℕ) SlateDBError). Removed s (removal_goes of.Manifest now n v (some_commit (encoded_commit (n + 1) new r)))) (sym k.is) ((fits n is h.small, h.free (fits n is h.small), λ b e. above b n (up b e)), tt))
         where
           fits : (i : ℕ) → (i == last_number) ≡ false → i < 2 ^ 64 → i + 1 < 2 ^ 64
           fits i e lt = grind (arith, nat_tests)
@@ -311,7 +312,7 @@ module _ (facts : Facts) (call : Call) (db : List ℕ) (options : GarbageCollect
           above : (b i : ℕ) → b < i → b < i + 1
           above b i lt = omega arith
 
-      by_expired : (b : Bool) → Removed s (removal_goes of.Manifest now (wanted (λ m. prepared manifest_refusal encoded n v m Plain) (floored v.core.floor (if b then Ok (Some (with_checkpoints (filter (λ c. not (is_expired now c)) v.core.checkpoints) v)) else Ok None))))
+      by_expired : (b : Bool) → Removed s (removal_goes of.Manifest now n v (wanted (λ m. prepared manifest_refusal encoded n v m Plain) (floored v.core.floor (if b then Ok (Some (with_checkpoints (filter (λ c. not (is_expired now c)) v.core.checkpoints) v)) else Ok None))))
       by_expired false = (tt, tt)
       by_expired true = by_number (subst (λ (m : Manifest). HasBytes (less (λ c. not (is_expired now c)) m)) (sym h.normal) (removal_bytes h.source h.bytes (λ c. not (is_expired now c)) h.encodes)) (n == last_number) refl
 
@@ -329,7 +330,7 @@ module _ (facts : Facts) (call : Call) (db : List ℕ) (options : GarbageCollect
     above_test : (n : ℕ) → IsUp db s n → nat_le n fine.bound ≡ false
     above_test n up = not_at_most n fine.bound (up fine.bound fine.read)
 
-    read_step : (phase : ReadPhase Manifest) → Knows db s (Reading phase)
+    read_step : (phase : ReadPhase Manifest) → Knows db s (Removing (Reading phase))
         → Removed s (read_on encoded of.Manifest moment (read_goes ManifestLog decoded_manifest phase (whole (read_asks db ManifestLog phase) moment s).answer))
     read_step reading.Listing h =
         subst (λ (o : Option ℕ). Removed s (read_on encoded of.Manifest moment (read_listed o))) (sym fine.greatest) ((fine.value, fine.latest, top_up), tt)
@@ -348,7 +349,7 @@ module _ (facts : Facts) (call : Call) (db : List ℕ) (options : GarbageCollect
           apart : paths.ManifestBoundary db ≡ paths.Manifest db n → ⊥
           apart e = absurd cc
 
-      commit_step : (since : ℤ) (phase : CommitPhase Manifest) → Knows db s (Committing since phase)
+      commit_step : (since : ℤ) (phase : CommitPhase Manifest) → Knows db s (Removing (Committing since phase))
           → Removed (whole (commit_asks db ManifestLog phase) moment s).store (commit_on of.Manifest since (commit_goes phase (whole (commit_asks db ManifestLog phase) moment s).answer))
       commit_step since (committing.Putting n bytes v) h =
           subst (λ (o : Option StoredObject). Removed (put_new o (version_path ManifestLog db n) bytes moment s).store (commit_on of.Manifest since (commit_goes (committing.Putting n bytes v) (put_new o (version_path ManifestLog db n) bytes moment s).answer))) (sym h.1)
@@ -483,7 +484,7 @@ module _ (facts : Facts) (call : Call) (db : List ℕ) (options : GarbageCollect
     pub step_brings : is_db_path db ≡ true → (phase : GcPhase) → Knows db s phase
         → Brings (whole (gc_asks db of.Manifest phase) moment s).store (λ answers r t. Ends phase s (((whole (gc_asks db of.Manifest phase) moment s).answer, moment) ∷ answers) r t)
         (gc_goes (pass_ways word) settings moment phase (whole (gc_asks db of.Manifest phase) moment s).answer)
-    step_brings named (Reading phase) h =
+    step_brings named (Removing (Reading phase)) h =
         removal_brings (whole (read_asks db ManifestLog phase) moment s).store moment (read_on encoded of.Manifest moment (read_goes ManifestLog decoded_manifest phase (whole (read_asks db ManifestLog phase) moment s).answer))
         (subst (λ (t : Store). Removed t (read_on encoded of.Manifest moment (read_goes ManifestLog decoded_manifest phase (whole (read_asks db ManifestLog phase) moment s).answer))) (read_same phase) (read_step phase h))
       where
@@ -492,7 +493,7 @@ module _ (facts : Facts) (call : Call) (db : List ℕ) (options : GarbageCollect
         read_same (reading.Getting n) = refl
         read_same (reading.Bounding n v) = refl
         read_same reading.Over = refl
-    step_brings named (Committing since phase) h =
+    step_brings named (Removing (Committing since phase)) h =
         removal_brings (whole (commit_asks db ManifestLog phase) moment s).store moment (commit_on of.Manifest since (commit_goes phase (whole (commit_asks db ManifestLog phase) moment s).answer))
         (commit_step named since phase h)
     step_brings named (Collecting at (passing.ReadingRecord phase)) h = absurd h

@@ -1,6 +1,7 @@
 -- What a call makes of its work's end.
 use Rattle.std.proofs.Common.{◌≡◌, ℕ, ℤ, ◌+◌, ◌<◌, ◌≤◌, ◌^◌, ◌==◌, Bool, true, false, true≢false, List, Option, Some, None, Result, Ok, Err, refl, sym, ap, ◌∙◌, subst, ◌⊎◌, inl, inr, arith}
 use Rattle.std.proofs.lemmas.Bool.Decides.{nat_tests}
+use Rattle.slate_changes.specs.Changes.{fence_by, made_by, right_by, holder_fence}
 use Rattle.slate_ids.specs.Limits.{last_number}
 use Rattle.slate_ids.specs.declared.gc_message.GcMessage.{GcMessage}
 use Rattle.slate_ids.specs.declared.gc_message.GcMessage.TheVariants as of
@@ -12,14 +13,15 @@ use Rattle.slate_model.specs.declared.manifest.Manifest.{Manifest}
 use Rattle.slate_records.specs.Records.{Record}
 use Rattle.slate_record_bytes.specs.Records.{decoded_record}
 use Rattle.slate_layout.specs.RecordCodec.{record_encoded}
-use Rattle.slate_record_updates.specs.RecordChanges.{made as record_made, right_of as record_right_of, fence_of as record_fence_of, compactor_fence}
+use Rattle.slate_record_updates.specs.RecordChanges.{made as record_made, right_of as record_right_of, fence_of as record_fence_of}
 use Rattle.slate_record_updates.specs.RecordRules.{record_refusal_of}
 use Rattle.slate_store.specs.Machines.{Stay, End}
 use Rattle.slate_store.specs.Store.{Store}
 use Rattle.slate_store.specs.declared.store_answer.StoreAnswer.{StoreAnswer}
 use Rattle.slate_store.specs.declared.store_answer.StoreAnswer.TheVariants.{Written}
-use Rattle.slate_updates.specs.Changes.{commit_of}
+use Rattle.slate_updates.specs.Changes.{commit_of, made as change_made, right_of as change_right, fence_of as change_fence}
 use Rattle.slate_updates.specs.Rules.{manifest_refusal}
+use Rattle.slate_updates.specs.declared.manifest_change.ManifestChange.{ManifestChange}
 use Rattle.slate_updates.specs.declared.manifest_change.ManifestChange.TheVariants.{DropExpired}
 use Rattle.slate_log.specs.CommitPhase.{CommitGoes, commit_goes, encoded_commit}
 use Rattle.slate_log.specs.ReadPhase.{Reply, read_goes}
@@ -31,7 +33,8 @@ use Rattle.slate_passes.specs.GcPhase.{GcGoes, gc_goes, removal_goes, moment_of_
 use Rattle.slate_passes.specs.GcPhase as whole
 use Rattle.slate_passes.specs.Pass.{PassGoes, first_phase, pass_goes}
 use Rattle.slate_passes.specs.declared.gc_phase.GcPhase.{GcPhase}
-use Rattle.slate_passes.specs.declared.gc_phase.GcPhase.TheVariants.{Reading, Committing, Collecting}
+use Rattle.slate_changes.specs.declared.log_work.LogWork.TheVariants.{Reading, Committing}
+use Rattle.slate_passes.specs.declared.gc_phase.GcPhase.TheVariants.{Removing, Collecting}
 use Rattle.slate_passes.specs.declared.pass_settings.PassSettings.{PassSettings}
 use Rattle.slate_events.specs.declared.filter_word.FilterWord.{FilterWord}
 use Rattle.slate_events.specs.declared.call.Call.{Call}
@@ -43,12 +46,10 @@ use Rattle.slate_record_bytes.specs.RecordNormal.{normal_record}
 use Rattle.slate_protocol.specs.Calls.{has_call, pass_settings, refusal_at_start, facts_at_start, change_of, again, done_once, done_merged, done, record_change_of, record_again, record_done_once, record_done, refresh_next, first_of, facts_after, Next, Go, Finish}
 use Rattle.slate_protocol.specs.Chains.{Link, Log, link_at, top}
 use Rattle.slate_protocol.specs.Logs.{Chains, Phrase, Reads, Commits, Uploads, Collects, manifests, records, log_of, phrase_of}
-use Rattle.slate_protocol.specs.PartyChanges.{change_made, change_right, change_fence, made_by, right_by, fence_by, manifest_commit}
+use Rattle.slate_protocol.specs.PartyChanges.{manifest_commit}
 use Rattle.slate_protocol.specs.Rows.{Standing, first_next, begin_unless, begin, commit_for, last_next, then_next, commit_next, record_commit_for, record_next, record_then, first_put, no_record, after, ended, follow}
 use Rattle.slate_protocol.specs.Works.{WorkGoes, db_of, read_on, commit_on, record_read_on, record_commit_on, put_end, pass_on, pass_ways, goes}
 use Rattle.slate_protocol.specs.declared.party.Facts.{Facts}
-use Rattle.slate_protocol.specs.declared.party_change.PartyChange.{PartyChange}
-use Rattle.slate_protocol.specs.declared.party_change.PartyChange.TheVariants.{Shared}
 use Rattle.slate_protocol.specs.declared.uploads.Upload.{Upload}
 use Rattle.slate_protocol.specs.declared.work.Ended.{Ended}
 use Rattle.slate_protocol.specs.declared.work.Ended.TheVariants.{NoManifest, ManifestRead, ManifestCommitted, NoRecord, RecordRead, RecordCommitted, TablePut, Passed}
@@ -67,7 +68,7 @@ use Rattle.slate_laws.proofs.Steps.{author_of, PhraseKnows, PhraseBrings}
 -- the work of a pass is that of a pass over the manifests that keeps the boundary, in a call that drops the expired checkpoints
 pub record FitsPass (call : Call) (settings : PassSettings) : Type 0 where
   pub over : settings ≡ manifest_pass settings.options
-  pub drops : (facts : Facts) → change_of facts call Once ≡ Some (Shared DropExpired)
+  pub drops : (facts : Facts) → change_of facts call Once ≡ Some DropExpired
 
 abbrev pub Fits : Call → Work → Type 0
 Fits call (works.Pass db settings filter phase) = FitsPass call settings
@@ -170,7 +171,7 @@ module _ (Has : List ℕ → Type 0) (s : Store) (chains : Chains) (n : ℕ) (ca
   refresh_reaches facts by (Some e) has = tt
 
   record_once_reaches : (facts : Facts) (by : Call) (r : Record) → Has facts.db → NextKnows Has s chains n facts by (record_done_once facts by r)
-  record_once_reaches facts Refresh r has = refresh_reaches facts Refresh (compactor_fence facts.epoch r.compactor_epoch) has
+  record_once_reaches facts Refresh r has = refresh_reaches facts Refresh (holder_fence facts.epoch r.compactor_epoch) has
   record_once_reaches facts _ r has = tt
 
   record_done_reaches : (facts : Facts) (by : Call) (purpose : Purpose) (r : Record) → Has facts.db → NextKnows Has s chains n facts by (record_done facts by purpose r)
@@ -289,8 +290,8 @@ module _ (Has : List ℕ → Type 0) (s : Store) (chains : Chains) (n : ℕ) (ca
       begins : GcBrings (whole.collects settings.pass)
       begins = (is_manifest, subst (λ (p : GcMessage). PassKnows s (chains logs.Manifest db) db (first_phase p)) (sym is_manifest) tt)
 
-      removal_brings : (now : ℤ) (k : ℕ) (m : Manifest) (r : Result (Option (CommitPhase Manifest)) SlateDBError) → IsValue (chains logs.Manifest db) k m → commit_of encoded DropExpired now k m ≡ r → GcBrings (removal_goes settings.pass now r)
-      removal_brings now k m (Ok (Some commit)) v h = made_next facts Once db i now k m commit v (ap (λ (change : Option PartyChange). manifest_commit change now k m) (fits.drops facts) ∙ h)
+      removal_brings : (now : ℤ) (k : ℕ) (m : Manifest) (r : Result (Option (CommitPhase Manifest)) SlateDBError) → IsValue (chains logs.Manifest db) k m → commit_of encoded DropExpired now k m ≡ r → GcBrings (removal_goes settings.pass now k m r)
+      removal_brings now k m (Ok (Some commit)) v h = made_next facts Once db i now k m commit v (ap (λ (change : Option ManifestChange). manifest_commit change now k m) (fits.drops facts) ∙ h)
       removal_brings now k m (Ok None) v h = begins
       removal_brings now k m (Err e) v h = tt
 
@@ -310,8 +311,8 @@ module _ (Has : List ℕ → Type 0) (s : Store) (chains : Chains) (n : ℕ) (ca
       gc_collect at now (End phase r) b = tt
 
       gc_brings : (phase : GcPhase) (now : ℤ) (answer : StoreAnswer) → PhraseBrings s chains n facts call (phrase_of (works.Pass db settings filter phase)) now answer → GcBrings (gc_goes (pass_ways filter) settings now phase answer)
-      gc_brings (Reading phase) now answer b = gc_read now (read_goes logs.Manifest decoded_manifest phase answer) b
-      gc_brings (Committing at phase) now answer b = gc_commit at (commit_goes phase answer) b
+      gc_brings (Removing (Reading phase)) now answer b = gc_read now (read_goes logs.Manifest decoded_manifest phase answer) b
+      gc_brings (Removing (Committing at phase)) now answer b = gc_commit at (commit_goes phase answer) b
       gc_brings (Collecting at phase) now answer b =
           let moment = moment_of_pass at now in
           gc_collect at moment (pass_goes (pass_ways filter) settings moment phase answer)

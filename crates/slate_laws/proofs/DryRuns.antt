@@ -16,7 +16,8 @@ use Rattle.slate_passes.specs.Exact.{Answered, Chosen, or_nothing, picked_above,
 use Rattle.slate_passes.specs.GcPhase.{GcGoes, gc_goes, gc_start, moment_of_pass}
 use Rattle.slate_passes.specs.Rows.{reads_greatest}
 use Rattle.slate_passes.specs.declared.gc_phase.GcPhase.{GcPhase}
-use Rattle.slate_passes.specs.declared.gc_phase.GcPhase.TheVariants.{Reading, Committing, Collecting}
+use Rattle.slate_changes.specs.declared.log_work.LogWork.TheVariants.{Reading, Committing}
+use Rattle.slate_passes.specs.declared.gc_phase.GcPhase.TheVariants.{Removing, Collecting}
 use Rattle.slate_passes.specs.declared.heads.Heads.{Heads}
 use Rattle.slate_passes.specs.declared.pass_phase.PassPhase.{PassPhase}
 use Rattle.slate_passes.specs.declared.pass_phase.PassPhase.TheVariants as passing
@@ -61,8 +62,8 @@ module _ (pass : GcMessage) (min_age : ℕ) (word : FilterWord) where
   none_in now _ answer = refl
 
   none_at : (moment : ℤ) (phase : GcPhase) (answer : StoreAnswer) → NonePicked (picked_at (pass_ways word) settings moment phase answer)
-  none_at moment (Reading phase) answer = refl
-  none_at moment (Committing made phase) answer = refl
+  none_at moment (Removing (Reading phase)) answer = refl
+  none_at moment (Removing (Committing made phase)) answer = refl
   none_at moment (Collecting at phase) answer = none_in (moment_of_pass at moment) phase answer
 
   none_either : (a b : Option Chosen) → NonePicked a → NonePicked b → NonePicked (option_or a b)

@@ -1,6 +1,7 @@
 -- In a call under way a store call is due.
 use Rattle.std.proofs.Common.{◌≡◌, ℕ, ℤ, ◌+◌, ◌==◌, nat_le, Bool, true, false, List, [], ◌∷◌, drop, length, Option, Some, None, Result, Ok, Err, refl}
 use Rattle.std.specs.Prelude.{if◌then◌else◌}
+use Rattle.slate_changes.specs.Changes.{fence_by, made_by, right_by, holder_fence}
 use Rattle.slate_ids.specs.Limits.{last_number}
 use Rattle.slate_ids.specs.declared.error.SlateDBError.{SlateDBError}
 use Rattle.slate_ids.specs.declared.error.SlateDBError.TheVariants.{TransactionalObjectVersionExists, ManifestMissing, Exhausted}
@@ -10,7 +11,7 @@ use Rattle.slate_model.specs.declared.manifest.Manifest.{Manifest}
 use Rattle.slate_records.specs.Records.{Record}
 use Rattle.slate_record_bytes.specs.Records.{decoded_record}
 use Rattle.slate_layout.specs.RecordCodec.{record_encoded}
-use Rattle.slate_record_updates.specs.RecordChanges.{made as record_made, right_of as record_right_of, fence_of as record_fence_of, compactor_fence}
+use Rattle.slate_record_updates.specs.RecordChanges.{made as record_made, right_of as record_right_of, fence_of as record_fence_of}
 use Rattle.slate_record_updates.specs.RecordRules.{record_refusal_of}
 use Rattle.slate_record_updates.specs.declared.record_change.RecordChange.{RecordChange}
 use Rattle.slate_store.specs.Machines.{Goes, Stay, End}
@@ -36,6 +37,8 @@ use Rattle.slate_log.specs.declared.read_phase.ReadPhase.{ReadPhase}
 use Rattle.slate_log.specs.declared.read_phase.ReadPhase.TheVariants as reading
 use Rattle.slate_log.specs.declared.right.Right.{Right}
 use Rattle.slate_updates.specs.Rules.{manifest_refusal}
+use Rattle.slate_updates.specs.Changes.{made as change_made, right_of as change_right, fence_of as change_fence}
+use Rattle.slate_updates.specs.declared.manifest_change.ManifestChange.{ManifestChange}
 use Rattle.slate_updates.specs.declared.manifest_change.ManifestChange.TheVariants.{DropExpired}
 use Rattle.slate_ids.specs.declared.gc_message.GcMessage.{GcMessage}
 use Rattle.slate_ids.specs.declared.gc_message.GcMessage.TheVariants as of
@@ -49,6 +52,7 @@ use Rattle.slate_passes.specs.Pass.{PassGoes, pass_goes, pass_due}
 use Rattle.slate_passes.specs.Rows.{reads_greatest, target}
 use Rattle.slate_passes.specs.Ways.{Ways}
 use Rattle.slate_passes.specs.declared.gc_phase.GcPhase.{GcPhase}
+use Rattle.slate_changes.specs.declared.log_work.LogWork.TheVariants as removal
 use Rattle.slate_passes.specs.declared.gc_phase.GcPhase.TheVariants as removing
 use Rattle.slate_passes.specs.declared.heads.Heads.{Heads}
 use Rattle.slate_passes.specs.declared.pass_counts.PassCounts.{PassCounts}
@@ -63,12 +67,10 @@ use Rattle.slate_referenced.specs.declared.referenced_phase.ReferencedPhase.TheV
 use Rattle.slate_encodable.specs.Normal.{normal_manifest}
 use Rattle.slate_record_bytes.specs.RecordNormal.{normal_record}
 use Rattle.slate_protocol.specs.Calls.{refusal_at_start, change_of, again, done_once, done_merged, done, record_change_of, record_again, record_done_once, record_done, refresh_next, first_of, Next, Go, Finish}
-use Rattle.slate_protocol.specs.PartyChanges.{change_made, change_right, change_fence, made_by, right_by, fence_by, manifest_commit, record_commit}
+use Rattle.slate_protocol.specs.PartyChanges.{manifest_commit, record_commit}
 use Rattle.slate_protocol.specs.Rows.{commit_for, last_next, then_next, commit_next, record_commit_for, record_next, record_then, first_put, no_record, after, follow, first_next, begin_unless, begin}
 use Rattle.slate_protocol.specs.Works.{WorkGoes, goes, is_due, read_on, commit_on, record_read_on, record_commit_on, put_end, pass_on, pass_ways}
 use Rattle.slate_protocol.specs.declared.party.Facts.{Facts}
-use Rattle.slate_protocol.specs.declared.party_change.PartyChange.{PartyChange}
-use Rattle.slate_protocol.specs.declared.party_change.PartyChange.TheVariants.{Shared}
 use Rattle.slate_protocol.specs.declared.uploads.Upload.{Upload}
 use Rattle.slate_protocol.specs.declared.work.Ended.{Ended}
 use Rattle.slate_protocol.specs.declared.work.Ended.TheVariants.{NoManifest, ManifestRead, ManifestCommitted, NoRecord, RecordRead, RecordCommitted, TablePut, Passed}
@@ -163,7 +165,7 @@ module _ {V : Type 0} where
     unfenced_due (Some e) r = tt
     unfenced_due None r = wanted_due r
 
-made_due : (change : Option PartyChange) (now : ℤ) (n : ℕ) (m : Manifest) → DueCommit (manifest_commit change now n m)
+made_due : (change : Option ManifestChange) (now : ℤ) (n : ℕ) (m : Manifest) → DueCommit (manifest_commit change now n m)
 made_due change now n m = unfenced_due manifest_refusal encoded n m (right_by change_right change) (fence_by change_fence change m) (made_by change_made change now n m)
 
 record_made_due : (change : Option RecordChange) (now : ℤ) (n : ℕ) (r : Record) → DueCommit (record_commit change now n r)
@@ -324,15 +326,15 @@ begins_due of.Compacted = refl
 begins_due of.Compactions = refl
 begins_due of.Detach = refl
 
-removal_due : (pass : GcMessage) (now : ℤ) (r : Result (Option (CommitPhase Manifest)) SlateDBError) → DueCommit r → GcAt (whole.removal_goes pass now r)
-removal_due pass now (Ok (Some commit)) h = h
-removal_due pass now (Ok None) h = begins_due pass
-removal_due pass now (Err e) h = tt
+removal_due : (pass : GcMessage) (now : ℤ) (n : ℕ) (m : Manifest) (r : Result (Option (CommitPhase Manifest)) SlateDBError) → DueCommit r → GcAt (whole.removal_goes pass now n m r)
+removal_due pass now n m (Ok (Some commit)) h = h
+removal_due pass now n m (Ok None) h = begins_due pass
+removal_due pass now n m (Err e) h = tt
 
 gc_read_due : (pass : GcMessage) (now : ℤ) (g : Goes (ReadPhase Manifest) (Option (ℕ × Manifest))) → ReadAt g → GcAt (whole.read_on encoded pass now g)
 gc_read_due pass now (Stay phase) h = h
 gc_read_due pass now (End phase (Ok None)) h = tt
-gc_read_due pass now (End phase (Ok (Some version))) h = removal_due pass now _ (made_due (Some (Shared DropExpired)) now version.0 version.1)
+gc_read_due pass now (End phase (Ok (Some version))) h = removal_due pass now version.0 version.1 _ (made_due (Some DropExpired) now version.0 version.1)
 gc_read_due pass now (End phase (Err e)) h = tt
 
 gc_commit_due : (pass : GcMessage) (now : ℤ) (g : Goes (CommitPhase Manifest) (ℕ × Manifest)) → CommitAt g → GcAt (whole.commit_on pass now g)
@@ -345,8 +347,8 @@ gc_collect_due at now (Stay phase) h = h
 gc_collect_due at now (End phase r) h = tt
 
 collects_due : (filter : FilterWord) (settings : PassSettings) (now : ℤ) (phase : GcPhase) (answer : StoreAnswer) → GcAt (gc_goes (pass_ways filter) settings now phase answer)
-collects_due filter settings now (removing.Reading phase) answer = gc_read_due settings.pass now (read_goes ManifestLog decoded_manifest phase answer) (reads_due decoded_manifest ManifestLog phase answer)
-collects_due filter settings now (removing.Committing made phase) answer = gc_commit_due settings.pass made (commit_goes phase answer) (commits_due phase answer)
+collects_due filter settings now (removing.Removing (removal.Reading phase)) answer = gc_read_due settings.pass now (read_goes ManifestLog decoded_manifest phase answer) (reads_due decoded_manifest ManifestLog phase answer)
+collects_due filter settings now (removing.Removing (removal.Committing made phase)) answer = gc_commit_due settings.pass made (commit_goes phase answer) (commits_due phase answer)
 collects_due filter settings now (removing.Collecting at phase) answer =
     gc_collect_due at (moment_of_pass at now) (pass_goes (pass_ways filter) settings (moment_of_pass at now) phase answer) (passes_due (pass_ways filter) settings (moment_of_pass at now) phase answer)
 
@@ -432,7 +434,7 @@ refresh_due db None = refl
 refresh_due db (Some e) = tt
 
 record_once_due : (facts : Facts) (r : Record) (call : Call) → DueNext (record_done_once facts call r)
-record_once_due facts r Refresh = refresh_due facts.db (compactor_fence facts.epoch r.compactor_epoch)
+record_once_due facts r Refresh = refresh_due facts.db (holder_fence facts.epoch r.compactor_epoch)
 record_once_due facts r _ = tt
 
 record_done_due : (facts : Facts) (r : Record) (call : Call) (purpose : Purpose) → DueNext (record_done facts call purpose r)

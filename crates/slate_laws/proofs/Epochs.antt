@@ -2,24 +2,22 @@
 use Rattle.std.proofs.Common.{◌≡◌, ◌≢◌, ℕ, ◌≤◌, nat_lt, Bool, true, false, List, [], ◌∷◌, Option, Some, None, ⊎_elim, refl, sym, ap, ◌∙◌, subst, arith}
 use Rattle.std.proofs.lemmas.Bool.Decides.{nat_tests}
 use Rattle.std.specs.Prelude.{if◌then◌else◌}
-use Rattle.slate_compactor_changes.specs.CompactorChanges.{compactor_epoch_in, fence_of as compactor_fence_of}
-use Rattle.slate_compactor_changes.specs.declared.compactor_change.CompactorChange.{CompactorChange}
-use Rattle.slate_compactor_changes.specs.declared.compactor_change.CompactorChange.TheVariants.{Raise, KeepTrees, MergeTrees}
+use Rattle.slate_changes.specs.Changes.{fence_by, holder_fence}
 use Rattle.slate_ids.specs.declared.error.SlateDBError.TheVariants.{Fenced}
 use Rattle.slate_ids.specs.declared.error.UpdateRule.TheVariants.{U1}
 use Rattle.slate_model.specs.declared.manifest.Manifest.{Manifest}
 use Rattle.slate_records.specs.Records.{Record}
-use Rattle.slate_record_updates.specs.RecordChanges.{compactor_fence, fence_of as record_fence_of}
+use Rattle.slate_record_updates.specs.RecordChanges.{fence_of as record_fence_of}
 use Rattle.slate_record_updates.specs.RecordEpochs.{record_epoch}
 use Rattle.slate_record_updates.specs.RecordRules.{rule_refusal, epoch_falls, clocks_refusal, removal_refusal, record_refusal_of}
 use Rattle.slate_record_updates.specs.declared.record_change.RecordChange.{RecordChange}
 use Rattle.slate_record_updates.specs.declared.record_change.RecordChange.TheVariants.{GiveEpoch, Reset, Schedule, PutStatuses}
 use Rattle.std.specs.Option.{option_or}
-use Rattle.slate_updates.specs.Changes.{fence_of, writer_fence, writer_epoch_in}
+use Rattle.slate_updates.specs.Changes.{compactor_epoch_in, fence_of, writer_epoch_in}
 use Rattle.slate_updates.specs.Writers.{epoch_of}
 use Rattle.slate_updates.specs.declared.epochs.ManifestEpochs.TheVariants.{Writer, Compactor}
 use Rattle.slate_updates.specs.declared.manifest_change.ManifestChange.{ManifestChange}
-use Rattle.slate_updates.specs.declared.manifest_change.ManifestChange.TheVariants.{RaiseWriter, Flush}
+use Rattle.slate_updates.specs.declared.manifest_change.ManifestChange.TheVariants.{RaiseWriter, RaiseCompactor, Flush, KeepTrees, MergeTrees}
 use Rattle.slate_updates.proofs.Lawful.{nothing_falls}
 use Rattle.slate_log.specs.Fence.{fence}
 use Rattle.slate_log.specs.declared.log_kind.LogKind.TheVariants as logs
@@ -27,9 +25,6 @@ use Rattle.slate_log.specs.declared.right.Right.{Right}
 use Rattle.slate_protocol.specs.Chains.{Link, Log, link_at, IsChain, Follows}
 use Rattle.slate_protocol.specs.Fenced.{NotBelow, IsFencedBy, IsFenced, IsRecordFenced, writer_in, compactor_in, record_epoch_in}
 use Rattle.slate_protocol.specs.Logs.{Author, Chain, change_by, record_change_by, manifests, records}
-use Rattle.slate_protocol.specs.PartyChanges.{change_fence, fence_by}
-use Rattle.slate_protocol.specs.declared.party_change.PartyChange.{PartyChange}
-use Rattle.slate_protocol.specs.declared.party_change.PartyChange.TheVariants.{Shared, OfCompactor}
 use Rattle.slate_laws.proofs.Links.{link_here, link_there, same_or_not}
 use Rattle.slate_laws.proofs.NormalRecordRules.{neither}
 
@@ -85,38 +80,33 @@ passes own read h = test (nat_lt own read) refl h
     test true is h = absurd cc
     test false is h = at_or_above own read is
 
-writer_passes : (own : Option ℕ) (read e : ℕ) → writer_fence own read ≡ None → own ≡ Some e → read ≤ e
-writer_passes None read e p is = absurd cc
-writer_passes (Some own) read e p is = let same : own ≡ e = cc in let le = passes own read p in omega arith
-
-compactor_passes : (own : Option ℕ) (read e : ℕ) → compactor_fence own read ≡ None → own ≡ Some e → read ≤ e
-compactor_passes None read e p is = absurd cc
-compactor_passes (Some own) read e p is = let same : own ≡ e = cc in let le = passes own read p in omega arith
+holder_passes : (own : Option ℕ) (read e : ℕ) → holder_fence own read ≡ None → own ≡ Some e → read ≤ e
+holder_passes None read e p is = absurd cc
+holder_passes (Some own) read e p is = let same : own ≡ e = cc in let le = passes own read p in omega arith
 
 own_epoch : (old new e : ℕ) → old ≤ new → Some new ≡ Some e → old ≤ e
 own_epoch old new e up is = let same : new ≡ e = cc in omega arith
 
 -- ---- manifests
 
-shared_above : (change : ManifestChange) (old new : Manifest) (e : ℕ) → fence_of change old ≡ None → old.writer_epoch ≤ new.writer_epoch → writer_epoch_in change new ≡ Some e → old.writer_epoch ≤ e
-shared_above RaiseWriter old new e passed up is = own_epoch old.writer_epoch new.writer_epoch e up is
-shared_above (Flush writer batch) old new e passed up is = writer_passes writer old.writer_epoch e passed is
-shared_above _ old new e passed up is = absurd cc
+writer_own : (change : ManifestChange) (old new : Manifest) (e : ℕ) → fence_of change old ≡ None → old.writer_epoch ≤ new.writer_epoch → writer_epoch_in change new ≡ Some e → old.writer_epoch ≤ e
+writer_own RaiseWriter old new e passed up is = own_epoch old.writer_epoch new.writer_epoch e up is
+writer_own (Flush writer batch) old new e passed up is = holder_passes writer old.writer_epoch e passed is
+writer_own _ old new e passed up is = absurd cc
 
-writer_above : (change : Option PartyChange) (old new : Manifest) (e : ℕ) → fence_by change_fence change old ≡ None → old.writer_epoch ≤ new.writer_epoch → writer_in change new ≡ Some e → old.writer_epoch ≤ e
+writer_above : (change : Option ManifestChange) (old new : Manifest) (e : ℕ) → fence_by fence_of change old ≡ None → old.writer_epoch ≤ new.writer_epoch → writer_in change new ≡ Some e → old.writer_epoch ≤ e
 writer_above None old new e passed up is = absurd cc
-writer_above (Some (Shared change)) old new e passed up is = shared_above change old new e passed up is
-writer_above (Some (OfCompactor change)) old new e passed up is = absurd cc
+writer_above (Some change) old new e passed up is = writer_own change old new e passed up is
 
-own_above : (change : CompactorChange) (old new : Manifest) (e : ℕ) → compactor_fence_of change old ≡ None → old.compactor_epoch ≤ new.compactor_epoch → compactor_epoch_in change new ≡ Some e → old.compactor_epoch ≤ e
-own_above Raise old new e passed up is = own_epoch old.compactor_epoch new.compactor_epoch e up is
-own_above (KeepTrees compactor checkpoint) old new e passed up is = compactor_passes compactor old.compactor_epoch e passed is
-own_above (MergeTrees compactor trees outputs) old new e passed up is = compactor_passes compactor old.compactor_epoch e passed is
+compactor_own : (change : ManifestChange) (old new : Manifest) (e : ℕ) → fence_of change old ≡ None → old.compactor_epoch ≤ new.compactor_epoch → compactor_epoch_in change new ≡ Some e → old.compactor_epoch ≤ e
+compactor_own RaiseCompactor old new e passed up is = own_epoch old.compactor_epoch new.compactor_epoch e up is
+compactor_own (KeepTrees compactor checkpoint) old new e passed up is = holder_passes compactor old.compactor_epoch e passed is
+compactor_own (MergeTrees compactor trees outputs) old new e passed up is = holder_passes compactor old.compactor_epoch e passed is
+compactor_own _ old new e passed up is = absurd cc
 
-compactor_above : (change : Option PartyChange) (old new : Manifest) (e : ℕ) → fence_by change_fence change old ≡ None → old.compactor_epoch ≤ new.compactor_epoch → compactor_in change new ≡ Some e → old.compactor_epoch ≤ e
+compactor_above : (change : Option ManifestChange) (old new : Manifest) (e : ℕ) → fence_by fence_of change old ≡ None → old.compactor_epoch ≤ new.compactor_epoch → compactor_in change new ≡ Some e → old.compactor_epoch ≤ e
 compactor_above None old new e passed up is = absurd cc
-compactor_above (Some (Shared change)) old new e passed up is = absurd cc
-compactor_above (Some (OfCompactor change)) old new e passed up is = own_above change old new e passed up is
+compactor_above (Some change) old new e passed up is = compactor_own change old new e passed up is
 
 writers_fenced : Fences manifests (epoch_of Writer) (λ author m. writer_in (change_by author) m)
 writers_fenced = record {
@@ -152,10 +142,10 @@ record_epoch_rises n old new right h = test (epoch_falls old new) refl (neither 
 
 record_above : (change : Option RecordChange) (old : Record) (e : ℕ) → fence_by record_fence_of change old ≡ None → record_epoch_in change ≡ Some e → old.compactor_epoch ≤ e
 record_above None old e passed is = absurd cc
-record_above (Some (GiveEpoch epoch)) old e passed is = compactor_passes (Some epoch) old.compactor_epoch e passed is
-record_above (Some (Reset epoch)) old e passed is = compactor_passes (Some epoch) old.compactor_epoch e passed is
-record_above (Some (Schedule compactor id)) old e passed is = compactor_passes compactor old.compactor_epoch e passed is
-record_above (Some (PutStatuses compactor local pending)) old e passed is = compactor_passes compactor old.compactor_epoch e passed is
+record_above (Some (GiveEpoch epoch)) old e passed is = holder_passes (Some epoch) old.compactor_epoch e passed is
+record_above (Some (Reset epoch)) old e passed is = holder_passes (Some epoch) old.compactor_epoch e passed is
+record_above (Some (Schedule compactor id)) old e passed is = holder_passes compactor old.compactor_epoch e passed is
+record_above (Some (PutStatuses compactor local pending)) old e passed is = holder_passes compactor old.compactor_epoch e passed is
 record_above (Some _) old e passed is = absurd cc
 
 records_fenced : Fences records record_epoch (λ author r. record_epoch_in (record_change_by author))

@@ -33,7 +33,8 @@ use Rattle.slate_passes.specs.Exact.{counted, counted_along, counts_before, dele
 use Rattle.slate_passes.specs.GcPhase.{GcGoes, gc_asks, gc_goes, gc_start}
 use Rattle.slate_passes.specs.Rows.{log_of_pass, log_or_manifests}
 use Rattle.slate_passes.specs.declared.gc_phase.GcPhase.{GcPhase}
-use Rattle.slate_passes.specs.declared.gc_phase.GcPhase.TheVariants.{Reading, Committing, Collecting}
+use Rattle.slate_changes.specs.declared.log_work.LogWork.TheVariants.{Reading, Committing}
+use Rattle.slate_passes.specs.declared.gc_phase.GcPhase.TheVariants.{Removing, Collecting}
 use Rattle.slate_passes.specs.declared.pass_counts.PassCounts.{PassCounts}
 use Rattle.slate_passes.specs.declared.pass_phase.PassPhase.TheVariants as passing
 use Rattle.slate_passes.specs.declared.pass_settings.PassSettings.{PassSettings}
@@ -96,8 +97,8 @@ no_delete call answer made h = ap (λ (b : Bool). if b then record { call = call
 
 one_call : (db : List ℕ) (pass : GcMessage) (phase : GcPhase) (answer : StoreAnswer) (made : List Made)
     → deletes_in (record { call = gc_asks db pass phase; answer = answer } ∷ made) ≡ delete_made (to_delete phase) answer ++ deletes_in made
-one_call db pass (Reading phase) answer made = no_delete (read_asks db logs.Manifest phase) answer made (read_quiet db logs.Manifest phase)
-one_call db pass (Committing now phase) answer made = no_delete (commit_asks db logs.Manifest phase) answer made (commit_quiet db logs.Manifest phase)
+one_call db pass (Removing (Reading phase)) answer made = no_delete (read_asks db logs.Manifest phase) answer made (read_quiet db logs.Manifest phase)
+one_call db pass (Removing (Committing now phase)) answer made = no_delete (commit_asks db logs.Manifest phase) answer made (commit_quiet db logs.Manifest phase)
 one_call db pass (Collecting at (passing.ReadingRecord phase)) answer made = no_delete (read_asks db logs.Compactions phase) answer made (read_quiet db logs.Compactions phase)
 one_call db pass (Collecting at (passing.ReadingManifest least phase)) answer made = no_delete (read_asks db logs.Manifest phase) answer made (read_quiet db logs.Manifest phase)
 one_call db pass (Collecting at (passing.Fetching heads phase)) answer made = no_delete (referenced_asks db phase) answer made (fetch_quiet db phase)

@@ -1,5 +1,6 @@
 -- What the facts of a party keep, and when they change: its number, kind and database stay, and where a commit follows the end of a phrase, all of them do.
 use Rattle.std.proofs.Common.{◌≡◌, ◌⊎◌, ℕ, ℤ, Bool, true, false, Option, Some, None, option_map, Result, Ok, Err, inl, inr, refl}
+use Rattle.slate_changes.specs.Changes.{holder_fence}
 use Rattle.slate_compactor.specs.Local.{scheduled, finished, failed, manifest_committed, record_committed}
 use Rattle.slate_compactor.specs.declared.local_state.LocalState.{LocalState}
 use Rattle.slate_encodable.specs.Normal.{normal_manifest}
@@ -18,7 +19,6 @@ use Rattle.slate_protocol.specs.declared.work.Ended.TheVariants.{NoManifest, Man
 use Rattle.slate_protocol.specs.declared.work.Purpose.{Purpose}
 use Rattle.slate_protocol.specs.declared.work.Purpose.TheVariants.{Once, First, Reset, Merge}
 use Rattle.slate_record_bytes.specs.RecordNormal.{normal_record}
-use Rattle.slate_record_updates.specs.RecordChanges.{compactor_fence}
 use Rattle.slate_records.specs.Records.{Record}
 
 -- ---- who it is
@@ -147,7 +147,7 @@ committed_either facts call now Reset db n m = inl refl
 committed_either facts call now Merge db n m = inr (merged_reads facts call)
 
 record_read_once_either : (facts : Facts) (call : Call) (now : ℤ) (db : _) (n : ℕ) (r : Record) → Either facts (facts_record_read_once facts call r) (after facts call now (RecordRead Once db n r))
-record_read_once_either facts Refresh now db n r = inr (refresh_reads facts.db (compactor_fence facts.epoch r.compactor_epoch))
+record_read_once_either facts Refresh now db n r = inr (refresh_reads facts.db (holder_fence facts.epoch r.compactor_epoch))
 record_read_once_either facts _ now db n r = inl refl
 
 record_read_either : (facts : Facts) (call : Call) (now : ℤ) (purpose : Purpose) (db : _) (n : ℕ) (r : Record) → Either facts (facts_record_read facts call purpose r) (after facts call now (RecordRead purpose db n r))

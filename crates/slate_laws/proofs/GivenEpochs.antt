@@ -1,7 +1,8 @@
 -- The record that an open of a compactor commits has the epoch that the open raised.
 use Rattle.std.proofs.Common.{◌≡◌, ℕ, ℤ, Bool, true, false, List, Option, Some, None, ◌⊎◌, inl, inr, Result, Ok, Err, refl, sym, ap, ◌∙◌, subst}
 use Rattle.std.specs.Prelude.{nat_le, if◌then◌else◌}
-use Rattle.slate_compactor.specs.Trees.{Trees}
+use Rattle.slate_changes.specs.Changes.{fence_by, made_by, right_by, holder_fence}
+use Rattle.slate_merges.specs.Trees.{Trees}
 use Rattle.slate_encodable.specs.Normal.{normal_manifest}
 use Rattle.slate_events.specs.declared.call.Call.{Call}
 use Rattle.slate_events.specs.declared.call.Call.TheVariants.{OpenCompactor, Refresh, Schedule, WriteRecord, WriteState, Claim, Report}
@@ -22,7 +23,7 @@ use Rattle.slate_model.specs.declared.manifest.Manifest.{Manifest}
 use Rattle.slate_record_bytes.specs.RecordNormal.{normal_record}
 use Rattle.slate_record_bytes.specs.Records.{decoded_record}
 use Rattle.slate_record_updates.specs.EntrySteps.{reset}
-use Rattle.slate_record_updates.specs.RecordChanges.{made as record_made, right_of as record_right_of, fence_of as record_fence_of, compactor_fence}
+use Rattle.slate_record_updates.specs.RecordChanges.{made as record_made, right_of as record_right_of, fence_of as record_fence_of}
 use Rattle.slate_record_updates.specs.RecordEpochs.{with_record_epoch}
 use Rattle.slate_record_updates.specs.RecordRules.{record_refusal_of}
 use Rattle.slate_records.specs.Records.{Record}
@@ -30,7 +31,6 @@ use Rattle.slate_store.specs.Machines.{Stay, End}
 use Rattle.slate_store.specs.declared.store_answer.StoreAnswer.{StoreAnswer}
 use Rattle.slate_store.specs.declared.store_answer.StoreAnswer.TheVariants.{Created, Got, Written}
 use Rattle.slate_protocol.specs.Calls.{Next, Go, Finish, record_change_of, epoch_change, reset_change, first_of, record_again, again, done, done_once, done_merged, record_done, record_done_once, refresh_next, facts_after, facts_at_start, refusal_at_start}
-use Rattle.slate_protocol.specs.PartyChanges.{made_by, right_by, fence_by}
 use Rattle.slate_protocol.specs.Rows.{commit_for, last_next, then_next, commit_next, record_commit_for, record_next, record_then, first_put, no_record, after, first_next, begin_unless, begin}
 use Rattle.slate_protocol.specs.Works.{WorkGoes, read_on, commit_on, record_read_on, record_commit_on, put_end, pass_on, pass_ways, goes}
 use Rattle.slate_protocol.specs.declared.party.Facts.{Facts}
@@ -226,7 +226,7 @@ module _ (facts : Facts) (call : Call) where
 
 module _ (facts : Facts) where
   record_once_gives : (by : Call) (r : Record) → NextGives facts by (record_done_once facts by r)
-  record_once_gives Refresh r = refresh_gives facts Refresh facts.db (compactor_fence facts.epoch r.compactor_epoch)
+  record_once_gives Refresh r = refresh_gives facts Refresh facts.db (holder_fence facts.epoch r.compactor_epoch)
   record_once_gives _ r = tt
 
   record_done_gives : (call : Call) (purpose : Purpose) (r : Record) → NextGives facts call (record_done facts call purpose r)

@@ -12,6 +12,7 @@ use Rattle.slate_events.specs.declared.call.Call.{Call}
 use Rattle.slate_events.specs.declared.db_spec.DbSpec.{DbSpec}
 use Rattle.slate_events.specs.declared.event.Event.{Event}
 use Rattle.slate_ids.specs.declared.gc_message.GcMessage.{GcMessage}
+use Rattle.slate_changes.specs.declared.log_work.LogWork.TheVariants as removal
 use Rattle.slate_passes.specs.declared.gc_phase.GcPhase.TheVariants as gc
 use Rattle.slate_passes.specs.declared.pass_phase.PassPhase.{PassPhase}
 use Rattle.slate_passes.specs.declared.pass_phase.PassPhase.TheVariants as passing
@@ -119,8 +120,8 @@ work_fails s moment mark facts call (CommitManifest purpose now db phase) h = re
 work_fails s moment mark facts call (ReadRecord purpose db phase) h = absurd h
 work_fails s moment mark facts call (CommitRecord purpose now db phase) h = record { error = h.error; is = ap (λ g. (follow facts call moment (record_commit_on purpose now db g)).next) h.is }
 work_fails s moment mark facts call (PutTable db upload bytes) h = absurd h
-work_fails s moment mark facts call (Pass db settings filter (gc.Reading phase)) h = absurd h
-work_fails s moment mark facts call (Pass db settings filter (gc.Committing now phase)) h = record { error = h.error; is = ap (λ g. (follow facts call moment (pass_on db settings filter (whole_pass.commit_on settings.pass now g))).next) h.is }
+work_fails s moment mark facts call (Pass db settings filter (gc.Removing (removal.Reading phase))) h = absurd h
+work_fails s moment mark facts call (Pass db settings filter (gc.Removing (removal.Committing now phase))) h = record { error = h.error; is = ap (λ g. (follow facts call moment (pass_on db settings filter (whole_pass.commit_on settings.pass now g))).next) h.is }
 work_fails s moment mark facts call (Pass db settings filter (gc.Collecting at phase)) h = absurd h
 
 -- what was removed up to now was collected

@@ -26,7 +26,8 @@ use Rattle.slate_passes.specs.GcPhase.{GcGoes, collect_on, commit_on, gc_goes, g
 use Rattle.slate_passes.specs.Pass.{bounded_goes, chosen_goes, decoded_goes, manifests_goes}
 use Rattle.slate_passes.specs.declared.directory_options.GarbageCollectorDirectoryOptions.{GarbageCollectorDirectoryOptions}
 use Rattle.slate_passes.specs.declared.gc_phase.GcPhase.{GcPhase}
-use Rattle.slate_passes.specs.declared.gc_phase.GcPhase.TheVariants.{Reading, Committing, Collecting}
+use Rattle.slate_changes.specs.declared.log_work.LogWork.TheVariants.{Reading, Committing}
+use Rattle.slate_passes.specs.declared.gc_phase.GcPhase.TheVariants.{Removing, Collecting}
 use Rattle.slate_passes.specs.declared.heads.Heads.{Heads}
 use Rattle.slate_passes.specs.declared.pass_counts.PassCounts.{PassCounts}
 use Rattle.slate_passes.specs.declared.pass_phase.PassPhase.TheVariants as passing
@@ -188,8 +189,8 @@ module _ (options : GarbageCollectorDirectoryOptions) (word : FilterWord) where
 
 -- a pass that still removes, or that is to list
 abbrev pub IsRemoval : GcPhase → Type 0
-IsRemoval (Reading phase) = Unit {0}
-IsRemoval (Committing now phase) = Unit {0}
+IsRemoval (Removing (Reading phase)) = Unit {0}
+IsRemoval (Removing (Committing now phase)) = Unit {0}
 IsRemoval (Collecting None (passing.Listing heads versions)) = Unit {0}
 IsRemoval (Collecting _ _) = ⊥
 
@@ -197,15 +198,15 @@ abbrev Removes : GcGoes → Type 0
 Removes (Stay phase) = IsRemoval phase
 Removes (End phase r) = Unit {0}
 
-removal_removes : (now : ℤ) (r : Result (Option (CommitPhase Manifest)) SlateDBError) → Removes (removal_goes of.Manifest now r)
-removal_removes now (Ok (Some commit)) = tt
-removal_removes now (Ok None) = tt
-removal_removes now (Err e) = tt
+removal_removes : (now : ℤ) (n : ℕ) (m : Manifest) (r : Result (Option (CommitPhase Manifest)) SlateDBError) → Removes (removal_goes of.Manifest now n m r)
+removal_removes now n m (Ok (Some commit)) = tt
+removal_removes now n m (Ok None) = tt
+removal_removes now n m (Err e) = tt
 
 read_removes : (now : ℤ) (g : Reply Manifest) → Removes (read_on encoded of.Manifest now g)
 read_removes now (Stay phase) = tt
 read_removes now (End phase (Ok None)) = tt
-read_removes now (End phase (Ok (Some version))) = removal_removes now (commit_of encoded DropExpired now version.0 version.1)
+read_removes now (End phase (Ok (Some version))) = removal_removes now version.0 version.1 (commit_of encoded DropExpired now version.0 version.1)
 read_removes now (End phase (Err e)) = tt
 
 commit_removes : (made : ℤ) (g : CommitGoes Manifest) → Removes (commit_on of.Manifest made g)
@@ -228,12 +229,12 @@ module _ (facts : Facts) (min_age : ℕ) (dry_run : Bool) (word : FilterWord) wh
   picks_from [] g h = refl
   picks_from (a ∷ answers) (End phase (Ok counts)) h = sym (ap (λ (xs : List Answered). listed_or_none (picks_read own word xs)) (replied_answers call facts (reply_of counts) answers))
   picks_from (a ∷ answers) (End phase (Err e)) h = sym (ap (λ (xs : List Answered). listed_or_none (picks_read own word xs)) (replied_answers call facts (Refused e) answers))
-  picks_from (a ∷ answers) (Stay (Reading phase)) h =
-      picks_from answers (gc_goes (pass_ways word) own a.1 (Reading phase) a.0) (read_removes a.1 (read_goes ManifestLog decoded_manifest phase a.0))
-      ∙ sym (ap (λ (st : Standing). listed_or_none (picks_read own word (pass_answers call st answers))) (went facts call facts.db own word (Reading phase) a))
-  picks_from (a ∷ answers) (Stay (Committing made phase)) h =
-      picks_from answers (gc_goes (pass_ways word) own a.1 (Committing made phase) a.0) (commit_removes made (commit_goes phase a.0))
-      ∙ sym (ap (λ (st : Standing). listed_or_none (picks_read own word (pass_answers call st answers))) (went facts call facts.db own word (Committing made phase) a))
+  picks_from (a ∷ answers) (Stay (Removing (Reading phase))) h =
+      picks_from answers (gc_goes (pass_ways word) own a.1 (Removing (Reading phase)) a.0) (read_removes a.1 (read_goes ManifestLog decoded_manifest phase a.0))
+      ∙ sym (ap (λ (st : Standing). listed_or_none (picks_read own word (pass_answers call st answers))) (went facts call facts.db own word (Removing (Reading phase)) a))
+  picks_from (a ∷ answers) (Stay (Removing (Committing made phase))) h =
+      picks_from answers (gc_goes (pass_ways word) own a.1 (Removing (Committing made phase)) a.0) (commit_removes made (commit_goes phase a.0))
+      ∙ sym (ap (λ (st : Standing). listed_or_none (picks_read own word (pass_answers call st answers))) (went facts call facts.db own word (Removing (Committing made phase)) a))
   picks_from (a ∷ answers) (Stay (Collecting None (passing.Listing heads versions))) h = list_from own.options word heads versions (a ∷ answers) ∙ sym (picks_same own word (a ∷ answers))
   picks_from (a ∷ answers) (Stay (Collecting _ _)) h = absurd h
 

@@ -22,6 +22,7 @@ use Rattle.slate_log.specs.declared.read_phase.ReadPhase.{ReadPhase}
 use Rattle.slate_log.specs.declared.read_phase.ReadPhase.TheVariants as reading
 use Rattle.slate_ids.specs.declared.gc_message.GcMessage.{GcMessage}
 use Rattle.slate_passes.specs.Pass.{pass_asks}
+use Rattle.slate_changes.specs.declared.log_work.LogWork.TheVariants as removal
 use Rattle.slate_passes.specs.declared.gc_phase.GcPhase.TheVariants as gc
 use Rattle.slate_passes.specs.declared.pass_phase.PassPhase.{PassPhase}
 use Rattle.slate_passes.specs.declared.pass_phase.PassPhase.TheVariants as passing
@@ -190,8 +191,8 @@ module _ (w : World) (chains : Chains) (v : World) (chains' : Chains) (a : Event
   work_gone n facts call (ReadRecord purpose db phase) s has k = read_gone db logs.Compactions phase s
   work_gone n facts call (CommitRecord purpose now db phase) s has k = commit_gone db logs.Compactions phase s
   work_gone n facts call (PutTable db upload bytes) s has k = tt
-  work_gone n facts call (Pass db settings filter (gc.Reading phase)) s has k = read_gone db logs.Manifest phase s
-  work_gone n facts call (Pass db settings filter (gc.Committing now phase)) s has k = commit_gone db logs.Manifest phase s
+  work_gone n facts call (Pass db settings filter (gc.Removing (removal.Reading phase))) s has k = read_gone db logs.Manifest phase s
+  work_gone n facts call (Pass db settings filter (gc.Removing (removal.Committing now phase))) s has k = commit_gone db logs.Manifest phase s
   work_gone n facts call (Pass db settings filter (gc.Collecting at phase)) s has k = collect_gone db settings.pass phase s has k.1
 
   -- what a step removed

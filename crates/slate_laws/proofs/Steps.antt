@@ -20,6 +20,7 @@ use Rattle.slate_log.specs.declared.log_kind.LogKind.TheVariants as logs
 use Rattle.slate_passes.specs.Defaults.{default_options}
 use Rattle.slate_passes.specs.Pass.{pass_asks, pass_goes}
 use Rattle.slate_passes.specs.declared.directory_options.GarbageCollectorDirectoryOptions.{GarbageCollectorDirectoryOptions}
+use Rattle.slate_changes.specs.declared.log_work.LogWork.TheVariants as removal
 use Rattle.slate_passes.specs.declared.gc_phase.GcPhase.TheVariants as passing
 use Rattle.slate_passes.specs.declared.pass_phase.PassPhase.{PassPhase}
 use Rattle.slate_events.specs.declared.filter_word.FilterWord.{FilterWord}
@@ -71,8 +72,8 @@ work_asks (works.CommitManifest purpose now db phase) = refl
 work_asks (works.ReadRecord purpose db phase) = refl
 work_asks (works.CommitRecord purpose now db phase) = refl
 work_asks (works.PutTable db upload bytes) = refl
-work_asks (works.Pass db settings filter (passing.Reading phase)) = refl
-work_asks (works.Pass db settings filter (passing.Committing now phase)) = refl
+work_asks (works.Pass db settings filter (passing.Removing (removal.Reading phase))) = refl
+work_asks (works.Pass db settings filter (passing.Removing (removal.Committing now phase))) = refl
 work_asks (works.Pass db settings filter (passing.Collecting at phase)) = refl
 
 pub work_db : (work : Work) → db_in (phrase_of work) ≡ db_of work
@@ -81,8 +82,8 @@ work_db (works.CommitManifest purpose now db phase) = refl
 work_db (works.ReadRecord purpose db phase) = refl
 work_db (works.CommitRecord purpose now db phase) = refl
 work_db (works.PutTable db upload bytes) = refl
-work_db (works.Pass db settings filter (passing.Reading phase)) = refl
-work_db (works.Pass db settings filter (passing.Committing now phase)) = refl
+work_db (works.Pass db settings filter (passing.Removing (removal.Reading phase))) = refl
+work_db (works.Pass db settings filter (passing.Removing (removal.Committing now phase))) = refl
 work_db (works.Pass db settings filter (passing.Collecting at phase)) = refl
 
 -- the author of what a party commits in a call for a purpose

@@ -23,6 +23,7 @@ use Rattle.slate_log.specs.declared.read_phase.ReadPhase.TheVariants as reading
 use Rattle.slate_ids.specs.declared.gc_message.GcMessage.{GcMessage}
 use Rattle.slate_passes.specs.Pass.{pass_asks}
 use Rattle.slate_passes.specs.Rows.{log_of_pass, log_or_manifests}
+use Rattle.slate_changes.specs.declared.log_work.LogWork.TheVariants as removal
 use Rattle.slate_passes.specs.declared.gc_phase.GcPhase.TheVariants as removing
 use Rattle.slate_passes.specs.declared.pass_phase.PassPhase.{PassPhase}
 use Rattle.slate_passes.specs.declared.pass_phase.PassPhase.TheVariants as passing
@@ -132,8 +133,8 @@ module _ (firsts : Firsts) (chains : Chains) (h : Tells firsts chains) where
   work_told n facts call (work.ReadRecord purpose db phase) true = read_told logs.Compactions db phase
   work_told n facts call (work.CommitRecord purpose now db phase) true = commit_told logs.Compactions db (record { party = n; facts = facts; call = call; purpose = purpose; now = now }) phase
   work_told n facts call (work.PutTable db upload bytes) true = h
-  work_told n facts call (work.Pass db settings filter (removing.Reading phase)) true = read_told logs.Manifest db phase
-  work_told n facts call (work.Pass db settings filter (removing.Committing now phase)) true = commit_told logs.Manifest db (record { party = n; facts = facts; call = call; purpose = Once; now = now }) phase
+  work_told n facts call (work.Pass db settings filter (removing.Removing (removal.Reading phase))) true = read_told logs.Manifest db phase
+  work_told n facts call (work.Pass db settings filter (removing.Removing (removal.Committing now phase))) true = commit_told logs.Manifest db (record { party = n; facts = facts; call = call; purpose = Once; now = now }) phase
   work_told n facts call (work.Pass db settings filter (removing.Collecting at phase)) true = pass_told db settings.pass phase
 
 -- ---- an event

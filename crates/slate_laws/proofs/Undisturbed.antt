@@ -22,7 +22,8 @@ use Rattle.slate_log.specs.declared.read_phase.ReadPhase.TheVariants as reading
 use Rattle.slate_passes.specs.GcPhase.{GcGoes, gc_asks, gc_goes}
 use Rattle.slate_passes.specs.declared.directory_options.GarbageCollectorDirectoryOptions.{GarbageCollectorDirectoryOptions}
 use Rattle.slate_passes.specs.declared.gc_phase.GcPhase.{GcPhase}
-use Rattle.slate_passes.specs.declared.gc_phase.GcPhase.TheVariants.{Reading}
+use Rattle.slate_changes.specs.declared.log_work.LogWork.TheVariants.{Reading}
+use Rattle.slate_passes.specs.declared.gc_phase.GcPhase.TheVariants.{Removing}
 use Rattle.slate_passes.specs.declared.pass_settings.PassSettings.{PassSettings}
 use Rattle.slate_model.specs.declared.manifest.Manifest.{Manifest}
 use Rattle.slate_events.specs.declared.call.Call.{Call}
@@ -546,7 +547,7 @@ passes_alone specs front middle accepted good n facts min_age dry_run filter bet
     let g = subst (λ (w : World). IsGood facts.db w (chains_of front w0 (opening_chains specs))) (sym there) (run_good facts.db front w0 (opening_chains specs) begins) in
     let entries = same_rest c.trail (trail_by middle all c.world.store) (between ++ last ∷ []) (sym (rows_run middle 0 c v all match split.second) ∙ more) in
     let walks = (walk facts call facts.db (i.named facts.db has) settings.options filter n middle 0 c v (chains_of front w0 (opening_chains specs)) all g match split.second).0 in
-    left facts call settings filter (answers_in (between ++ last ∷ [])) r v.world.store (walks (Reading reading.Listing) [] u.begins refl tt between last r entries u.quiet u.goes_on u.ends)
+    left facts call settings filter (answers_in (between ++ last ∷ [])) r v.world.store (walks (Removing (Reading reading.Listing)) [] u.begins refl tt between last r entries u.quiet u.goes_on u.ends)
   where
     left : (facts : Facts) (call : Call) (settings : PassSettings) (word : FilterWord) (answers : List Answered) (r : Reply) (s : Store) → RemovalEnds facts.db settings word (pass_answers call (begin facts call) answers) r s
         → Leaves facts call settings word answers r s

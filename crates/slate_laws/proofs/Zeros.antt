@@ -30,6 +30,7 @@ use Rattle.slate_log.specs.declared.read_phase.ReadPhase.TheVariants as reading
 use Rattle.slate_ids.specs.declared.gc_message.GcMessage.{GcMessage}
 use Rattle.slate_passes.specs.Pass.{pass_asks}
 use Rattle.slate_passes.specs.Rows.{log_of_pass, log_or_manifests}
+use Rattle.slate_changes.specs.declared.log_work.LogWork.TheVariants as removal
 use Rattle.slate_passes.specs.declared.gc_phase.GcPhase.TheVariants as gc
 use Rattle.slate_passes.specs.declared.pass_phase.PassPhase.{PassPhase}
 use Rattle.slate_passes.specs.declared.pass_phase.PassPhase.TheVariants as passing
@@ -170,8 +171,8 @@ module _ (k : LogKind) (d : List ℕ) (named : is_db_path d ≡ true) where
   work_else s chains n facts call (ReadRecord purpose db phase) own h = read_else db logs.Compactions phase
   work_else s chains n facts call (CommitRecord purpose now db phase) own h = commit_else s chains db logs.Compactions _ phase own h
   work_else s chains n facts call (PutTable db upload bytes) own h = table_else db upload.table own h
-  work_else s chains n facts call (Pass db settings filter (gc.Reading phase)) own h = read_else db logs.Manifest phase
-  work_else s chains n facts call (Pass db settings filter (gc.Committing now phase)) own h = commit_else s chains db logs.Manifest _ phase own h
+  work_else s chains n facts call (Pass db settings filter (gc.Removing (removal.Reading phase))) own h = read_else db logs.Manifest phase
+  work_else s chains n facts call (Pass db settings filter (gc.Removing (removal.Committing now phase))) own h = commit_else s chains db logs.Manifest _ phase own h
   work_else s chains n facts call (Pass db settings filter (gc.Collecting at phase)) own h = collect_else s chains db settings.pass phase own h.1
 
   -- nothing stands there after a step where nothing stood there before

@@ -4,6 +4,7 @@ ghost use Rattle.slate_ids.specs.Answers.{Gives};
 ghost use Rattle.slate_manifests.specs.Holding.{answer_of, standing};
 ghost use Rattle.slate_updates.specs.Changes.{made};
 
+use slate_changes::Change;
 use slate_ids::{CheckpointId, Millis, OutOfMemory, SlateDBError};
 use slate_model::{Checkpoint, CheckpointOptions, Manifest, Plain};
 use slate_updates::{ManifestChange, find_checkpoint};
@@ -23,41 +24,7 @@ pub(crate) fn copy_options(
     })
 }
 
-// An equal change.
-fn copy_change(alloc: Global, change: &ManifestChange) -> Result<ManifestChange, OutOfMemory>
-    ensures { IfOk result (λ copied. copied ≡ change.now) }
-{
-    match change {
-        ManifestChange::RaiseWriter => Ok(ManifestChange::RaiseWriter),
-        ManifestChange::Flush { writer, batch } => Ok(ManifestChange::Flush {
-            writer: *writer,
-            batch: batch.copy(alloc)?,
-        }),
-        ManifestChange::WriteCheckpoint { id, options } => Ok(ManifestChange::WriteCheckpoint {
-            id: *id,
-            options: copy_options(alloc, options)?,
-        }),
-        ManifestChange::ReplaceCheckpoint { old, id, options } => {
-            Ok(ManifestChange::ReplaceCheckpoint {
-                old: *old,
-                id: *id,
-                options: copy_options(alloc, options)?,
-            })
-        }
-        ManifestChange::RefreshCheckpoint { id, lifetime } => {
-            Ok(ManifestChange::RefreshCheckpoint {
-                id: *id,
-                lifetime: *lifetime,
-            })
-        }
-        ManifestChange::DeleteCheckpoint { id } => {
-            Ok(ManifestChange::DeleteCheckpoint { id: *id })
-        }
-        ManifestChange::DropExpired => Ok(ManifestChange::DropExpired),
-    }
-}
-
-/// What a change makes at a moment of version `n`. The change stays.
+/// What a change makes at a moment of version `n`.
 pub(crate) fn make(
     alloc: Global,
     change: &ManifestChange,
@@ -67,7 +34,7 @@ pub(crate) fn make(
 ) -> Result<Option<Manifest>, SlateDBError>
     ensures { Gives result (made change.now now n manifest.now) }
 {
-    copy_change(alloc, change)?.make(alloc, now, n, manifest)
+    change.make(alloc, now, n, manifest)
 }
 
 /// A copy of the checkpoint of this id that stands in a manifest. Refused with `CheckpointMissing` where there is none.

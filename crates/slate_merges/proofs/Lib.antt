@@ -3,3 +3,4 @@ mod Fronts
 mod WriterTurns
 mod CompactorTurns
 mod ByPrefix
+mod Trees

@@ -2,3 +2,4 @@ pub mod Merging
 pub mod SegmentMerging
 pub mod ManifestMerging
 pub mod SideBySide
+pub mod Trees

@@ -25,7 +25,8 @@ use Rattle.slate_passes.specs.Pass.{advance_to, advanced_goes, bound_goes, bound
 use Rattle.slate_passes.specs.Rows.{reads_greatest, target}
 use Rattle.slate_passes.specs.Ways.{Ways}
 use Rattle.slate_passes.specs.declared.gc_phase.GcPhase.{GcPhase}
-use Rattle.slate_passes.specs.declared.gc_phase.GcPhase.TheVariants.{Reading, Committing, Collecting}
+use Rattle.slate_changes.specs.declared.log_work.LogWork.TheVariants.{Reading, Committing}
+use Rattle.slate_passes.specs.declared.gc_phase.GcPhase.TheVariants.{Removing, Collecting}
 use Rattle.slate_passes.specs.declared.heads.Heads.{Heads}
 use Rattle.slate_passes.specs.declared.pass_counts.PassCounts.{PassCounts}
 use Rattle.slate_passes.specs.declared.pass_phase.PassPhase.{PassPhase}
@@ -265,30 +266,30 @@ module _ (ways : Ways) (settings : PassSettings) where
   of_collects : (answers : List Answered) → Picks (collects settings.pass) answers
   of_collects answers = reads answers None (first_phase settings.pass) (first_reads settings.pass)
 
-  of_commit : (answers : List Answered) → ((now : ℤ) (phase : CommitPhase Manifest) → Picks (Stay (Committing now phase)) answers) → (now : ℤ) (out : CommitGoes Manifest) → Picks (commit_on settings.pass now out) answers
+  of_commit : (answers : List Answered) → ((now : ℤ) (phase : CommitPhase Manifest) → Picks (Stay (Removing (Committing now phase))) answers) → (now : ℤ) (out : CommitGoes Manifest) → Picks (commit_on settings.pass now out) answers
   of_commit answers again now (Stay phase) = again now phase
   of_commit answers again now (End phase (Ok version)) = of_collects answers
   of_commit answers again now (End phase (Err e)) = none _ e answers
 
-  commits : (answers : List Answered) (now : ℤ) (phase : CommitPhase Manifest) → Picks (Stay (Committing now phase)) answers
-  commits [] now phase = still (Committing now phase) [] _
+  commits : (answers : List Answered) (now : ℤ) (phase : CommitPhase Manifest) → Picks (Stay (Removing (Committing now phase))) answers
+  commits [] now phase = still (Removing (Committing now phase)) [] _
   commits (a ∷ answers) now phase =
       let d = of_commit answers (λ made next. commits answers made next) now (commit_goes phase a.0) in
       record { left = d.left; front = d.front; whole = d.whole }
 
-  of_removal : (answers : List Answered) (now : ℤ) (start : Result (Option (CommitPhase Manifest)) SlateDBError) → Picks (removal_goes settings.pass now start) answers
-  of_removal answers now (Ok (Some commit)) = commits answers now commit
-  of_removal answers now (Ok None) = of_collects answers
-  of_removal answers now (Err e) = none _ e answers
+  of_removal : (answers : List Answered) (now : ℤ) (n : ℕ) (m : Manifest) (start : Result (Option (CommitPhase Manifest)) SlateDBError) → Picks (removal_goes settings.pass now n m start) answers
+  of_removal answers now n m (Ok (Some commit)) = commits answers now commit
+  of_removal answers now n m (Ok None) = of_collects answers
+  of_removal answers now n m (Err e) = none _ e answers
 
-  of_read : (answers : List Answered) → ((phase : ReadPhase Manifest) → Picks (Stay (Reading phase)) answers) → (now : ℤ) (out : Reply Manifest) → Picks (read_on ways.bytes_of settings.pass now out) answers
+  of_read : (answers : List Answered) → ((phase : ReadPhase Manifest) → Picks (Stay (Removing (Reading phase))) answers) → (now : ℤ) (out : Reply Manifest) → Picks (read_on ways.bytes_of settings.pass now out) answers
   of_read answers again now (Stay phase) = again phase
   of_read answers again now (End phase (Ok None)) = none _ _ answers
-  of_read answers again now (End phase (Ok (Some version))) = of_removal answers now (commit_of ways.bytes_of DropExpired now version.0 version.1)
+  of_read answers again now (End phase (Ok (Some version))) = of_removal answers now version.0 version.1 (commit_of ways.bytes_of DropExpired now version.0 version.1)
   of_read answers again now (End phase (Err e)) = none _ e answers
 
-  begins : (answers : List Answered) (phase : ReadPhase Manifest) → Picks (Stay (Reading phase)) answers
-  begins [] phase = still (Reading phase) [] _
+  begins : (answers : List Answered) (phase : ReadPhase Manifest) → Picks (Stay (Removing (Reading phase))) answers
+  begins [] phase = still (Removing (Reading phase)) [] _
   begins (a ∷ answers) phase =
       let d = of_read answers (λ next. begins answers next) a.1 (read_goes logs.Manifest ways.manifest_of phase a.0) in
       record { left = d.left; front = d.front; whole = d.whole }

@@ -9,7 +9,7 @@ use Rattle.slate_passes.specs.GcPhase.{GcGoes, gc_goes, gc_start, moment_of_pass
 use Rattle.slate_passes.specs.Rows.{log_of_pass, reads_greatest, versions_in}
 use Rattle.slate_passes.specs.Ways.{Ways}
 use Rattle.slate_passes.specs.declared.gc_phase.GcPhase.{GcPhase}
-use Rattle.slate_passes.specs.declared.gc_phase.GcPhase.TheVariants.{Reading, Committing, Collecting}
+use Rattle.slate_passes.specs.declared.gc_phase.GcPhase.TheVariants.{Removing, Collecting}
 use Rattle.slate_passes.specs.declared.heads.Heads.{Heads}
 use Rattle.slate_passes.specs.declared.pass_counts.PassCounts.{PassCounts}
 use Rattle.slate_passes.specs.declared.pass_phase.PassPhase.{PassPhase}
@@ -47,8 +47,7 @@ object_in (Deleting left counts) = first_object left
 object_in Over = None
 
 abbrev pub to_delete : GcPhase → Option ObjectMetadata
-to_delete (Reading phase) = None
-to_delete (Committing now phase) = None
+to_delete (Removing work) = None
 to_delete (Collecting at phase) = object_in phase
 
 -- the objects whose deletes were answered, in order; a delete that faulted is one of them
@@ -124,8 +123,7 @@ picked_in ways settings now (Deleting left counts) answer = None
 picked_in ways settings now Over answer = None
 
 abbrev pub picked_at : Ways → PassSettings → ℤ → GcPhase → StoreAnswer → Option Chosen
-picked_at ways settings moment (Reading phase) answer = None
-picked_at ways settings moment (Committing now phase) answer = None
+picked_at ways settings moment (Removing work) answer = None
 picked_at ways settings moment (Collecting at phase) answer = picked_in ways settings (moment_of_pass at moment) phase answer
 
 -- what a pass picked of what it read, along its answers; none before it has read all

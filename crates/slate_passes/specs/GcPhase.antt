@@ -1,18 +1,20 @@
--- A whole pass: the expired checkpoints are removed, by a read and a commit where there are any; then it collects.
+-- A whole pass: the expired checkpoints are removed, by a change of the latest manifest; then it collects.
 use Rattle.std.specs.Prelude.{◌≡◌, ◌⊎◌, ℕ, ℤ, Bool, true, false, List, Option, Some, None, Result, Ok, Err}
+use Rattle.slate_changes.specs.LogWorks as works
+use Rattle.slate_changes.specs.LogWorks.{WorkGoes, reads_still, work_asks, work_due, work_goes, work_start}
+use Rattle.slate_changes.specs.declared.log_work.LogEnd.TheVariants.{Absent, Unchanged, Committed}
 use Rattle.slate_ids.specs.declared.error.SlateDBError.{SlateDBError}
 use Rattle.slate_ids.specs.declared.error.SlateDBError.TheVariants.{LatestTransactionalObjectVersionMissing}
 use Rattle.slate_ids.specs.declared.gc_message.GcMessage.{GcMessage}
-use Rattle.slate_log.specs.CommitPhase.{CommitGoes, commit_asks, commit_goes, commit_due}
-use Rattle.slate_log.specs.ReadPhase.{Reply, read_asks, read_goes, read_due}
+use Rattle.slate_log.specs.CommitPhase.{CommitGoes}
+use Rattle.slate_log.specs.ReadPhase.{Reply}
 use Rattle.slate_log.specs.declared.commit_phase.CommitPhase.{CommitPhase}
 use Rattle.slate_log.specs.declared.log_kind.LogKind.TheVariants as logs
-use Rattle.slate_log.specs.declared.read_phase.ReadPhase.TheVariants as reading
 use Rattle.slate_model.specs.declared.manifest.Manifest.{Manifest}
 use Rattle.slate_passes.specs.Pass.{PassGoes, first_phase, is_reading_phase, pass_asks, pass_due, pass_goes}
 use Rattle.slate_passes.specs.Ways.{Ways}
 use Rattle.slate_passes.specs.declared.gc_phase.GcPhase.{GcPhase}
-use Rattle.slate_passes.specs.declared.gc_phase.GcPhase.TheVariants.{Reading, Committing, Collecting}
+use Rattle.slate_passes.specs.declared.gc_phase.GcPhase.TheVariants.{Removing, Collecting}
 use Rattle.slate_passes.specs.declared.pass_counts.PassCounts.{PassCounts}
 use Rattle.slate_passes.specs.declared.pass_settings.PassSettings.{PassSettings}
 use Rattle.slate_store.specs.Calls.{Told, is_reading}
@@ -26,24 +28,21 @@ use Rattle.slate_updates.specs.declared.manifest_change.ManifestChange.TheVarian
 
 -- a pass at its start
 abbrev pub gc_start : GcPhase
-gc_start = Reading reading.Listing
+gc_start = Removing work_start
 
 -- the one call of each phase
 abbrev pub gc_asks : List ℕ → GcMessage → GcPhase → StoreCall
-gc_asks db pass (Reading phase) = read_asks db logs.Manifest phase
-gc_asks db pass (Committing now phase) = commit_asks db logs.Manifest phase
+gc_asks db pass (Removing work) = work_asks db logs.Manifest work
 gc_asks db pass (Collecting at phase) = pass_asks db pass phase
 
 -- whether a call is due
 abbrev pub gc_due : GcPhase → Bool
-gc_due (Reading phase) = read_due phase
-gc_due (Committing now phase) = commit_due phase
+gc_due (Removing work) = work_due work
 gc_due (Collecting at phase) = pass_due phase
 
 -- where memory may run out after the call: while the pass reads
 abbrev pub may_run_out : GcPhase → Bool
-may_run_out (Reading phase) = true
-may_run_out (Committing now phase) = false
+may_run_out (Removing work) = reads_still work
 may_run_out (Collecting at phase) = is_reading_phase phase
 
 -- no call was made, or one that only reads
@@ -58,24 +57,25 @@ GcGoes = Goes GcPhase PassCounts
 abbrev pub collects : GcMessage → GcGoes
 collects pass = Stay (Collecting None (first_phase pass))
 
--- the expired checkpoints are removed where there are any; then the pass collects
-abbrev pub removal_goes : GcMessage → ℤ → Result (Option (CommitPhase Manifest)) SlateDBError → GcGoes
-removal_goes pass now (Ok (Some commit)) = Stay (Committing now commit)
-removal_goes pass now (Ok None) = collects pass
-removal_goes pass now (Err e) = End (Reading reading.Over) (Err e)
+-- after a step of the removal: once its change is committed, or made nothing, the pass collects; there has to be a manifest
+abbrev pub removed_goes : GcMessage → WorkGoes Manifest → GcGoes
+removed_goes pass (Stay work) = Stay (Removing work)
+removed_goes pass (End work (Ok Absent)) = End (Removing work) (Err LatestTransactionalObjectVersionMissing)
+removed_goes pass (End work (Ok (Unchanged n m))) = collects pass
+removed_goes pass (End work (Ok (Committed n m))) = collects pass
+removed_goes pass (End work (Err e)) = End (Removing work) (Err e)
 
--- after a step of the read: the removal is made of the latest manifest, at the moment of the step
+-- so after a step of its read, at a moment
 abbrev pub read_on : (Manifest → Result (List ℕ) SlateDBError) → GcMessage → ℤ → Reply Manifest → GcGoes
-read_on bytes_of pass now (Stay phase) = Stay (Reading phase)
-read_on bytes_of pass now (End phase (Ok None)) = End (Reading phase) (Err LatestTransactionalObjectVersionMissing)
-read_on bytes_of pass now (End phase (Ok (Some version))) = removal_goes pass now (commit_of bytes_of DropExpired now version.0 version.1)
-read_on bytes_of pass now (End phase (Err e)) = End (Reading phase) (Err e)
+read_on bytes_of pass now out = removed_goes pass (works.read_on (commit_of bytes_of DropExpired) now out)
 
--- after a step of the commit: once it stands the pass collects
+-- after the read's last one, by the commit of what the change makes of this version
+abbrev pub removal_goes : GcMessage → ℤ → ℕ → Manifest → Result (Option (CommitPhase Manifest)) SlateDBError → GcGoes
+removal_goes pass now n m commit = removed_goes pass (works.change_goes now n m commit)
+
+-- and after a step of its commit
 abbrev pub commit_on : GcMessage → ℤ → CommitGoes Manifest → GcGoes
-commit_on pass now (Stay phase) = Stay (Committing now phase)
-commit_on pass now (End phase (Ok version)) = collects pass
-commit_on pass now (End phase (Err e)) = End (Committing now phase) (Err e)
+commit_on pass made out = removed_goes pass (works.commit_on made out)
 
 -- after a step of what follows: once it made a call the pass has its moment
 abbrev pub collect_on : Option ℤ → ℤ → PassGoes → GcGoes
@@ -94,6 +94,5 @@ moment_after at now (Done r) = at
 
 -- how the whole pass goes on from the answer at this moment
 abbrev pub gc_goes : Ways → PassSettings → ℤ → GcPhase → StoreAnswer → GcGoes
-gc_goes ways settings moment (Reading phase) answer = read_on ways.bytes_of settings.pass moment (read_goes logs.Manifest ways.manifest_of phase answer)
-gc_goes ways settings moment (Committing made phase) answer = commit_on settings.pass made (commit_goes phase answer)
+gc_goes ways settings moment (Removing work) answer = removed_goes settings.pass (work_goes logs.Manifest ways.manifest_of (commit_of ways.bytes_of DropExpired) moment work answer)
 gc_goes ways settings moment (Collecting at phase) answer = collect_on at (moment_of_pass at moment) (pass_goes ways settings (moment_of_pass at moment) phase answer)

@@ -11,9 +11,10 @@ use crate::logs::Logs;
 use crate::pass_counts::PassCounts;
 use crate::pass_phase::PassPhase;
 use crate::pass_settings::PassSettings;
-use crate::removal::{after_commit, after_read};
+use crate::removal::after_removal;
+use slate_changes::LogWork;
 use slate_ids::{DbPath, GcMessage, Millis, ObjectCodec, OutOfMemory, SlateDBError};
-use slate_log::{CommitPhase, LogKind, ReadPhase, Sequenced};
+use slate_log::{LogKind, Sequenced};
 use slate_model::{Compactions, Manifest};
 use slate_picks::{GcFilter, WalGc};
 use slate_store::{ObjectStore, Step, StoreAnswer, StoreCall, perform};
@@ -23,10 +24,8 @@ use std::mem;
 /// Where a whole pass stands.
 #[derive(Debug, Drop)]
 pub enum GcPhase {
-    /// The latest manifest is read.
-    Reading(ReadPhase<Manifest>),
-    /// The manifest without the checkpoints that were expired at this moment is committed.
-    Committing(Millis, CommitPhase<Manifest>),
+    /// The checkpoints that are expired at the moment of the read's end are removed from the latest manifest.
+    Removing(LogWork<Manifest>),
     /// It collects. The moment of its first call, once that was made: ages are counted at it.
     Collecting(Option<Millis>, PassPhase),
 }
@@ -56,7 +55,7 @@ impl GcPhase {
     pub fn start() -> GcPhase
         ensures { result ≡ gc_start }
     {
-        GcPhase::Reading(ReadPhase::Listing)
+        GcPhase::Removing(LogWork::start())
     }
 
     /// The call that is due.
@@ -65,8 +64,7 @@ impl GcPhase {
     {
         let manifests: Sequenced<Manifest, ()> = Sequenced::new(db, LogKind::Manifest, ());
         match self {
-            GcPhase::Reading(phase) => Ok(phase.asks(&manifests)),
-            GcPhase::Committing(_, phase) => phase.asks(alloc, &manifests),
+            GcPhase::Removing(work) => work.asks(alloc, &manifests),
             GcPhase::Collecting(_, phase) => phase.asks(alloc, db, pass),
         }
     }
@@ -76,8 +74,7 @@ impl GcPhase {
         ensures { result ≡ gc_due self.now }
     {
         match self {
-            GcPhase::Reading(phase) => phase.due(),
-            GcPhase::Committing(_, phase) => phase.due(),
+            GcPhase::Removing(work) => work.due(),
             GcPhase::Collecting(_, phase) => phase.due(),
         }
     }
@@ -102,11 +99,8 @@ impl GcPhase {
         ensures writes { WhereOut result.1 (may_run_out self ≡ true) }
     {
         match self {
-            GcPhase::Reading(phase) => {
-                after_read(alloc, logs, settings.pass, moment, phase, answer)
-            }
-            GcPhase::Committing(made, phase) => {
-                after_commit(alloc, settings.pass, made, phase, answer)
+            GcPhase::Removing(work) => {
+                after_removal(alloc, logs, settings.pass, moment, work, answer)
             }
             GcPhase::Collecting(at, phase) => {
                 let now = moment_of(at, moment);

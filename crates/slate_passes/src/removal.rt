@@ -1,13 +1,12 @@
-//! The removal of expired checkpoints, and what a pass does then: what follows the answer to each call of a whole pass.
-ghost use Rattle.std.specs.Prelude.{◌≡◌};
-ghost use Rattle.slate_log.specs.CommitPhase.{commit_goes};
-ghost use Rattle.slate_log.specs.Due.{StillDue, WhereOut, NeverOut};
-ghost use Rattle.slate_log.specs.ReadPhase.{read_goes};
+//! The removal of expired checkpoints: a change of the latest manifest, after which a pass collects.
+ghost use Rattle.std.specs.Prelude.{◌≡◌, None, true};
+ghost use Rattle.slate_changes.specs.LogWorks.{reads_still, work_goes};
+ghost use Rattle.slate_log.specs.Due.{StillDue, WhereOut};
 ghost use Rattle.slate_log.specs.declared.log_kind.LogKind.TheVariants as kinds;
-ghost use Rattle.slate_log.specs.declared.read_phase.ReadPhase.TheVariants as reading;
 ghost use Rattle.slate_passes.specs.GcPhase as whole;
+ghost use Rattle.slate_passes.specs.Pass.{first_phase};
 ghost use Rattle.slate_passes.specs.declared.gc_phase.GcPhase.TheVariants as passes;
-ghost use Rattle.slate_store.specs.Machines.{GoesOn, GoesOnAlways};
+ghost use Rattle.slate_store.specs.Machines.{GoesOn};
 ghost use Rattle.slate_updates.specs.Changes.{commit_of};
 ghost use Rattle.slate_updates.specs.declared.manifest_change.ManifestChange.TheVariants as changes;
 
@@ -15,105 +14,60 @@ use crate::gc_phase::GcPhase;
 use crate::logs::Logs;
 use crate::pass_counts::PassCounts;
 use crate::pass_phase::PassPhase;
+use slate_changes::{LogEnd, LogWork};
 use slate_ids::{GcMessage, Millis, ObjectCodec, SlateDBError};
-use slate_log::{CommitPhase, ReadPhase};
 use slate_model::Manifest;
 use slate_store::{Step, StoreAnswer};
-use slate_updates::ManifestChange;
+use slate_updates::{ManifestChange, ManifestRules};
 use std::alloc::Global;
 
 /// Where the pass stands next, and the step.
 type Onward = (GcPhase, Step<PassCounts>);
 
-// The latest manifest was read, at its last call: its expired checkpoints are removed, where it has any. Running out of memory puts the
-// read back to that call.
-fn after_version<C: ObjectCodec<Manifest>>(
-    alloc: Global,
-    codec: &C,
-    pass: GcMessage,
-    now: Millis,
-    n: u64,
-    value: Manifest,
-) -> Onward
-    ensures goes { GoesOn (whole.removal_goes pass now (commit_of (C.encoded codec.now) changes.DropExpired now n value))
-        (passes.Reading (reading.Bounding n value)) result.0 result.1 }
-    ensures due { StillDue result.1 (whole.gc_due result.0) }
-    ensures memory { WhereOut result.1 (result.0 ≡ passes.Reading (reading.Bounding n value)) }
+// The pass is to collect, and has made no call for it.
+fn collecting(alloc: Global, pass: GcMessage) -> GcPhase
+    ensures { result ≡ passes.Collecting None (first_phase pass) }
 {
-    match ManifestChange::DropExpired.commit(alloc, codec, now, n, &value) {
-        Ok(Some(commit)) => {
-            drop(value);
-            (GcPhase::Committing(now, commit), Step::Again)
-        }
-        Ok(None) => {
-            drop(value);
-            let phase = GcPhase::Collecting(None, PassPhase::first(alloc, pass));
-            (phase, Step::Again)
-        }
-        Err(e) => {
-            if e.is_memory() {
-                let phase = ReadPhase::Bounding(n, value);
-                (GcPhase::Reading(phase), Step::Done(Err(e)))
-            } else {
-                drop(value);
-                (GcPhase::Reading(ReadPhase::Over), Step::Done(Err(e)))
-            }
-        }
-    }
+    GcPhase::Collecting(None, PassPhase::first(alloc, pass))
 }
 
-/// After a call of the read. Running out of memory leaves the phase as it was.
-pub(crate) fn after_read<C: ObjectCodec<Manifest>, R>(
+/// After a call of the removal, at its moment. Running out of memory comes only while the manifest is read, and leaves the phase as it was.
+pub(crate) fn after_removal<C: ObjectCodec<Manifest>, R>(
     alloc: Global,
     logs: &Logs<C, R>,
     pass: GcMessage,
     now: Millis,
-    phase: ReadPhase<Manifest>,
+    work: LogWork<Manifest>,
     answer: &StoreAnswer,
 ) -> Onward
-    ensures goes { GoesOn (whole.read_on (C.encoded logs.now.manifests) pass now
-        (read_goes kinds.Manifest (C.decoded logs.now.manifests) phase answer.now))
-        (passes.Reading phase) result.0 result.1 }
+    ensures goes { GoesOn (whole.removed_goes pass (work_goes kinds.Manifest (C.decoded logs.now.manifests)
+        (commit_of (C.encoded logs.now.manifests) changes.DropExpired) now work answer.now))
+        (passes.Removing work) result.0 result.1 }
     ensures due { StillDue result.1 (whole.gc_due result.0) }
-    ensures memory { WhereOut result.1 (result.0 ≡ passes.Reading phase) }
+    ensures memory { WhereOut result.1 (result.0 ≡ passes.Removing work) }
+    ensures writes { WhereOut result.1 (reads_still work ≡ true) }
 {
     let manifests = logs.manifest_log();
-    let mut phase = phase;
-    match phase.goes_on(alloc, &manifests, answer) {
-        Step::Again => (GcPhase::Reading(phase), Step::Again),
-        Step::Done(Ok(None)) => {
+    let mut work = work;
+    let change = ManifestChange::DropExpired;
+    let step = work.goes_on(alloc, &change, &manifests, &ManifestRules, now, answer);
+    drop(change);
+    match step {
+        Step::Again => (GcPhase::Removing(work), Step::Again),
+        Step::Done(Ok(LogEnd::Absent)) => {
             let missing = SlateDBError::LatestTransactionalObjectVersionMissing;
-            (GcPhase::Reading(phase), Step::Done(Err(missing)))
+            (GcPhase::Removing(work), Step::Done(Err(missing)))
         }
-        Step::Done(Ok(Some((n, value)))) => {
-            drop(phase);
-            after_version(alloc, &logs.manifests, pass, now, n, value)
+        Step::Done(Ok(LogEnd::Unchanged(_, manifest))) => {
+            drop(manifest);
+            drop(work);
+            (collecting(alloc, pass), Step::Again)
         }
-        Step::Done(Err(e)) => (GcPhase::Reading(phase), Step::Done(Err(e))),
-    }
-}
-
-/// After a call of the commit that was made of a manifest at a moment. Takes no memory.
-pub(crate) fn after_commit(
-    alloc: Global,
-    pass: GcMessage,
-    made: Millis,
-    phase: CommitPhase<Manifest>,
-    answer: &StoreAnswer,
-) -> Onward
-    ensures goes { GoesOnAlways (whole.commit_on pass made (commit_goes phase answer.now)) result.0 result.1 }
-    ensures due { StillDue result.1 (whole.gc_due result.0) }
-    ensures memory { NeverOut result.1 }
-{
-    let mut phase = phase;
-    match phase.goes_on(answer) {
-        Step::Again => (GcPhase::Committing(made, phase), Step::Again),
-        Step::Done(Ok(committed)) => {
-            drop(committed);
-            drop(phase);
-            let next = GcPhase::Collecting(None, PassPhase::first(alloc, pass));
-            (next, Step::Again)
+        Step::Done(Ok(LogEnd::Committed(_, manifest))) => {
+            drop(manifest);
+            drop(work);
+            (collecting(alloc, pass), Step::Again)
         }
-        Step::Done(Err(e)) => (GcPhase::Committing(made, phase), Step::Done(Err(e))),
+        Step::Done(Err(e)) => (GcPhase::Removing(work), Step::Done(Err(e))),
     }
 }

@@ -7,10 +7,10 @@ use Rattle.slate_ids.specs.declared.gc_message.GcMessage.TheVariants as of
 use Rattle.slate_ids.specs.declared.error.SlateDBError.{SlateDBError}
 use Rattle.slate_ids.specs.declared.error.SlateDBError.TheVariants.{CheckpointMissing, InvalidDBState}
 use Rattle.slate_ids.specs.declared.error.StateCause.TheVariants.{NotOpen, NotUploaded}
+use Rattle.slate_changes.specs.Changes.{holder_fence}
 use Rattle.slate_compactor.specs.Local.{refreshed, scheduled, finished, failed, manifest_committed, record_committed, pending_outputs}
-use Rattle.slate_compactor.specs.Trees.{trees_of}
+use Rattle.slate_merges.specs.Trees.{trees_of}
 use Rattle.slate_compactor.specs.declared.local_state.LocalState.{LocalState}
-use Rattle.slate_compactor_changes.specs.declared.compactor_change.CompactorChange.TheVariants as compactor_change
 use Rattle.slate_encodable.specs.Normal.{normal_manifest}
 use Rattle.slate_log.specs.Fence.{unless}
 use Rattle.slate_model.specs.Cores.{Core}
@@ -23,7 +23,6 @@ use Rattle.slate_tables.specs.declared.ss_table_info.SsTableInfo.{SsTableInfo}
 use Rattle.slate_parts.specs.InfoCodec.{encoded_info}
 use Rattle.slate_log.specs.declared.read_phase.ReadPhase.TheVariants as reading
 use Rattle.slate_record_bytes.specs.RecordNormal.{normal_record}
-use Rattle.slate_record_updates.specs.RecordChanges.{compactor_fence}
 use Rattle.slate_records.specs.Records.{Record}
 use Rattle.slate_record_updates.specs.RecordEpochs.{first_record}
 use Rattle.slate_record_updates.specs.declared.record_change.RecordChange.{RecordChange}
@@ -31,6 +30,7 @@ use Rattle.slate_record_updates.specs.declared.record_change.RecordChange.TheVar
 use Rattle.slate_updates.specs.Checkpoints.{checkpoint_at}
 use Rattle.slate_updates.specs.declared.flush_batch.FlushBatch.{FlushBatch}
 use Rattle.slate_updates.specs.declared.flush_batch.FlushedTable.{FlushedTable}
+use Rattle.slate_updates.specs.declared.manifest_change.ManifestChange.{ManifestChange}
 use Rattle.slate_updates.specs.declared.manifest_change.ManifestChange.TheVariants as change
 use Rattle.slate_ids.specs.declared.gc_message.GcMessage.{GcMessage}
 use Rattle.slate_passes.specs.GcPhase.{gc_start}
@@ -47,8 +47,6 @@ use Rattle.slate_protocol.specs.Uploaded.{info_of, with_upload}
 use Rattle.slate_protocol.specs.declared.party.Facts.{Facts}
 use Rattle.slate_protocol.specs.declared.party.Kept.{Kept}
 use Rattle.slate_protocol.specs.declared.party.Kept.TheVariants.{Nothing as NothingKept, Raised, Followed}
-use Rattle.slate_protocol.specs.declared.party_change.PartyChange.{PartyChange}
-use Rattle.slate_protocol.specs.declared.party_change.PartyChange.TheVariants.{Shared, OfCompactor}
 use Rattle.slate_protocol.specs.declared.uploads.Upload.{Upload}
 use Rattle.slate_protocol.specs.declared.work.Ended.{Ended}
 use Rattle.slate_protocol.specs.declared.work.Ended.TheVariants.{NoManifest, ManifestRead, ManifestCommitted, NoRecord, RecordRead, RecordCommitted, TablePut, Passed}
@@ -216,26 +214,26 @@ batch_of uploads tables replay_after next_wal seq tick = record {
 }
 
 -- a compactor's trees as a change, where it holds some
-abbrev pub trees_change : Option ℕ → Option LocalState → Option PartyChange
+abbrev pub trees_change : Option ℕ → Option LocalState → Option ManifestChange
 trees_change epoch None = None
-trees_change epoch (Some local) = Some (OfCompactor (compactor_change.MergeTrees epoch local.trees (pending_outputs local)))
+trees_change epoch (Some local) = Some (change.MergeTrees epoch local.trees (pending_outputs local))
 
 -- what a call puts of the manifest that it read, where it puts something
-abbrev pub change_once : Facts → Call → Option PartyChange
-change_once facts OpenWriter = Some (Shared change.RaiseWriter)
-change_once facts (Flush tables replay_after next_wal seq tick) = Some (Shared (change.Flush facts.epoch (batch_of facts.uploads tables replay_after next_wal seq tick)))
-change_once facts OpenCompactor = Some (OfCompactor compactor_change.Raise)
-change_once facts (WriteManifest checkpoint) = Some (OfCompactor (compactor_change.KeepTrees facts.epoch checkpoint))
-change_once facts (WriteState checkpoint) = Some (OfCompactor (compactor_change.KeepTrees facts.epoch checkpoint))
-change_once facts (WriteCheckpoint id lifetime source name) = Some (Shared (change.WriteCheckpoint id (record { lifetime = lifetime; source = source; name = name })))
-change_once facts (ReplaceCheckpoint old id lifetime source name) = Some (Shared (change.ReplaceCheckpoint old id (record { lifetime = lifetime; source = source; name = name })))
-change_once facts (RefreshCheckpoint id lifetime) = Some (Shared (change.RefreshCheckpoint id lifetime))
-change_once facts (DeleteCheckpoint id) = Some (Shared (change.DeleteCheckpoint id))
-change_once facts (Pass pass min_age dry_run filter) = Some (Shared change.DropExpired)
+abbrev pub change_once : Facts → Call → Option ManifestChange
+change_once facts OpenWriter = Some change.RaiseWriter
+change_once facts (Flush tables replay_after next_wal seq tick) = Some (change.Flush facts.epoch (batch_of facts.uploads tables replay_after next_wal seq tick))
+change_once facts OpenCompactor = Some change.RaiseCompactor
+change_once facts (WriteManifest checkpoint) = Some (change.KeepTrees facts.epoch checkpoint)
+change_once facts (WriteState checkpoint) = Some (change.KeepTrees facts.epoch checkpoint)
+change_once facts (WriteCheckpoint id lifetime source name) = Some (change.WriteCheckpoint id (record { lifetime = lifetime; source = source; name = name }))
+change_once facts (ReplaceCheckpoint old id lifetime source name) = Some (change.ReplaceCheckpoint old id (record { lifetime = lifetime; source = source; name = name }))
+change_once facts (RefreshCheckpoint id lifetime) = Some (change.RefreshCheckpoint id lifetime)
+change_once facts (DeleteCheckpoint id) = Some (change.DeleteCheckpoint id)
+change_once facts (Pass pass min_age dry_run filter) = Some change.DropExpired
 change_once facts _ = None
 
 -- what a call puts of a manifest for a purpose
-abbrev pub change_of : Facts → Call → Purpose → Option PartyChange
+abbrev pub change_of : Facts → Call → Purpose → Option ManifestChange
 change_of facts call Once = change_once facts call
 change_of facts call First = None
 change_of facts call Reset = None
@@ -328,7 +326,7 @@ refreshed_by _ _ core = Ok None
 
 -- the same, unless the manifest read fences the party
 abbrev pub refresh_of : Facts → Manifest → Result (Option LocalState) SlateDBError
-refresh_of facts m = unless (compactor_fence facts.epoch m.compactor_epoch) (refreshed_by facts.kept facts.local m.core)
+refresh_of facts m = unless (holder_fence facts.epoch m.compactor_epoch) (refreshed_by facts.kept facts.local m.core)
 
 -- a refresh ends so
 abbrev pub refresh_reply : Result (Option LocalState) SlateDBError → Reply
@@ -364,7 +362,7 @@ refresh_next db (Some e) = Finish (Refused e)
 
 -- what follows where a record was committed, or needed no commit, the first time in a call
 abbrev pub record_done_once : Facts → Call → Record → Next
-record_done_once facts Refresh r = refresh_next facts.db (compactor_fence facts.epoch r.compactor_epoch)
+record_done_once facts Refresh r = refresh_next facts.db (holder_fence facts.epoch r.compactor_epoch)
 record_done_once facts _ r = Finish Done
 
 -- the same for each purpose: an open ends with its reset

@@ -1,30 +1,28 @@
 -- Fenced epochs: no writer and no compactor commits below the epoch of its kind in an earlier version.
 use Rattle.std.specs.Prelude.{◌≡◌, ℕ, ◌≤◌, List, [], ◌∷◌, Option, Some, None}
-use Rattle.slate_compactor_changes.specs.CompactorChanges.{compactor_epoch_in}
 use Rattle.slate_model.specs.declared.manifest.Manifest.{Manifest}
 use Rattle.slate_protocol.specs.Chains.{Link, link_at}
 use Rattle.slate_protocol.specs.Logs.{Author, Chain, change_by, record_change_by}
-use Rattle.slate_protocol.specs.declared.party_change.PartyChange.{PartyChange}
-use Rattle.slate_protocol.specs.declared.party_change.PartyChange.TheVariants.{Shared, OfCompactor}
 use Rattle.slate_log.specs.declared.log_kind.LogKind.TheVariants as logs
 use Rattle.slate_record_updates.specs.RecordEpochs.{record_epoch}
 use Rattle.slate_record_updates.specs.declared.record_change.RecordChange.{RecordChange}
 use Rattle.slate_record_updates.specs.declared.record_change.RecordChange.TheVariants.{GiveEpoch, Reset, Schedule, PutStatuses}
-use Rattle.slate_updates.specs.Changes.{writer_epoch_in}
+use Rattle.slate_updates.specs.Changes.{compactor_epoch_in, writer_epoch_in}
 use Rattle.slate_updates.specs.Writers.{epoch_of}
 use Rattle.slate_updates.specs.declared.epochs.ManifestEpochs.TheVariants.{Writer, Compactor}
+use Rattle.slate_updates.specs.declared.manifest_change.ManifestChange.{ManifestChange}
 
 -- ---- with which epoch a change is put
 
 -- a writer's, where a writer puts it
-abbrev pub writer_in : Option PartyChange → Manifest → Option ℕ
-writer_in (Some (Shared change)) m = writer_epoch_in change m
-writer_in _ m = None
+abbrev pub writer_in : Option ManifestChange → Manifest → Option ℕ
+writer_in None m = None
+writer_in (Some change) m = writer_epoch_in change m
 
 -- a compactor's, where a compactor puts it
-abbrev pub compactor_in : Option PartyChange → Manifest → Option ℕ
-compactor_in (Some (OfCompactor change)) m = compactor_epoch_in change m
-compactor_in _ m = None
+abbrev pub compactor_in : Option ManifestChange → Manifest → Option ℕ
+compactor_in None m = None
+compactor_in (Some change) m = compactor_epoch_in change m
 
 -- a compactor's, of a record: that which its open raised, or that of its open
 abbrev pub record_epoch_in : Option RecordChange → Option ℕ

@@ -1,7 +1,7 @@
 -- What a party holds while it is in a call.
 use Rattle.std.specs.Prelude.{◌≡◌, ℕ, ◌+◌, ◌≤◌, List, [], ◌∷◌, Some, Ok}
 use Rattle.slate_ids.specs.declared.error.SlateDBError.{SlateDBError}
-use Rattle.slate_compactor.specs.Trees.{Trees}
+use Rattle.slate_merges.specs.Trees.{Trees}
 use Rattle.slate_events.specs.declared.party_kind.PartyKind.TheVariants.{Compactor}
 use Rattle.slate_events.specs.declared.reply.Reply.TheVariants.{Refused}
 use Rattle.slate_store.specs.declared.object.ObjectMetadata.{ObjectMetadata}

@@ -21,6 +21,7 @@ use Rattle.slate_log.specs.declared.commit_phase.CommitPhase.TheVariants.{Puttin
 use Rattle.slate_log.specs.declared.log_kind.LogKind.{LogKind}
 use Rattle.slate_log.specs.declared.log_kind.LogKind.TheVariants as logs
 use Rattle.slate_log.specs.declared.read_phase.ReadPhase.{ReadPhase}
+use Rattle.slate_changes.specs.declared.log_work.LogWork.TheVariants as removal
 use Rattle.slate_passes.specs.declared.gc_phase.GcPhase.TheVariants as passing
 use Rattle.slate_passes.specs.declared.pass_phase.PassPhase.{PassPhase}
 use Rattle.slate_events.specs.declared.call.Call.{Call}
@@ -28,8 +29,9 @@ use Rattle.slate_events.specs.declared.db_spec.DbSpec.{DbSpec}
 use Rattle.slate_events.specs.declared.event.Event.{Event}
 use Rattle.slate_events.specs.declared.event.Event.TheVariants.{Open, Start, Step, Stop}
 use Rattle.slate_protocol.specs.Calls.{change_of, record_change_of, first_of}
-use Rattle.slate_protocol.specs.PartyChanges.{change_made, change_right, change_fence, made_by, right_by, fence_by}
-use Rattle.slate_protocol.specs.declared.party_change.PartyChange.{PartyChange}
+use Rattle.slate_changes.specs.Changes.{made_by, right_by, fence_by}
+use Rattle.slate_updates.specs.Changes.{made as manifest_made, right_of as manifest_right_of, fence_of as manifest_fence_of}
+use Rattle.slate_updates.specs.declared.manifest_change.ManifestChange.{ManifestChange}
 use Rattle.slate_protocol.specs.Chains.{Link, Log, with_link}
 use Rattle.slate_protocol.specs.Specs.{first_bytes, record_bytes, listed_or_none}
 use Rattle.slate_protocol.specs.Works.{asks, is_due}
@@ -55,7 +57,7 @@ pub record Author : Type 0 where
   pub now : ℤ
 
 -- what an author puts to the log of manifests, where it puts a change there
-abbrev pub change_by : Author → Option PartyChange
+abbrev pub change_by : Author → Option ManifestChange
 change_by a = change_of a.facts a.call a.purpose
 
 -- what an author puts to the log of records
@@ -78,9 +80,9 @@ manifests = record {
   refusal = manifest_refusal;
   names = λ m n. is_named n m.core.checkpoints;
   first = λ a. Ok None;
-  makes = λ a n m. made_by change_made (change_by a) a.now n m;
-  right = λ a. right_by change_right (change_by a);
-  fence = λ a m. fence_by change_fence (change_by a) m;
+  makes = λ a n m. made_by manifest_made (change_by a) a.now n m;
+  right = λ a. right_by manifest_right_of (change_by a);
+  fence = λ a m. fence_by manifest_fence_of (change_by a) m;
 }
 
 -- the log of records
@@ -134,8 +136,8 @@ phrase_of (CommitManifest purpose now db phase) = Commits logs.Manifest db purpo
 phrase_of (ReadRecord purpose db phase) = Reads logs.Compactions db phase
 phrase_of (CommitRecord purpose now db phase) = Commits logs.Compactions db purpose now phase
 phrase_of (PutTable db upload bytes) = Uploads db upload.table bytes
-phrase_of (Pass db settings filter (passing.Reading phase)) = Reads logs.Manifest db phase
-phrase_of (Pass db settings filter (passing.Committing now phase)) = Commits logs.Manifest db Once now phase
+phrase_of (Pass db settings filter (passing.Removing (removal.Reading phase))) = Reads logs.Manifest db phase
+phrase_of (Pass db settings filter (passing.Removing (removal.Committing now phase))) = Commits logs.Manifest db Once now phase
 phrase_of (Pass db settings filter (passing.Collecting at phase)) = Collects db settings.pass phase
 
 -- ---- what is put

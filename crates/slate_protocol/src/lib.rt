@@ -5,7 +5,6 @@
 mod carrier;
 mod laws;
 mod party;
-mod party_change;
 mod tally;
 mod uploads;
 mod work;
@@ -13,7 +12,6 @@ mod work;
 pub use carrier::Carrier;
 pub use laws::bad_events;
 pub use party::{Facts, Kept, Party, State, Task};
-pub use party_change::PartyChange;
 pub use tally::Tally;
 pub use uploads::{Upload, Uploads};
 pub use work::{Ended, Purpose, Work};

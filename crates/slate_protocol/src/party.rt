@@ -2,9 +2,10 @@
 
 use crate::uploads::Uploads;
 use crate::work::Work;
-use slate_compactor::{LocalState, LocalTrees};
+use slate_compactor::LocalState;
 use slate_events::{Call, PartyKind};
 use slate_ids::DbPath;
+use slate_merges::LocalTrees;
 use slate_model::Compactions;
 
 /// What a call of a compactor keeps of its earlier phrases.

@@ -1,17 +1,13 @@
 -- Changes of a record: what each makes of the version read, under which right, and which versions its fence refuses.
-use Rattle.std.specs.Prelude.{ℕ, ℤ, List, [], Option, Some, None, Result, Ok}
+use Rattle.std.specs.Prelude.{ℕ, ℤ, [], Option, Some, None, Result, Ok}
+use Rattle.slate_changes.specs.Changes.{holder_fence}
 use Rattle.slate_ids.specs.declared.error.SlateDBError.{SlateDBError}
-use Rattle.slate_ids.specs.declared.error.SlateDBError.TheVariants.{InvalidDBState}
-use Rattle.slate_ids.specs.declared.error.StateCause.TheVariants.{NotOpen}
 use Rattle.slate_records.specs.Records.{Record}
-use Rattle.slate_log.specs.Change.{renewed}
-use Rattle.slate_log.specs.Fence.{unless, fence}
-use Rattle.slate_log.specs.declared.commit_phase.CommitPhase.{CommitPhase}
+use Rattle.slate_log.specs.Fence.{fence}
 use Rattle.slate_log.specs.declared.right.Right.{Right}
 use Rattle.slate_log.specs.declared.right.Right.TheVariants.{Plain, RecordHolder}
 use Rattle.slate_record_updates.specs.EntrySteps.{stepped, to_scheduled, to_running, to_compacted, reset, with_statuses, one_more}
 use Rattle.slate_record_updates.specs.RecordEpochs.{with_record_epoch}
-use Rattle.slate_record_updates.specs.RecordRules.{record_refusal_of}
 use Rattle.slate_record_updates.specs.declared.record_change.RecordChange.{RecordChange}
 use Rattle.slate_record_updates.specs.declared.record_change.RecordChange.TheVariants.{GiveEpoch, Reset, Schedule, Claim, Report, PutStatuses, Submit}
 
@@ -32,19 +28,10 @@ right_of (Reset epoch) = RecordHolder []
 right_of (PutStatuses compactor local pending) = RecordHolder pending
 right_of _ = Plain
 
--- the refusal of a compactor with this epoch, or with none, at a version with that one
-abbrev pub compactor_fence : Option ℕ → ℕ → Option SlateDBError
-compactor_fence None read = Some (InvalidDBState NotOpen)
-compactor_fence (Some own) read = fence own read
-
 -- why a version refuses a change: a compactor's changes have a fence, those of a worker and of an admin have none
 abbrev pub fence_of : RecordChange → Record → Option SlateDBError
 fence_of (GiveEpoch epoch) r = fence epoch r.compactor_epoch
 fence_of (Reset epoch) r = fence epoch r.compactor_epoch
-fence_of (Schedule compactor id) r = compactor_fence compactor r.compactor_epoch
-fence_of (PutStatuses compactor local pending) r = compactor_fence compactor r.compactor_epoch
+fence_of (Schedule compactor id) r = holder_fence compactor r.compactor_epoch
+fence_of (PutStatuses compactor local pending) r = holder_fence compactor r.compactor_epoch
 fence_of _ r = None
-
--- the commit of what a change makes at a moment of version n; or none, where nothing is to be committed; or why there is none
-abbrev pub commit_of : (Record → Result (List ℕ) SlateDBError) → RecordChange → ℤ → ℕ → Record → Result (Option (CommitPhase Record)) SlateDBError
-commit_of encoded change now n r = unless (fence_of change r) (renewed (made change now) record_refusal_of encoded (right_of change) n r)

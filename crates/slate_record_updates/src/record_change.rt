@@ -1,15 +1,13 @@
 //! Changes of a record of compactions: what a commit puts.
-ghost use Rattle.std.specs.Prelude.{◌≡◌, true, None, IfOk, IfSome};
-ghost use Rattle.slate_ids.specs.Answers.{Gives};
-ghost use Rattle.slate_log.specs.CommitPhase.{is_putting};
+ghost use Rattle.std.specs.Prelude.{◌≡◌, IfOk};
 ghost use Rattle.slate_record_updates.specs.RecordChanges as changes;
 ghost use Rattle.slate_record_updates.specs.RecordEpochs.{with_record_epoch};
 
 use crate::entry_steps::{claim, report, schedule, submit};
-use crate::record_rules::CompactionsRules;
 use crate::whole_records::{put_statuses, reset};
-use slate_ids::{Listed, Millis, ObjectCodec, OutOfMemory, SlateDBError, StateCause, Ulid};
-use slate_log::{CommitPhase, Right, fence, prepare_change};
+use slate_changes::{Change, holder_fence};
+use slate_ids::{Listed, Millis, OutOfMemory, SlateDBError, Ulid};
+use slate_log::{Right, fence};
 use slate_model::{CompactionSpec, Compactions, Plain, SsTableHandle};
 use std::alloc::Global;
 
@@ -57,16 +55,6 @@ pub enum RecordChange {
     },
 }
 
-// Why a version with the epoch `read` refuses a compactor.
-fn compactor_fence(own: Option<u64>, read: u64) -> Option<SlateDBError>
-    ensures { result ≡ changes.compactor_fence own read }
-{
-    match own {
-        None => Some(SlateDBError::InvalidDBState(StateCause::NotOpen)),
-        Some(own) => fence(own, read),
-    }
-}
-
 // An equal record with another epoch.
 fn with_epoch(
     alloc: Global,
@@ -80,11 +68,14 @@ fn with_epoch(
     Ok(new)
 }
 
-impl RecordChange {
-    /// The right under which it is put: that of a holder of the record for an open, a reset and statuses, for which memory is asked.
-    pub fn right(&self, alloc: Global) -> Result<Right, OutOfMemory>
-        ensures { IfOk result (λ right. right ≡ changes.right_of self.now) }
-    {
+impl Change<Compactions> for RecordChange {
+    ghost made = { λ change now n compactions. changes.made change now n compactions };
+
+    ghost right_of = { λ change. changes.right_of change };
+
+    ghost fence_of = { λ change compactions. changes.fence_of change compactions };
+
+    fn right(&self, alloc: Global) -> Result<Right, OutOfMemory> {
         match self {
             RecordChange::GiveEpoch { .. } => Ok(Right::RecordHolder {
                 pending: Listed::new(alloc),
@@ -99,111 +90,40 @@ impl RecordChange {
         }
     }
 
-    /// Why a version refuses it: the changes of a compactor have a fence.
-    pub fn refusal_at(&self, compactions: &Compactions) -> Option<SlateDBError>
-        ensures { result ≡ changes.fence_of self.now compactions.now }
-    {
-        let read = compactions.compactor_epoch;
+    fn refusal_at(&self, value: &Compactions) -> Option<SlateDBError> {
+        let read = value.compactor_epoch;
         match self {
             RecordChange::GiveEpoch { epoch } => fence(*epoch, read),
             RecordChange::Reset { epoch } => fence(*epoch, read),
-            RecordChange::Schedule { compactor, .. } => compactor_fence(*compactor, read),
-            RecordChange::PutStatuses { compactor, .. } => compactor_fence(*compactor, read),
+            RecordChange::Schedule { compactor, .. } => holder_fence(*compactor, read),
+            RecordChange::PutStatuses { compactor, .. } => holder_fence(*compactor, read),
             _ => None,
         }
     }
 
-    /// What it makes at a moment of version `n`; nothing, where nothing is to be committed.
-    pub fn make(
-        self,
+    fn make(
+        &self,
         alloc: Global,
         now: Millis,
         n: u64,
-        compactions: &Compactions,
-    ) -> Result<Option<Compactions>, SlateDBError>
-        ensures { Gives result (changes.made self now n compactions.now) }
-    {
+        value: &Compactions,
+    ) -> Result<Option<Compactions>, SlateDBError> {
         match self {
-            RecordChange::GiveEpoch { epoch } => Ok(Some(with_epoch(alloc, epoch, compactions)?)),
-            RecordChange::Reset { .. } => Ok(Some(reset(alloc, compactions)?)),
-            RecordChange::Schedule { id, .. } => schedule(alloc, id, compactions),
-            RecordChange::Claim { id, worker } => claim(alloc, id, worker, now, compactions),
+            RecordChange::GiveEpoch { epoch } => Ok(Some(with_epoch(alloc, *epoch, value)?)),
+            RecordChange::Reset { .. } => Ok(Some(reset(alloc, value)?)),
+            RecordChange::Schedule { id, .. } => schedule(alloc, *id, value),
+            RecordChange::Claim { id, worker } => claim(alloc, *id, *worker, now, value),
             RecordChange::Report {
                 id,
                 worker,
                 outputs,
-            } => report(alloc, id, worker, outputs, compactions),
+            } => report(alloc, *id, *worker, Plain::clone(outputs, alloc)?, value),
             RecordChange::PutStatuses { local, pending, .. } => {
-                let made = put_statuses(alloc, &local, pending.as_slice(), compactions);
-                drop(pending);
-                drop(local);
-                Ok(Some(made?))
+                Ok(Some(put_statuses(alloc, local, pending.as_slice(), value)?))
             }
-            RecordChange::Submit { id, spec } => submit(alloc, id, spec, compactions),
-        }
-    }
-
-    // The commit of what it makes under its right, where no fence refuses it.
-    fn prepared<C: ObjectCodec<Compactions>>(
-        self,
-        alloc: Global,
-        codec: &C,
-        now: Millis,
-        n: u64,
-        compactions: &Compactions,
-        right: Right,
-    ) -> Result<Option<CommitPhase<Compactions>>, SlateDBError>
-        requires right { right ≡ changes.right_of self }
-        requires unfenced { changes.fence_of self compactions.now ≡ None }
-        ensures commit { Gives result (changes.commit_of (C.encoded codec.now) self now n compactions.now) }
-        ensures putting { IfOk result (λ commit. IfSome commit (λ c. is_putting c ≡ true)) }
-    {
-        match self.make(alloc, now, n, compactions) {
-            Ok(made) => {
-                let commit = prepare_change(
-                    alloc,
-                    codec,
-                    &CompactionsRules,
-                    n,
-                    compactions,
-                    made,
-                    &right,
-                );
-                drop(right);
-                commit
+            RecordChange::Submit { id, spec } => {
+                submit(alloc, *id, Plain::clone(spec, alloc)?, value)
             }
-            Err(e) => {
-                drop(right);
-                Err(e)
-            }
-        }
-    }
-
-    /// The commit of what it makes at a moment of version `n`; none, where nothing is to be committed. Refused by its fence, by what
-    /// `make` refuses, by the rules on new records, and where there is no next number or the value has no bytes.
-    pub fn commit<C: ObjectCodec<Compactions>>(
-        self,
-        alloc: Global,
-        codec: &C,
-        now: Millis,
-        n: u64,
-        compactions: &Compactions,
-    ) -> Result<Option<CommitPhase<Compactions>>, SlateDBError>
-        ensures commit { Gives result (changes.commit_of (C.encoded codec.now) self now n compactions.now) }
-        ensures putting { IfOk result (λ commit. IfSome commit (λ c. is_putting c ≡ true)) }
-    {
-        match self.refusal_at(compactions) {
-            Some(refusal) => {
-                drop(self);
-                Err(refusal)
-            }
-            None => match self.right(alloc) {
-                Ok(right) => self.prepared(alloc, codec, now, n, compactions, right),
-                Err(_) => {
-                    drop(self);
-                    Err(SlateDBError::OutOfMemory)
-                }
-            },
         }
     }
 }

@@ -2,6 +2,7 @@
 
 use crate::test_changes::{HELD, Put, change, record_of};
 use crate::test_records::{Made, id};
+use slate_changes::Change;
 use slate_ids::{SlateDBError, StateCause};
 use slate_log::Right;
 use slate_model::{Compaction, CompactionStatus, Compactions};
@@ -294,7 +295,9 @@ fn made(
     now: i64,
 ) -> Result<Option<Compactions>, SlateDBError> {
     let compactions = record_of(rt, alloc, 2, HELD);
-    let made = change(rt, alloc, put).make(alloc, now, 7, &compactions);
+    let change = change(rt, alloc, put);
+    let made = change.make(alloc, now, 7, &compactions);
+    drop(change);
     drop(compactions);
     made
 }

@@ -2,10 +2,12 @@
 
 use crate::test_changes::{HELD, Held, Put, change, record_of};
 use crate::test_records::Made;
+use slate_changes::commit_change;
 use slate_ids::SlateDBError;
 use slate_layout::CompactionsCodec;
 use slate_log::CommitPhase;
 use slate_model::{CompactionStatus, Compactions};
+use slate_record_updates::CompactionsRules;
 use std::alloc::Global;
 use std::process::Abort;
 
@@ -68,7 +70,17 @@ fn told(commit: &Result<Option<CommitPhase<Compactions>>, SlateDBError>) -> u8 {
 /// The commit of a change after version `n`.
 fn committed(rt: &impl Abort, alloc: Global, all: &[Held], put: Put, n: u64) -> u8 {
     let compactions = record_of(rt, alloc, 2, all);
-    let commit = change(rt, alloc, put).commit(alloc, &CompactionsCodec, 50, n, &compactions);
+    let change = change(rt, alloc, put);
+    let commit = commit_change(
+        alloc,
+        &change,
+        &CompactionsCodec,
+        &CompactionsRules,
+        50,
+        n,
+        &compactions,
+    );
+    drop(change);
     drop(compactions);
     let code = told(&commit);
     drop(commit);

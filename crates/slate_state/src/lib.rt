@@ -13,7 +13,7 @@ pub use slate_compactions_store::{
     DeleteCompactionsUncheckedMachine, LatestCompactionsMachine, ListCompactionsMachine, NoNames,
     ReadCompactionsMachine, TryLatestCompactionsMachine, TryReadCompactionsMachine,
 };
-pub use slate_compactor::{LocalState, LocalTrees};
+pub use slate_compactor::LocalState;
 pub use slate_compactor_state::{CompactorStateReader, CompactorStateView, ReadViewMachine};
 pub use slate_compactor_writer::{CompactorStateMachine, CompactorStateWriter, OpenStateMachine};
 pub use slate_manifest_store::{
@@ -30,8 +30,8 @@ pub use slate_manifests::{
     checkpoint_stands_in_old,
 };
 pub use slate_merges::{
-    TreeMerge, merge_remote_manifest, merge_segments_from_compactor, merge_segments_from_writer,
-    merge_writer_and_compactor,
+    LocalTrees, TreeMerge, merge_remote_manifest, merge_segments_from_compactor,
+    merge_segments_from_writer, merge_writer_and_compactor,
 };
 pub use slate_record_updates::{CompactionsRules, RecordEpochs, claim, report, submit};
 pub use slate_txn::DirtyObject;

@@ -2,7 +2,10 @@
 use Rattle.std.proofs.Common.{◌≡◌, true≢false, Ok, Err, inl, inr, ap, sym, ◌∙◌}
 use Rattle.slate_ids.specs.declared.error.SlateDBError.{SlateDBError}
 use Rattle.slate_ids.specs.Answers.{OrMemory}
+use Rattle.slate_log.specs.Due.{NeverOut, WhereOut}
 use Rattle.slate_store.specs.Machines.{Goes, End}
+use Rattle.slate_store.specs.declared.step.Step.{Step}
+use Rattle.slate_store.specs.declared.step.Step.TheVariants.{Again, Done}
 
 -- a refusal of the inner machine is one of the outer
 pub refused_around : {P Q R S : Type 0} (f : P → Q) (over : Goes P R → Goes Q S) {goes : Goes P R} (from to : P) (e : SlateDBError)
@@ -19,3 +22,8 @@ pub done_around : {P Q R S : Type 0} (f : P → Q) (over : Goes P R → Goes Q S
     → OrMemory {X = S} (Ok s) (f to ≡ f from) (over goes ≡ End (f to) (Ok s))
 done_around f over from to r s same (inl gives) = inl (ap over gives ∙ same)
 done_around f over from to r s same (inr held) = absurd (true≢false (sym held.0))
+
+-- where memory never runs out, anything holds where it does
+pub never_where : {R : Type 0} (P : Type 0) (step : Step R) → NeverOut step → WhereOut step P
+never_where P Again never = tt
+never_where P (Done r) never = λ out. absurd (true≢false (sym out ∙ never))

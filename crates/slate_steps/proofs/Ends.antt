@@ -1,19 +1,16 @@
 -- What a step of a phrase leaves of its call, at its end and where memory ran out.
-use Rattle.std.proofs.Common.{◌≡◌, ℤ, true, false, true≢false, Option, Ok, Err, refl, sym, ◌∙◌, ap, inl, inr}
-use Rattle.slate_ids.specs.Answers.{is_memory, OrMemory}
+use Rattle.std.proofs.Common.{◌≡◌, ℤ, true, Option, Ok, Err, refl, sym, ◌∙◌, ap}
+use Rattle.slate_ids.specs.Answers.{is_memory}
 use Rattle.slate_ids.specs.declared.error.SlateDBError.{SlateDBError}
-use Rattle.slate_store.specs.Machines.{End}
+use Rattle.slate_log.specs.Due.{WhereOut}
 use Rattle.slate_store.specs.declared.step.Step.TheVariants.{Done}
-use Rattle.slate_store.specs.declared.store_answer.StoreAnswer.{StoreAnswer}
 use Rattle.slate_events.specs.declared.reply.Reply.{Reply}
 use Rattle.slate_protocol.specs.Calls.{Next, facts_after}
 use Rattle.slate_protocol.specs.Rows.{Standing, after}
-use Rattle.slate_protocol.specs.Works.{goes}
 use Rattle.slate_protocol.specs.declared.party.Facts.{Facts}
 use Rattle.slate_protocol.specs.declared.party.Task.{Task}
 use Rattle.slate_protocol.specs.declared.work.Ended.{Ended}
 use Rattle.slate_protocol.specs.declared.work.Work.{Work}
-use Rattle.slate_steps.proofs.NeverMemory.{never_memory}
 use Rattle.slate_steps.specs.Followed.{next_by, Ends, Kept}
 use Rattle.slate_steps.specs.Onward.{next_of}
 use Rattle.slate_steps.specs.WorkSteps.{OutReading}
@@ -32,9 +29,7 @@ ends_so facts task now end known to next reply follows learnt goes_on call =
     (ap (at (facts_after facts task.call end)) (sym follows ∙ goes_on) ∙ ap (λ (k : Facts). at k (next_by to.work reply)) (sym learnt), call)
 
 -- running out of memory left the call as it was
-pub kept_by : (facts : Facts) (task : Task) (to : Work) (moment : ℤ) (answer : StoreAnswer) (e : SlateDBError) → is_memory e ≡ true
-    → OrMemory {X = Ended} (Err e) (to ≡ task.work) (goes task.work moment answer ≡ End to (Err e))
-    → OutReading task.work (Done (Err e))
+pub kept_by : (facts : Facts) (task : Task) (to : Work) (e : SlateDBError) → is_memory e ≡ true
+    → WhereOut {R = Ended} (Done (Err e)) (to ≡ task.work) → OutReading task.work (Done (Err e))
     → Kept facts task facts (record task { work = to })
-kept_by facts task to moment answer e h (inl gives) out = absurd (true≢false (sym h ∙ never_memory task.work to moment answer e gives))
-kept_by facts task to moment answer e h (inr held) out = record { same_facts = refl; same_task = ap (λ (w : Work). record task { work = w }) held.1; reads = out h }
+kept_by facts task to e h kept out = record { same_facts = refl; same_task = ap (λ (w : Work). record task { work = w }) (kept h); reads = out h }

@@ -1,7 +1,6 @@
 mod Around
 mod Rewinding
 mod Follows
-mod NeverMemory
 mod Ends
 mod NoUploads
 mod NoRecords

@@ -19,7 +19,7 @@ use Rattle.slate_protocol.specs.declared.work.Work.TheVariants.{CommitManifest, 
 use Rattle.slate_protocol.specs.declared.work.Purpose.{Purpose}
 use Rattle.slate_protocol.specs.declared.work.Ended.{Ended}
 use Rattle.slate_protocol.specs.declared.work.Ended.TheVariants.{ManifestCommitted, RecordCommitted}
-use Rattle.slate_steps.specs.WorkSteps.{WorkGoesOn, AtEnd, OutReading, purpose_of, rewound}
+use Rattle.slate_steps.specs.WorkSteps.{WorkGoesOn, AtEnd, purpose_of, rewound}
 
 -- work that ends well can be put back to where it was, and its last call was one that reads
 abbrev EndsReading : Work → WorkGoes → Type 0
@@ -81,12 +81,6 @@ pub commit_ends : (w : Work) (purpose : Purpose) (made : ℤ) (db : List ℕ) (f
 commit_ends w purpose made db from to moment a step same goes =
     rw same (ends_at (CommitManifest purpose made db from) (CommitManifest purpose made db to) moment a step (manifest_reading purpose made db from a) (rw same at goes))
 
--- and it runs out of memory where the work that it is does
-pub commit_out : (w : Work) (own : Purpose) (at : List ℕ) (purpose : Purpose) (made : ℤ) (db : List ℕ) (from : CommitPhase Manifest) (step : Step Ended)
-    → w ≡ CommitManifest purpose made db from → at ≡ db_of w
-    → OutReading (CommitManifest own made at from) step → OutReading w step
-commit_out w own at purpose made db from step same there out = rw same (rw (there, same) at out)
-
 -- ---- the same of records
 
 record_reading : (purpose : Purpose) (made : ℤ) (db : List ℕ) (phase : CommitPhase Record) (a : StoreAnswer) → EndsReading (CommitRecord purpose made db phase) (record_commit_on purpose made db (commit_goes phase a))
@@ -103,8 +97,3 @@ pub record_ends : (w : Work) (purpose : Purpose) (made : ℤ) (db : List ℕ) (f
     → AtEnd w (CommitRecord purpose made db to) step
 record_ends w purpose made db from to moment a step same goes =
     rw same (ends_at (CommitRecord purpose made db from) (CommitRecord purpose made db to) moment a step (record_reading purpose made db from a) (rw same at goes))
-
-pub record_out : (w : Work) (own : Purpose) (at : List ℕ) (purpose : Purpose) (made : ℤ) (db : List ℕ) (from : CommitPhase Record) (step : Step Ended)
-    → w ≡ CommitRecord purpose made db from → at ≡ db_of w
-    → OutReading (CommitRecord own made at from) step → OutReading w step
-record_out w own at purpose made db from step same there out = rw same (rw (there, same) at out)

@@ -1,15 +1,13 @@
 //! What a call puts: of a manifest, of a record, and which commit follows another at once.
 ghost use Rattle.std.specs.Prelude.{◌≡◌, IfOk, map};
 ghost use Rattle.slate_ids.specs.Answers.{Gives};
-ghost use Rattle.slate_compactor_changes.specs.declared.compactor_change.CompactorChange.TheVariants as compactor;
 ghost use Rattle.slate_protocol.specs.Calls as calls;
 ghost use Rattle.slate_protocol.specs.PartyChanges as changes;
-ghost use Rattle.slate_protocol.specs.declared.party_change.PartyChange.TheVariants as puts;
 ghost use Rattle.slate_protocol.specs.Uploaded.{info_of};
-ghost use Rattle.slate_updates.specs.declared.manifest_change.ManifestChange.TheVariants as flushes;
+ghost use Rattle.slate_updates.specs.declared.manifest_change.ManifestChange.TheVariants as puts;
 
+use slate_changes::commit_change;
 use slate_compactor::LocalState;
-use slate_compactor_changes::CompactorChange;
 use slate_events::{Call, FlushTable};
 use slate_ids::{CheckpointId, Listed, Millis, OutOfMemory, SlateDBError, Text, Ulid};
 use slate_layout::{CompactionsCodec, ManifestCodec};
@@ -17,9 +15,9 @@ use slate_log::CommitPhase;
 use slate_model::{
     CheckpointOptions, Compactions, Manifest, Plain, SsTableHandle, SsTableId, SsTableInfo,
 };
-use slate_protocol::{Facts, Kept, PartyChange, Purpose, Uploads};
-use slate_record_updates::{RecordChange, first_record};
-use slate_updates::{FlushBatch, FlushedTable, ManifestChange};
+use slate_protocol::{Facts, Kept, Purpose, Uploads};
+use slate_record_updates::{CompactionsRules, RecordChange, first_record};
+use slate_updates::{FlushBatch, FlushedTable, ManifestChange, ManifestRules};
 use std::alloc::Global;
 
 // What is known of an uploaded table.
@@ -113,7 +111,7 @@ fn trees_change(
     alloc: Global,
     epoch: Option<u64>,
     local: &Option<LocalState>,
-) -> Result<Option<PartyChange>, OutOfMemory>
+) -> Result<Option<ManifestChange>, OutOfMemory>
     ensures { IfOk result (λ change. change ≡ calls.trees_change epoch local.now) }
 {
     match local {
@@ -121,11 +119,11 @@ fn trees_change(
         Some(local) => {
             let trees = Plain::clone(&local.trees, alloc)?;
             match local.pending_outputs(alloc) {
-                Ok(outputs) => Ok(Some(PartyChange::OfCompactor(CompactorChange::MergeTrees {
+                Ok(outputs) => Ok(Some(ManifestChange::MergeTrees {
                     compactor: epoch,
                     trees,
                     outputs,
-                }))),
+                })),
                 Err(e) => {
                     drop(trees);
                     Err(e)
@@ -133,16 +131,6 @@ fn trees_change(
             }
         }
     }
-}
-
-// The checkpoint that comes before a compactor's trees, as a change.
-fn keep_trees(epoch: Option<u64>, checkpoint: CheckpointId) -> PartyChange
-    ensures { result ≡ puts.OfCompactor (compactor.KeepTrees epoch checkpoint) }
-{
-    PartyChange::OfCompactor(CompactorChange::KeepTrees {
-        compactor: epoch,
-        checkpoint,
-    })
 }
 
 // What a flush puts.
@@ -155,7 +143,7 @@ fn flush(
     seq: u64,
     tick: Millis,
 ) -> Result<ManifestChange, OutOfMemory>
-    ensures { IfOk result (λ change. change ≡ flushes.Flush facts.now.epoch
+    ensures { IfOk result (λ change. change ≡ puts.Flush facts.now.epoch
         (calls.batch_of facts.now.uploads tables.now replay_after next_wal seq tick)) }
 {
     Ok(ManifestChange::Flush {
@@ -175,7 +163,7 @@ fn change_once(
     alloc: Global,
     facts: &Facts,
     call: &Call,
-) -> Result<Option<PartyChange>, OutOfMemory>
+) -> Result<Option<ManifestChange>, OutOfMemory>
     ensures { IfOk result (λ change. change ≡ calls.change_once facts.now call.now) }
 {
     let change = match call {
@@ -221,12 +209,18 @@ fn change_once(
         },
         Call::DeleteCheckpoint { id } => ManifestChange::DeleteCheckpoint { id: *id },
         Call::Pass { .. } => ManifestChange::DropExpired,
-        Call::OpenCompactor => return Ok(Some(PartyChange::OfCompactor(CompactorChange::Raise))),
-        Call::WriteManifest { checkpoint } => return Ok(Some(keep_trees(facts.epoch, *checkpoint))),
-        Call::WriteState { checkpoint } => return Ok(Some(keep_trees(facts.epoch, *checkpoint))),
+        Call::OpenCompactor => ManifestChange::RaiseCompactor,
+        Call::WriteManifest { checkpoint } => ManifestChange::KeepTrees {
+            compactor: facts.epoch,
+            checkpoint: *checkpoint,
+        },
+        Call::WriteState { checkpoint } => ManifestChange::KeepTrees {
+            compactor: facts.epoch,
+            checkpoint: *checkpoint,
+        },
         _ => return Ok(None),
     };
-    Ok(Some(PartyChange::Shared(change)))
+    Ok(Some(change))
 }
 
 /// What a call puts of a manifest for a purpose.
@@ -235,7 +229,7 @@ pub(crate) fn change_of(
     facts: &Facts,
     call: &Call,
     purpose: Purpose,
-) -> Result<Option<PartyChange>, OutOfMemory>
+) -> Result<Option<ManifestChange>, OutOfMemory>
     ensures { IfOk result (λ change. change ≡ calls.change_of facts.now call.now purpose) }
 {
     match purpose {
@@ -248,20 +242,24 @@ pub(crate) fn change_of(
 /// The commit of what a change makes of version `n` of a manifest at a moment, where there is a change and it makes something.
 pub(crate) fn commit_manifest(
     alloc: Global,
-    change: Option<PartyChange>,
+    change: Option<ManifestChange>,
     now: Millis,
     n: u64,
     manifest: &Manifest,
 ) -> Result<Option<CommitPhase<Manifest>>, SlateDBError>
     ensures { Gives result (changes.manifest_commit change now n manifest.now) }
 {
-    match change {
-        None => Ok(None),
-        Some(PartyChange::Shared(change)) => change.commit(alloc, &ManifestCodec, now, n, manifest),
-        Some(PartyChange::OfCompactor(change)) => {
-            change.commit(alloc, &ManifestCodec, now, n, manifest)
-        }
-    }
+    let commit = commit_change(
+        alloc,
+        &change,
+        &ManifestCodec,
+        &ManifestRules,
+        now,
+        n,
+        manifest,
+    );
+    drop(change);
+    commit
 }
 
 // The epoch that an open raised, as a change of the record.
@@ -357,10 +355,17 @@ pub(crate) fn commit_record(
 ) -> Result<Option<CommitPhase<Compactions>>, SlateDBError>
     ensures { Gives result (changes.record_commit change now n compactions.now) }
 {
-    match change {
-        None => Ok(None),
-        Some(change) => change.commit(alloc, &CompactionsCodec, now, n, compactions),
-    }
+    let commit = commit_change(
+        alloc,
+        &change,
+        &CompactionsCodec,
+        &CompactionsRules,
+        now,
+        n,
+        compactions,
+    );
+    drop(change);
+    commit
 }
 
 /// The record that a call puts where it finds none.

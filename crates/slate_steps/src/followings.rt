@@ -10,8 +10,8 @@ ghost use Rattle.slate_steps.specs.Onward.{next_of};
 ghost use Rattle.slate_updates.specs.Checkpoints.{checkpoint_at};
 
 use crate::calls::{Onward, refuse};
+use slate_changes::holder_fence;
 use slate_compactor::LocalState;
-use slate_compactor_changes::compactor_fence;
 use slate_events::{Call, Reply};
 use slate_ids::{CheckpointId, DbPath, OutOfMemory, SlateDBError};
 use slate_log::ReadPhase;
@@ -59,7 +59,7 @@ pub(crate) fn refresh_of(
 ) -> Result<Option<LocalState>, SlateDBError>
     ensures { Gives result (calls.refresh_of facts.now manifest.now) }
 {
-    match compactor_fence(facts.epoch, manifest.compactor_epoch) {
+    match holder_fence(facts.epoch, manifest.compactor_epoch) {
         Some(refusal) => Err(refusal),
         None => refreshed_by(alloc, &facts.kept, &facts.local, &manifest.core),
     }
@@ -137,7 +137,7 @@ pub(crate) fn done(
 fn refresh_next(facts: &Facts, compactions: &Compactions) -> Onward
     ensures { next_of result ≡ calls.record_done_once facts.now refresh.Refresh compactions.now }
 {
-    match compactor_fence(facts.epoch, compactions.compactor_epoch) {
+    match holder_fence(facts.epoch, compactions.compactor_epoch) {
         None => Onward::Go(Work::ReadManifest(Purpose::Once, facts.db, ReadPhase::Listing)),
         Some(refusal) => Onward::Finish(Reply::Refused(refusal)),
     }

@@ -10,10 +10,11 @@ ghost use Rattle.slate_steps.specs.Learning.{taught};
 ghost use Rattle.slate_steps.specs.WorkSteps.{is_table_put, can_rewind};
 
 use crate::followings::refresh_of;
-use slate_compactor::{LocalState, LocalTrees};
+use slate_compactor::LocalState;
 use slate_events::Call;
 use slate_ids::{Listed, OutOfMemory, clone_both};
 use slate_layout::{normal_form_compactions, normal_form_manifest};
+use slate_merges::LocalTrees;
 use slate_model::{Compactions, Manifest, ManifestCore, Plain};
 use slate_protocol::{Ended, Facts, Kept, Purpose};
 use std::alloc::Global;

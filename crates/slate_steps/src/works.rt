@@ -1,5 +1,6 @@
 //! The phrase under way: what it asks, and how it goes on from the answer.
 ghost use Rattle.std.specs.Prelude.{◌≡◌, ℤ, pos, false, IfOk};
+ghost use Rattle.slate_log.specs.Due.{NeverOut, WhereOut};
 ghost use Rattle.slate_protocol.specs.Works.{asks as asks_at, db_of as db_at, is_due as due_at};
 ghost use Rattle.slate_ids.specs.declared.object_path.ObjectPath.TheVariants as paths;
 ghost use Rattle.slate_store.specs.declared.store_call.StoreCall.TheVariants as store;
@@ -72,6 +73,7 @@ fn read_goes_on(
     ensures goes { WorkGoesOn (work.ReadManifest purpose db phase.old) (work.ReadManifest purpose db phase.new)
         (pos 0) answer.now result }
     ensures end { AtEnd (work.ReadManifest purpose db phase.old) (work.ReadManifest purpose db phase.new) result }
+    ensures memory { WhereOut result (work.ReadManifest purpose db phase.new ≡ work.ReadManifest purpose db phase.old) }
 {
     match phase.goes_on(alloc, &manifests(db), answer) {
         Step::Again => Step::Again,
@@ -92,7 +94,7 @@ fn commit_goes_on(
 ) -> Step<Ended>
     ensures goes { (made : ℤ) → WorkGoesOn (work.CommitManifest purpose made db phase.old)
         (work.CommitManifest purpose made db phase.new) (pos 0) answer.now result }
-    ensures out { (made : ℤ) → OutReading (work.CommitManifest purpose made db phase.old) result }
+    ensures memory { NeverOut result }
 {
     match phase.goes_on(answer) {
         Step::Again => Step::Again,
@@ -114,6 +116,7 @@ fn record_read_goes_on(
     ensures goes { WorkGoesOn (work.ReadRecord purpose db phase.old) (work.ReadRecord purpose db phase.new)
         (pos 0) answer.now result }
     ensures end { AtEnd (work.ReadRecord purpose db phase.old) (work.ReadRecord purpose db phase.new) result }
+    ensures memory { WhereOut result (work.ReadRecord purpose db phase.new ≡ work.ReadRecord purpose db phase.old) }
 {
     match phase.goes_on(alloc, &records(db), answer) {
         Step::Again => Step::Again,
@@ -134,7 +137,7 @@ fn record_commit_goes_on(
 ) -> Step<Ended>
     ensures goes { (made : ℤ) → WorkGoesOn (work.CommitRecord purpose made db phase.old)
         (work.CommitRecord purpose made db phase.new) (pos 0) answer.now result }
-    ensures out { (made : ℤ) → OutReading (work.CommitRecord purpose made db phase.old) result }
+    ensures memory { NeverOut result }
 {
     match phase.goes_on(answer) {
         Step::Again => Step::Again,
@@ -155,6 +158,8 @@ fn pass_goes_on(
 ) -> Step<Ended>
     ensures goes { WorkGoesOn (work.Pass db settings.now filter.now phase.old)
         (work.Pass db settings.now filter.now phase.new) moment answer.now result }
+    ensures memory { WhereOut result (work.Pass db settings.now filter.now phase.new
+        ≡ work.Pass db settings.now filter.now phase.old) }
     ensures out { OutReading (work.Pass db settings.now filter.now phase.old) result }
 {
     let logs = Logs {
@@ -229,6 +234,7 @@ pub(crate) fn goes_on(
     requires { is_upload_work work.old ≡ false }
     ensures goes { WorkGoesOn work.old work.new moment answer.now result }
     ensures end { AtEnd work.old work.new result }
+    ensures memory { WhereOut result (work.new ≡ work.old) }
     ensures out { OutReading work.old result }
 {
     let purpose = purpose_of(work);

@@ -1,5 +1,5 @@
-//! Tests of ids, paths, ranges, refusals and stores, of logs and of their holders, on public calls alone. A case has rows of a call and
-//! its answer, which one interpreter goes through in order.
+//! Tests of ids, paths, ranges, refusals and stores, of logs, of changes of their latest versions and of their holders, on public calls
+//! alone. A case has rows of a call and its answer, which one interpreter goes through in order.
 #![tactic(auto)]
 
 #[cfg(test)]
@@ -8,6 +8,8 @@ mod bytes_range_tests;
 mod call_tests;
 #[cfg(test)]
 mod calls;
+#[cfg(test)]
+mod change_tests;
 #[cfg(test)]
 mod copy_tests;
 #[cfg(test)]
@@ -24,6 +26,8 @@ mod performing_tests;
 mod phase_tests;
 #[cfg(test)]
 mod reading_tests;
+#[cfg(test)]
+mod rival_store;
 #[cfg(test)]
 mod steps;
 #[cfg(test)]

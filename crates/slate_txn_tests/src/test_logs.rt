@@ -6,7 +6,7 @@ use slate_ids::{
     DbPath, Epochs, FormatName, ObjectCodec, ObjectPath, OutOfMemory, SlateDBError, UpdateRule,
 };
 use slate_log::{CommitPhase, LogKind, Right, Rules, Sequenced, prepare};
-use slate_store::{MemoryStore, ObjectStore, Step, StoreCall};
+use slate_store::{Mark, MemoryStore, ObjectStore, Step, StoreCall};
 use slate_txn::{Fenced, Stored};
 use std::alloc::Global;
 use std::process::Abort;
@@ -123,8 +123,19 @@ pub(crate) fn store_with(
     versions: &[(u64, [u8; 2])],
     boundary: Option<&str>,
 ) -> MemoryStore {
+    store_marked(rt, alloc, versions, boundary, Vec::new(alloc))
+}
+
+/// The same, whose calls go by these marks, also those that put the versions and the boundary.
+pub(crate) fn store_marked(
+    rt: &impl Abort,
+    alloc: Global,
+    versions: &[(u64, [u8; 2])],
+    boundary: Option<&str>,
+    marks: Vec<Mark>,
+) -> MemoryStore {
     let db = db(rt);
-    let mut store = MemoryStore::new(alloc, Vec::new(alloc));
+    let mut store = MemoryStore::new(alloc, marks);
     for (number, bytes) in versions {
         put(
             rt,

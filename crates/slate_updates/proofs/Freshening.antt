@@ -1,8 +1,8 @@
 -- Tables that a set notes one by one.
-use Rattle.std.specs.Prelude.{Bool, true, false, not, ◌||◌, cond, List, [], ◌∷◌, if◌then◌else◌}
+use Rattle.std.specs.Prelude.{ℕ, suc, ◌+◌, ◌<◌, Bool, true, false, not, ◌||◌, cond, List, [], ◌∷◌, length, drop, if◌then◌else◌}
 use Rattle.std.specs.BTreeSet.{BTreeSet}
 use Rattle.std.specs.Ordering.{is_eq}
-use Rattle.std.proofs.Common.{◌≡◌, refl, sym, ap, ◌∙◌, subst}
+use Rattle.std.proofs.Common.{◌≡◌, refl, sym, ap, ◌∙◌, subst, add-one, get_or, drop-cons}
 use Rattle.slate_tables.specs.declared.ss_table_id.SsTableId.{SsTableId}
 use Rattle.slate_model.specs.Cores.{Core}
 use Rattle.slate_model.specs.Externals.{same_table}
@@ -33,6 +33,12 @@ goes_on old new core next all t left puts f =
     by : (b : Bool) → with_all_flushed core (if b then fresh_tables (t.sst.id ∷ f.known) left else t ∷ fresh_tables (t.sst.id ∷ f.known) left) ≡ all → with_all_flushed (if b then core else with_flushed core t) (fresh_tables (t.sst.id ∷ f.known) left) ≡ all
     by true so_far = so_far
     by false so_far = so_far
+
+-- the same of the table at a place
+pub goes_on_at : (old new : BTreeSet SsTableId) (core next all : Core) (tables : List FlushedTable) (i : ℕ) (t : FlushedTable) → i < length tables → t ≡ get_or tables i t → PutsNew old new core next t → Freshens old core (drop i tables) all → Freshens new next (drop (i + 1) tables) all
+goes_on_at old new core next all tables i t less at puts f =
+    let left : drop i tables ≡ t ∷ drop (i + 1) tables = rw (add-one) (drop-cons tables i t less ∙ ap (λ (y : FlushedTable). y ∷ drop (suc i) tables) (sym at)) in
+    goes_on old new core next all t (drop (i + 1) tables) puts (subst (λ (ts : List FlushedTable). Freshens old core ts all) left f)
 
 -- a table that was noted as new is put
 pub put_new : (old new : BTreeSet SsTableId) (core next : Core) (t : FlushedTable) → Notes old new t.sst.id true → next ≡ with_flushed core t → PutsNew old new core next t

@@ -1,4 +1,4 @@
--- The epochs of a manifest, and what an open of a writer makes of it.
+-- The epochs of a manifest, and what an open makes of it.
 use Rattle.std.specs.Prelude.{◌≡◌, ℕ, Option, Result, refl}
 use Rattle.slate_ids.specs.declared.error.SlateDBError.{SlateDBError}
 use Rattle.slate_model.specs.declared.manifest.Manifest.{Manifest}
@@ -21,6 +21,6 @@ pub epoch_set : (kind : ManifestEpochs) (m : Manifest) (n : ℕ) → epoch_of ki
 epoch_set Writer m n = refl
 epoch_set Compactor m n = refl
 
--- what an open makes of the manifest read: its writer epoch plus one, where there is such an epoch
-abbrev pub raised_writer : ℕ → Manifest → Result (Option Manifest) SlateDBError
-raised_writer n m = next_epoch (epoch_of Writer) (with_epoch Writer) n m
+-- what an open makes of the manifest read: its epoch of that kind plus one, where there is such an epoch
+abbrev pub raised : ManifestEpochs → ℕ → Manifest → Result (Option Manifest) SlateDBError
+raised kind n m = next_epoch (epoch_of kind) (with_epoch kind) n m

@@ -62,20 +62,21 @@ fn expiry(now: Millis, lifetime: Option<u64>) -> Option<Millis>
 
 // A checkpoint that is made at a moment.
 fn new_checkpoint(
+    alloc: Global,
     id: CheckpointId,
-    options: CheckpointOptions,
+    options: &CheckpointOptions,
     now: Millis,
     version: u64,
-) -> Checkpoint
-    ensures { result ≡ made.new_checkpoint id options now version }
+) -> Result<Checkpoint, OutOfMemory>
+    ensures { IfOk result (λ c. c ≡ made.new_checkpoint id options.now now version) }
 {
-    Checkpoint {
+    Ok(Checkpoint {
         id,
         manifest_id: version,
         expire_time: expiry(now, options.lifetime),
         create_time: now,
-        name: options.name,
-    }
+        name: Plain::clone(&options.name, alloc)?,
+    })
 }
 
 // Equal checkpoints, without those that have the id.
@@ -225,27 +226,19 @@ fn has(id: &CheckpointId, manifest: &Manifest) -> bool
 pub fn write_checkpoint(
     alloc: Global,
     id: CheckpointId,
-    options: CheckpointOptions,
+    options: &CheckpointOptions,
     now: Millis,
     n: u64,
     manifest: &Manifest,
 ) -> Result<Option<Manifest>, SlateDBError>
-    ensures { Gives result (made.written id options now n manifest.now) }
+    ensures { Gives result (made.written id options.now now n manifest.now) }
 {
     if has(&id, manifest) {
-        drop(options);
         return Ok(None);
     }
-    match version_to_name(n, options.source, manifest) {
-        Ok(version) => {
-            let last = new_checkpoint(id, options, now, version);
-            Ok(Some(with_one_more(alloc, last, manifest)?))
-        }
-        Err(e) => {
-            drop(options);
-            Err(e)
-        }
-    }
+    let version = version_to_name(n, options.source, manifest)?;
+    let last = new_checkpoint(alloc, id, options, now, version)?;
+    Ok(Some(with_one_more(alloc, last, manifest)?))
 }
 
 /// The same, without the checkpoint `old`, which may be absent, and which may be the source.
@@ -253,27 +246,19 @@ pub fn replace_checkpoint(
     alloc: Global,
     old: &CheckpointId,
     id: CheckpointId,
-    options: CheckpointOptions,
+    options: &CheckpointOptions,
     now: Millis,
     n: u64,
     manifest: &Manifest,
 ) -> Result<Option<Manifest>, SlateDBError>
-    ensures { Gives result (made.replaced old.now id options now n manifest.now) }
+    ensures { Gives result (made.replaced old.now id options.now now n manifest.now) }
 {
     if has(&id, manifest) {
-        drop(options);
         return Ok(None);
     }
-    match version_to_name(n, options.source, manifest) {
-        Ok(version) => {
-            let last = new_checkpoint(id, options, now, version);
-            Ok(Some(with_another(alloc, old, last, manifest)?))
-        }
-        Err(e) => {
-            drop(options);
-            Err(e)
-        }
-    }
+    let version = version_to_name(n, options.source, manifest)?;
+    let last = new_checkpoint(alloc, id, options, now, version)?;
+    Ok(Some(with_another(alloc, old, last, manifest)?))
 }
 
 /// What the refresh of a checkpoint makes of a manifest: it expires that long after the moment, or never. Refused with

@@ -1,7 +1,7 @@
 //! The epochs that fence writers and compactors.
 ghost use Rattle.std.specs.Prelude.{refl};
 ghost use Rattle.slate_ids.specs.Answers.{Gives};
-ghost use Rattle.slate_updates.specs.Writers.{epoch_of, epoch_set as set_law, raised_writer, with_epoch};
+ghost use Rattle.slate_updates.specs.Writers.{epoch_of, epoch_set as set_law, raised, with_epoch};
 
 use slate_ids::{Epochs, SlateDBError};
 use slate_log::next_epoch;
@@ -39,13 +39,14 @@ impl Epochs<Manifest> for ManifestEpochs {
     ghost epoch_set = { λ kind manifest n. set_law kind manifest n };
 }
 
-/// What an open makes of version `n`: the manifest with its writer epoch plus one. Refused where there is no such epoch.
-pub fn raise_writer(
+/// What an open makes of version `n`: the manifest with its epoch of that kind plus one. Refused where there is no such epoch.
+pub fn raise_epoch(
     alloc: Global,
+    kind: ManifestEpochs,
     n: u64,
     manifest: &Manifest,
 ) -> Result<Option<Manifest>, SlateDBError>
-    ensures { Gives result (raised_writer n manifest.now) }
+    ensures { Gives result (raised kind n manifest.now) }
 {
-    next_epoch(&ManifestEpochs::Writer, n, Plain::clone(manifest, alloc)?)
+    next_epoch(&kind, n, Plain::clone(manifest, alloc)?)
 }

@@ -25,20 +25,6 @@ pub struct FlushedTable {
     pub sst: SsTableHandle,
 }
 
-impl Plain for FlushedTable {
-    fn clone(&self, alloc: Global) -> Result<FlushedTable, OutOfMemory> {
-        Ok(FlushedTable {
-            view: self.view,
-            prefix: Plain::clone(&self.prefix, alloc)?,
-            sst: Plain::clone(&self.sst, alloc)?,
-        })
-    }
-
-    fn is(&self, other: &FlushedTable) -> bool {
-        self.view.is(&other.view) && self.prefix.is(&other.prefix) && self.sst.is(&other.sst)
-    }
-}
-
 /// What a flush puts.
 #[derive(Debug, Drop)]
 pub struct FlushBatch {
@@ -54,21 +40,6 @@ pub struct FlushBatch {
     pub tick: Millis,
 }
 
-impl FlushBatch {
-    /// An equal batch.
-    pub fn copy(&self, alloc: Global) -> Result<FlushBatch, OutOfMemory>
-        ensures { IfOk result (λ copied. copied ≡ self.now) }
-    {
-        Ok(FlushBatch {
-            tables: Plain::clone(&self.tables, alloc)?,
-            replay_after: self.replay_after,
-            next_wal: self.next_wal,
-            seq: self.seq,
-            tick: self.tick,
-        })
-    }
-}
-
 // Adds a table to a set, and tells whether it is new there.
 fn note(set: &mut TableSet, id: SsTableId) -> Result<bool, OutOfMemory>
     ensures { IfOk result (λ new. Notes set.old set.new id new) }
@@ -81,16 +52,19 @@ fn push_if_new(
     alloc: Global,
     core: &mut ManifestCore,
     set: &mut TableSet,
-    table: FlushedTable,
+    table: &FlushedTable,
 ) -> Result<(), SlateDBError>
-    ensures ok { OnOk result (PutsNew set.old set.new core.old core.new table) }
+    ensures ok { OnOk result (PutsNew set.old set.new core.old core.new table.now) }
     ensures memory { IfErr result (λ e. is_memory e ≡ true) }
 {
-    let FlushedTable { view, prefix, sst } = table;
-    let id = sst.id;
-    let view = SsTableView::new(view, sst);
-    if note(set, id)? {
-        push_newest(alloc, core, &prefix, view)
+    if note(set, table.sst.id)? {
+        let sst = Plain::clone(&table.sst, alloc)?;
+        push_newest(
+            alloc,
+            core,
+            &table.prefix,
+            SsTableView::new(table.view, sst),
+        )
     } else {
         Ok(())
     }
@@ -100,19 +74,13 @@ fn push_if_new(
 fn push_all(
     alloc: Global,
     core: &mut ManifestCore,
-    tables: Vec<FlushedTable>,
+    tables: &[FlushedTable],
 ) -> Result<(), SlateDBError>
     ensures ok { OnOk result (core.new
-        ≡ flushes.with_all_flushed core.old (flushes.fresh_tables (tables_of core.old) tables.items)) }
+        ≡ flushes.with_all_flushed core.old (flushes.fresh_tables (tables_of core.old) tables.now)) }
     ensures memory { IfErr result (λ e. is_memory e ≡ true) }
 {
-    let mut set = match known_set(alloc, core) {
-        Ok(set) => set,
-        Err(_) => {
-            drop(tables);
-            return Err(SlateDBError::OutOfMemory);
-        }
-    };
+    let mut set = known_set(alloc, core)?;
     for table in tables {
         if let Err(e) = push_if_new(alloc, core, &mut set, table) {
             drop(set);
@@ -124,23 +92,16 @@ fn push_all(
 }
 
 // Puts the tables of a batch that no tree has yet, and its numbers.
-fn put_batch(alloc: Global, core: &mut ManifestCore, batch: FlushBatch) -> Result<(), SlateDBError>
-    ensures ok { OnOk result (core.new ≡ flushes.with_batch batch core.old) }
+fn put_batch(alloc: Global, core: &mut ManifestCore, batch: &FlushBatch) -> Result<(), SlateDBError>
+    ensures ok { OnOk result (core.new ≡ flushes.with_batch batch.now core.old) }
     ensures memory { IfErr result (λ e. is_memory e ≡ true) }
 {
-    let FlushBatch {
-        tables,
-        replay_after,
-        next_wal,
-        seq,
-        tick,
-    } = batch;
-    push_all(alloc, core, tables.into_vec())?;
-    core.replay_after_wal_id = replay_after;
-    core.next_wal_sst_id = next_wal;
-    core.last_l0_clock_tick = tick;
-    core.last_l0_seq = seq;
-    Ok(core.sequence_tracker.insert(seq, tick)?)
+    push_all(alloc, core, batch.tables.as_slice())?;
+    core.replay_after_wal_id = batch.replay_after;
+    core.next_wal_sst_id = batch.next_wal;
+    core.last_l0_clock_tick = batch.tick;
+    core.last_l0_seq = batch.seq;
+    Ok(core.sequence_tracker.insert(batch.seq, batch.tick)?)
 }
 
 /// What a flush makes of a manifest: that one merged with itself, with each table of the batch in front of the L0 of its prefix unless a
@@ -149,25 +110,17 @@ fn put_batch(alloc: Global, core: &mut ManifestCore, batch: FlushBatch) -> Resul
 /// the rules on updates refuse it. Nothing else is refused but for want of memory.
 pub fn flush_tables(
     alloc: Global,
-    batch: FlushBatch,
+    batch: &FlushBatch,
     manifest: &Manifest,
 ) -> Result<Manifest, SlateDBError>
-    ensures ok { IfOk result (λ m. m ≡ tables_flushed batch manifest.now) }
+    ensures ok { IfOk result (λ m. m ≡ tables_flushed batch.now manifest.now) }
     ensures memory { IfErr result (λ e. is_memory e ≡ true) }
 {
-    match merge_remote_manifest(alloc, &manifest.core, manifest) {
-        Ok(merged) => {
-            let mut new = merged;
-            match put_batch(alloc, &mut new.core, batch) {
-                Ok(()) => Ok(new),
-                Err(e) => {
-                    drop(new);
-                    Err(e)
-                }
-            }
-        }
+    let mut new = merge_remote_manifest(alloc, &manifest.core, manifest)?;
+    match put_batch(alloc, &mut new.core, batch) {
+        Ok(()) => Ok(new),
         Err(e) => {
-            drop(batch);
+            drop(new);
             Err(e)
         }
     }

@@ -19,7 +19,7 @@ mod tables;
 pub use checkpoints::{
     delete_checkpoint, expire_checkpoints, refresh_checkpoint, replace_checkpoint, write_checkpoint,
 };
-pub use epochs::{ManifestEpochs, raise_writer};
+pub use epochs::{ManifestEpochs, raise_epoch};
 pub use flush_batch::{FlushBatch, FlushedTable, flush_tables};
 pub use flushed_tables::l0_ulid_cutoff;
 pub use laws::{

@@ -1,33 +1,40 @@
 //! Changes of a manifest: what a commit puts.
-ghost use Rattle.std.specs.Prelude.{◌≡◌, ℕ, ℤ, ◌≢◌, true, IfOk, IfSome, Ok, Some};
+ghost use Rattle.std.specs.Prelude.{◌≡◌, ℕ, ℤ, ◌≢◌, None, Ok, Some};
+ghost use Rattle.slate_changes.specs.Changes.{holder_fence};
 ghost use Rattle.slate_ids.specs.Answers.{Gives};
-ghost use Rattle.slate_log.specs.CommitPhase.{is_putting};
 ghost use Rattle.slate_model.specs.declared.manifest.Manifest.{Manifest as AnyManifest};
 ghost use Rattle.slate_updates.specs.Changes as changes;
-ghost use Rattle.slate_updates.specs.declared.manifest_change.ManifestChange.{ManifestChange as Change};
-ghost use Rattle.slate_updates.specs.declared.manifest_change.ManifestChange.TheVariants.{RaiseWriter as Raise};
+ghost use Rattle.slate_updates.specs.declared.manifest_change.ManifestChange.{ManifestChange as AnyChange};
+ghost use Rattle.slate_updates.specs.declared.manifest_change.ManifestChange.TheVariants.{RaiseWriter as Raise, RaiseCompactor as RaiseOther};
 
 use crate::checkpoints::{
     delete_checkpoint, expire_checkpoints, refresh_checkpoint, replace_checkpoint, write_checkpoint,
 };
-use crate::epochs::raise_writer;
+use crate::epochs::{ManifestEpochs, raise_epoch};
 use crate::flush_batch::{FlushBatch, flush_tables};
-use crate::rules::ManifestRules;
-use slate_ids::{CheckpointId, Millis, ObjectCodec, SlateDBError, StateCause};
-use slate_log::{CommitPhase, Right, fence, prepare_change};
+use slate_changes::{Change, holder_fence};
+use slate_ids::{CheckpointId, Listed, Millis, OutOfMemory, SlateDBError, Ulid};
+use slate_log::Right;
+use slate_merges::LocalTrees;
 use slate_model::{CheckpointOptions, Manifest};
 use std::alloc::Global;
 
+/// The lifetime of the checkpoint that is written before a compactor's trees, in milliseconds.
+const CHECKPOINT_LIFETIME: u64 = 900_000;
+
 /// What a commit puts, of the version that was read. Each sets the floor to the greater of the old one and the new manifest's
-/// watermark, save a raise, which leaves it.
+/// watermark, save a raise, which leaves it. A flush is refused by a writer epoch above its writer's, and a compactor's checkpoint and
+/// trees by a compactor epoch above theirs: with `Fenced`; and with `InvalidDBState` of `NotOpen` where the writer or the compactor hasn't
+/// opened the database.
 #[derive(Debug, Drop)]
 pub enum ManifestChange {
     /// The writer epoch plus one. Refused with `Exhausted` at the last epoch.
     RaiseWriter,
+    /// The compactor epoch plus one. Refused with `Exhausted` at the last epoch.
+    RaiseCompactor,
     /// The tables of the batch that no tree has yet, each in front of the L0 of its prefix, and the batch's numbers, by the writer of this
-    /// epoch. Refused with `Fenced` where the version read has a writer epoch above it, and with `InvalidDBState` where the writer hasn't
-    /// opened the database. A batch that lowers the last file whose rows are all in tables, a table from before the floor or the
-    /// watermark, and a prefix that nests with another are refused by the rules on new versions alone.
+    /// epoch. A batch that lowers the last file whose rows are all in tables, a table from before the floor or the watermark, and a prefix
+    /// that nests with another are refused by the rules on new versions alone.
     Flush {
         writer: Option<u64>,
         batch: FlushBatch,
@@ -55,16 +62,19 @@ pub enum ManifestChange {
     },
     /// Without the checkpoints whose expiry isn't above the moment of the change. Nothing, where there is none.
     DropExpired,
-}
-
-// Why a version with the epoch `read` refuses a writer.
-fn writer_fence(own: Option<u64>, read: u64) -> Option<SlateDBError>
-    ensures { result ≡ changes.writer_fence own read }
-{
-    match own {
-        None => Some(SlateDBError::InvalidDBState(StateCause::NotOpen)),
-        Some(own) => fence(own, read),
-    }
+    /// One checkpoint more, which keeps for a quarter of an hour what a compactor's trees drop. Nothing, where the id is there. Refused
+    /// with `InvalidDBState` where the database isn't ready for use.
+    KeepTrees {
+        compactor: Option<u64>,
+        checkpoint: CheckpointId,
+    },
+    /// A compactor's trees, merged with those of the version read, which may bring these outputs of compactions. Refused with
+    /// `SegmentWithoutWriter` where a segment of the compactor holds tables and the version read has none of its prefix.
+    MergeTrees {
+        compactor: Option<u64>,
+        trees: LocalTrees,
+        outputs: Listed<Ulid>,
+    },
 }
 
 // What was made, with its floor raised from the old one.
@@ -90,104 +100,90 @@ fn with_floor(old: u64, manifest: Manifest) -> Manifest
     floored
 }
 
-impl ManifestChange {
-    /// The right under which it is put.
-    pub fn right(&self) -> Right
-        ensures { result ≡ changes.right_of self.now }
-    {
-        Right::Plain
+// The checkpoint that comes before a compactor's trees.
+fn keep_trees(
+    alloc: Global,
+    checkpoint: CheckpointId,
+    now: Millis,
+    n: u64,
+    manifest: &Manifest,
+) -> Result<Option<Manifest>, SlateDBError>
+    ensures { Gives result (changes.trees_kept checkpoint now n manifest.now) }
+{
+    let options = CheckpointOptions {
+        lifetime: Some(CHECKPOINT_LIFETIME),
+        source: None,
+        name: None,
+    };
+    let made = write_checkpoint(alloc, checkpoint, &options, now, n, manifest);
+    drop(options);
+    floored(manifest.core.floor, made)
+}
+
+impl Change<Manifest> for ManifestChange {
+    ghost made = { λ change now n manifest. changes.made change now n manifest };
+
+    ghost right_of = { λ change. changes.right_of change };
+
+    ghost fence_of = { λ change manifest. changes.fence_of change manifest };
+
+    fn right(&self, alloc: Global) -> Result<Right, OutOfMemory> {
+        match self {
+            ManifestChange::MergeTrees { outputs, .. } => Ok(Right::Compactor {
+                outputs: outputs.copy(alloc)?,
+            }),
+            _ => Ok(Right::Plain),
+        }
     }
 
-    /// Why a version refuses it: a flush alone has a fence.
-    pub fn refusal_at(&self, manifest: &Manifest) -> Option<SlateDBError>
-        ensures { result ≡ changes.fence_of self.now manifest.now }
-    {
+    fn refusal_at(&self, value: &Manifest) -> Option<SlateDBError> {
         match self {
-            ManifestChange::Flush { writer, .. } => writer_fence(*writer, manifest.writer_epoch),
+            ManifestChange::Flush { writer, .. } => holder_fence(*writer, value.writer_epoch),
+            ManifestChange::KeepTrees { compactor, .. } => {
+                holder_fence(*compactor, value.compactor_epoch)
+            }
+            ManifestChange::MergeTrees { compactor, .. } => {
+                holder_fence(*compactor, value.compactor_epoch)
+            }
             _ => None,
         }
     }
 
-    /// What it makes at a moment of version `n`; nothing, where nothing is to be committed.
-    pub fn make(
-        self,
+    fn make(
+        &self,
         alloc: Global,
         now: Millis,
         n: u64,
-        manifest: &Manifest,
-    ) -> Result<Option<Manifest>, SlateDBError>
-        ensures { Gives result (changes.made self now n manifest.now) }
-    {
-        let floor = manifest.core.floor;
+        value: &Manifest,
+    ) -> Result<Option<Manifest>, SlateDBError> {
+        let floor = value.core.floor;
         match self {
-            ManifestChange::RaiseWriter => raise_writer(alloc, n, manifest),
+            ManifestChange::RaiseWriter => raise_epoch(alloc, ManifestEpochs::Writer, n, value),
+            ManifestChange::RaiseCompactor => {
+                raise_epoch(alloc, ManifestEpochs::Compactor, n, value)
+            }
             ManifestChange::Flush { batch, .. } => {
-                floored(floor, Ok(Some(flush_tables(alloc, batch, manifest)?)))
+                floored(floor, Ok(Some(flush_tables(alloc, batch, value)?)))
             }
             ManifestChange::WriteCheckpoint { id, options } => {
-                floored(
-                    floor,
-                    write_checkpoint(alloc, id, options, now, n, manifest),
-                )
+                floored(floor, write_checkpoint(alloc, *id, options, now, n, value))
             }
             ManifestChange::ReplaceCheckpoint { old, id, options } => floored(
                 floor,
-                replace_checkpoint(alloc, &old, id, options, now, n, manifest),
+                replace_checkpoint(alloc, old, *id, options, now, n, value),
             ),
             ManifestChange::RefreshCheckpoint { id, lifetime } => {
-                floored(
-                    floor,
-                    refresh_checkpoint(alloc, id, lifetime, now, manifest),
-                )
+                floored(floor, refresh_checkpoint(alloc, *id, *lifetime, now, value))
             }
             ManifestChange::DeleteCheckpoint { id } => {
-                floored(floor, delete_checkpoint(alloc, &id, manifest))
+                floored(floor, delete_checkpoint(alloc, id, value))
             }
-            ManifestChange::DropExpired => {
-                floored(floor, expire_checkpoints(alloc, now, manifest))
+            ManifestChange::DropExpired => floored(floor, expire_checkpoints(alloc, now, value)),
+            ManifestChange::KeepTrees { checkpoint, .. } => {
+                keep_trees(alloc, *checkpoint, now, n, value)
             }
-        }
-    }
-
-    /// The commit of what it makes at a moment of version `n`; none, where nothing is to be committed. Refused by its fence, by what
-    /// `make` refuses, by the rules on new versions, and where there is no next number or the value has no bytes.
-    pub fn commit<C: ObjectCodec<Manifest>>(
-        self,
-        alloc: Global,
-        codec: &C,
-        now: Millis,
-        n: u64,
-        manifest: &Manifest,
-    ) -> Result<Option<CommitPhase<Manifest>>, SlateDBError>
-        ensures commit { Gives result (changes.commit_of (C.encoded codec.now) self now n manifest.now) }
-        ensures putting { IfOk result (λ commit. IfSome commit (λ c. is_putting c ≡ true)) }
-    {
-        match self.refusal_at(manifest) {
-            Some(refusal) => {
-                drop(self);
-                Err(refusal)
-            }
-            None => {
-                let right = self.right();
-                match self.make(alloc, now, n, manifest) {
-                    Ok(made) => {
-                        let commit = prepare_change(
-                            alloc,
-                            codec,
-                            &ManifestRules,
-                            n,
-                            manifest,
-                            made,
-                            &right,
-                        );
-                        drop(right);
-                        commit
-                    }
-                    Err(e) => {
-                        drop(right);
-                        Err(e)
-                    }
-                }
+            ManifestChange::MergeTrees { trees, .. } => {
+                Ok(Some(trees.merged_manifest(alloc, value)?))
             }
         }
     }
@@ -195,7 +191,7 @@ impl ManifestChange {
 
 /// No change but a raise lets the floor stay below the watermark of what it makes, and none lets it fall.
 pub fn floors_rise()
-    ensures { (change : Change) (now : ℤ) (n : ℕ) (old new : AnyManifest)
-        → change ≢ Raise → changes.made change now n old ≡ Ok (Some new)
+    ensures { (change : AnyChange) (now : ℤ) (n : ℕ) (old new : AnyManifest)
+        → change ≢ Raise → change ≢ RaiseOther → changes.made change now n old ≡ Ok (Some new)
         → changes.HasRisenFloor old new }
 {}

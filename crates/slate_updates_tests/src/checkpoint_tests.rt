@@ -74,10 +74,10 @@ fn of_source(source: Option<u64>) -> CheckpointOptions {
 fn makes(alloc: Global, call: Call, manifest: &Manifest) -> Result<Option<Manifest>, SlateDBError> {
     let id = CheckpointId::from_u64(9);
     match call {
-        Call::Write(source) => write_checkpoint(alloc, id, of_source(source), 1000, 7, manifest),
+        Call::Write(source) => write_checkpoint(alloc, id, &of_source(source), 1000, 7, manifest),
         Call::Replace(old, source) => {
             let old = CheckpointId::from_u64(old);
-            replace_checkpoint(alloc, &old, id, of_source(source), 1000, 7, manifest)
+            replace_checkpoint(alloc, &old, id, &of_source(source), 1000, 7, manifest)
         }
         Call::Refresh(number, lifetime) => {
             refresh_checkpoint(
@@ -149,7 +149,7 @@ fn without(alloc: Global, initialized: bool) -> Manifest {
 fn write_into(alloc: Global, initialized: bool, n: u64) -> u8 {
     let manifest = without(alloc, initialized);
     let id = CheckpointId::from_u64(9);
-    let made = write_checkpoint(alloc, id, of_source(None), 1000, n, &manifest);
+    let made = write_checkpoint(alloc, id, &of_source(None), 1000, n, &manifest);
     drop(manifest);
     told_by(made).1
 }
@@ -203,7 +203,9 @@ fn ends_with_that(made: &Result<Option<Manifest>, SlateDBError>, name: &str) -> 
 fn is_pinned(rt: &impl Abort, alloc: Global) -> bool {
     let manifest = with_two(rt, alloc);
     let id = CheckpointId::from_u64(9);
-    let made = write_checkpoint(alloc, id, named(rt, alloc, "pin"), 1000, 7, &manifest);
+    let options = named(rt, alloc, "pin");
+    let made = write_checkpoint(alloc, id, &options, 1000, 7, &manifest);
+    drop(options);
     drop(manifest);
     let is_so = ends_with_that(&made, "pin");
     drop(made);

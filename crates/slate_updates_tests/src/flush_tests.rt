@@ -2,11 +2,12 @@
 
 use crate::test_values::{With, manifest_of};
 use bytes::Bytes;
+use slate_changes::commit_change;
 use slate_ids::{Listed, SlateDBError, Ulid, UpdateRule};
 use slate_layout::ManifestCodec;
 use slate_log::CommitPhase;
 use slate_model::{LsmTreeState, Manifest, SsTableHandle, SsTableId, SsTableInfo};
-use slate_updates::{FlushBatch, FlushedTable, ManifestChange, flush_tables};
+use slate_updates::{FlushBatch, FlushedTable, ManifestChange, ManifestRules, flush_tables};
 use std::alloc::Global;
 use std::process::Abort;
 
@@ -114,6 +115,14 @@ fn has_numbers(manifest: &Manifest) -> bool {
         && core.sequence_tracker.pairs().len() == 1
 }
 
+/// What a flush of these tables makes of a manifest.
+fn flushed_by(rt: &impl Abort, alloc: Global, rows: &[Row], old: &Manifest) -> Manifest {
+    let batch = batch(rt, alloc, rows);
+    let new = flush_tables(alloc, &batch, old).expect(rt, "memory");
+    drop(batch);
+    new
+}
+
 /// Whether a flush of these tables leaves trees of this text.
 fn flushes_to(
     rt: &impl Abort,
@@ -123,7 +132,7 @@ fn flushes_to(
     expected: &str,
 ) -> bool {
     let old = manifest_of(rt, alloc, &[withs]);
-    let new = flush_tables(alloc, batch(rt, alloc, rows), &old).expect(rt, "memory");
+    let new = flushed_by(rt, alloc, rows, &old);
     drop(old);
     has_numbers(&new) & has_trees(rt, alloc, new, expected)
 }
@@ -150,7 +159,7 @@ fn a_flush_puts_new_tables_in_front_of_their_prefixes(rt: HostRuntime) {
 #[test]
 fn a_flush_may_lower_what_the_rules_then_refuse(rt: HostRuntime) {
     let old = manifest_of(&rt, rt.alloc(), &[&[With::Replay(9)]]);
-    let new = flush_tables(rt.alloc(), batch(&rt, rt.alloc(), &[]), &old).expect(&rt, "memory");
+    let new = flushed_by(&rt, rt.alloc(), &[], &old);
     drop(old);
     let replay = new.core.replay_after_wal_id;
     drop(new);
@@ -162,7 +171,7 @@ fn a_flush_first_merges_the_manifest_with_itself(rt: HostRuntime) {
     let mut old = manifest_of(&rt, rt.alloc(), &[&[With::Table(6, 0), With::Table(4, 0)]]);
     old.core.tree.last_compacted_l0_sst_id = Some(Ulid::from_parts(4, 0));
     let rows = [(5, 50, ""), (6, 60, ""), (4, 70, "")];
-    let new = flush_tables(rt.alloc(), batch(&rt, rt.alloc(), &rows), &old).expect(&rt, "memory");
+    let new = flushed_by(&rt, rt.alloc(), &rows, &old);
     drop(old);
     assert!(rt; has_trees(&rt, rt.alloc(), new, ": 4 5 6 "));
 }
@@ -275,7 +284,16 @@ fn commit_of(
         writer: Some(0),
         batch: batch(rt, alloc, rows),
     };
-    let commit = change.commit(alloc, &ManifestCodec, 1000, 7, &old);
+    let commit = commit_change(
+        alloc,
+        &change,
+        &ManifestCodec,
+        &ManifestRules,
+        1000,
+        7,
+        &old,
+    );
+    drop(change);
     drop(old);
     commit
 }

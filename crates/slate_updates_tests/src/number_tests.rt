@@ -5,7 +5,7 @@ use crate::test_values::{With, broken, manifest_of};
 use slate_ids::{Epochs, Listed, SlateDBError};
 use slate_log::Right;
 use slate_model::{Manifest, ManifestCore};
-use slate_updates::{FlushBatch, ManifestEpochs, flush_tables, raise_writer};
+use slate_updates::{FlushBatch, ManifestEpochs, flush_tables, raise_epoch};
 use std::alloc::Global;
 use std::process::Abort;
 
@@ -72,7 +72,7 @@ fn epoch_in(made: &Result<Option<Manifest>, SlateDBError>) -> Option<u64> {
 /// The writer's epoch once it was raised.
 fn raised(rt: &impl Abort, alloc: Global, epoch: u64) -> Option<u64> {
     let manifest = manifest_of(rt, alloc, &[&[Writer(epoch)]]);
-    let made = raise_writer(alloc, 1, &manifest);
+    let made = raise_epoch(alloc, ManifestEpochs::Writer, 1, &manifest);
     drop(manifest);
     let raised = epoch_in(&made);
     drop(made);
@@ -117,7 +117,9 @@ fn has(manifest: &Manifest, seq: u64, tick: i64, pairs: usize) -> bool {
 
 fn flushes(rt: &impl Abort, alloc: Global, seq: u64, tick: i64, pairs: usize) -> bool {
     let manifest = tracking(rt, alloc);
-    let made = flush_tables(alloc, no_tables(alloc, seq, tick), &manifest).expect(rt, "memory");
+    let batch = no_tables(alloc, seq, tick);
+    let made = flush_tables(alloc, &batch, &manifest).expect(rt, "memory");
+    drop(batch);
     drop(manifest);
     let is_so = has(&made, seq, tick, pairs);
     drop(made);

@@ -1,4 +1,4 @@
-use Rattle.std.specs.Vec.Iter.{into_iter_items}
+use Rattle.std.proofs.Common.{drop}
 use Rattle.slate_model.specs.Trees.{tables_of}
 use Rattle.slate_updates.specs.Flushes.{with_all_flushed, fresh_tables}
 use Rattle.slate_updates.proofs.Freshening.{Freshens}
@@ -6,4 +6,4 @@ use Rattle.slate_updates.proofs.flush_batch.push_all.Given as goal
 
 -- the tables so far are put or known, and those that are left lead to all of them
 abbrev pub invariant-loop-table : goal.invariant-loop-table
-invariant-loop-table l = Freshens l.set l.core (into_iter_items l.table-iterator) (with_all_flushed l.fn.core (fresh_tables (tables_of l.fn.core) l.fn.tables.items))
+invariant-loop-table l = Freshens l.set l.core (drop l.table-index l.tables) (with_all_flushed l.fn.core (fresh_tables (tables_of l.fn.core) l.tables))

@@ -1,6 +1,8 @@
 use Rattle.std.proofs.Common.{◌≡◌, ◌+◌, ◌*◌, true}
+use Rattle.slate_changes.specs.Turns.{is_turned, turn_asks}
+use Rattle.slate_compactor_calls.specs.Opening.{open_asks, open_due, open_rank}
+use Rattle.slate_compactor_writer.specs.Opening.{first_turn, open_turning}
 use Rattle.slate_store.specs.Runs.{Running}
-use Rattle.slate_compactor_writer.specs.Opening.{open_asks, open_due, open_rank, open_retrying, open_start, open_starts}
 use Rattle.slate_compactor_writer.proofs.compactor_writer.CompactorStateWriter.new.Given as goal
 
 -- the run so far, which stands at this phase with so many tries left
@@ -8,9 +10,10 @@ abbrev pub invariant-loop-result : goal.invariant-loop-result
 invariant-loop-result g l =
     let told = g.S.ObjectStore.told in
     record {
-      running : Running open_starts (open_asks l.fn.db) (open_retrying l.fn.db) l.fn.moment l.fn.tries (told l.fn.store) (told l.store) open_start l.phase l.left;
-      due : open_due l.phase ≡ true;
+      running : Running is_turned (turn_asks (open_asks l.fn.db)) (open_turning l.fn.db l.fn.moment) l.fn.moment l.fn.tries (told l.fn.store) (told l.store) first_turn (l.turns.machine.phase, l.turns.is_turned) l.left;
+      due : open_due l.turns.machine.phase ≡ true;
+      db : l.turns.machine.db ≡ l.fn.db;
     }
 
 abbrev pub decreases-loop-result : goal.decreases-loop-result
-decreases-loop-result g l = 16 * l.left + open_rank l.phase
+decreases-loop-result g l = 21 * l.left + open_rank l.turns.machine.phase

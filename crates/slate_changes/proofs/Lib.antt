@@ -1,0 +1,6 @@
+pub mod CommitEnds
+pub mod ReadEnds
+pub mod Ranks
+pub mod Turning
+pub mod Sound
+pub mod WorkFaults

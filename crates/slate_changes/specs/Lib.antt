@@ -1,0 +1,4 @@
+pub mod Changes
+pub mod LogWorks
+pub mod Turns
+pub mod Latest

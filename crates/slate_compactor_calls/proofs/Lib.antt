@@ -1,0 +1,4 @@
+mod Fences
+mod Backs
+mod Leading
+mod Ending

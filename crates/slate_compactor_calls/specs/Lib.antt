@@ -1,0 +1,4 @@
+pub mod Compactors
+pub mod Commits
+pub mod Opening
+pub mod StateSteps
