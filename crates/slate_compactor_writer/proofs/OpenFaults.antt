@@ -6,7 +6,7 @@ use Rattle.slate_changes.proofs.WorkFaults.{work_sound}
 use Rattle.slate_changes.specs.LogWorks.{WorkGoes, work_due}
 use Rattle.slate_changes.specs.Turns.{turn_asks}
 use Rattle.slate_compactions_store.proofs.NoFaults as record_bytes
-use Rattle.slate_compactor_calls.specs.Commits.{ManifestChanging, RecordChanging, manifest_in, manifest_put, record_in, record_put}
+use Rattle.slate_compactor_calls.specs.Commits.{ManifestChanging, RecordChanging, manifest_in, manifest_put, record_in, record_put, first_of, first_put}
 use Rattle.slate_compactor_calls.specs.Compactors.{opened_with}
 use Rattle.slate_compactor_calls.specs.Opening.{OpenGoes, after_record, on_record, open_asks, open_due, open_goes, open_lists_again, puts, raised, raising, with_version, without_version}
 use Rattle.slate_compactor_calls.specs.declared.compactor.Compactor.{Compactor}
@@ -59,7 +59,7 @@ with_fine plain GiveFirst m now r = puts_fine Reset m _ (record_begins plain (ch
 with_fine plain Reset m now r = fine_ok open_due Over (opened_with m r)
 
 without_fine : RecordsPlain → (step : OpenStep) (m : ℕ × Manifest) (now : ℤ) → FineOpen (without_version step m now)
-without_fine plain Give m now = puts_fine Begin m _ (first_begins plain now)
+without_fine plain Give m now = puts_fine Begin m (first_of now first_put) (first_begins plain now)
 without_fine plain _ m now = missing_fine
 
 after_fine : RecordsPlain → (step : OpenStep) (m : ℕ × Manifest) (now : ℤ) (found : Option (ℕ × Record)) → FineOpen (after_record step m now found)

@@ -65,8 +65,8 @@ use Rattle.slate_events.specs.declared.reply.Reply.TheVariants as reply
 use Rattle.slate_protocol.specs.Alone.{without}
 use Rattle.slate_protocol.specs.Calls.{Go}
 use Rattle.slate_protocol.specs.Passes.{pass_answers}
-use Rattle.slate_protocol.specs.Rows.{Answered, Standing, follow}
-use Rattle.slate_protocol.specs.Works.{pass_on, pass_ways}
+use Rattle.slate_protocol.specs.Rows.{Answered, Standing, pass_on}
+use Rattle.slate_protocol.specs.Works.{pass_ways}
 use Rattle.slate_protocol.specs.declared.party.Facts.{Facts}
 use Rattle.slate_protocol.specs.declared.work.Work.TheVariants.{Pass}
 use Rattle.slate_laws.proofs.Encodable.{HasBytes, removal_bytes}
@@ -247,8 +247,8 @@ module _ (facts : Facts) (call : Call) (db : List ℕ) (options : GarbageCollect
   standing phase = record { facts = facts; next = Go (Pass db settings word phase) }
 
   -- where a call stands once its pass has gone on
-  abbrev pub next_of : ℤ → GcGoes → Standing
-  next_of moment g = follow facts call moment (pass_on db settings word g)
+  abbrev pub next_of : GcGoes → Standing
+  next_of g = pass_on facts db settings word g
 
   -- what a pass leaves, from a phase on: by the store there, the answers from there on, the reply, and the store at the end
   abbrev pub Ends : GcPhase → Store → List Answered → Reply → Store → Type 0
@@ -278,13 +278,13 @@ module _ (facts : Facts) (call : Call) (db : List ℕ) (options : GarbageCollect
   Removed s (End phase (Ok counts)) = ⊥
   Removed s (End phase (Err e)) = e ≡ Exhausted last_number
 
-  removal_brings : (s : Store) (moment : ℤ) (g : GcGoes) → Removed s g → Brings s (λ answers r t. RemovalEnds db settings word (pass_answers call (next_of moment g) answers) r t) g
-  removal_brings s moment (Stay (Removing (Reading phase))) h = (h.0, λ answers r t e. e)
-  removal_brings s moment (Stay (Removing (Committing now phase))) h = (h.0, λ answers r t e. e)
-  removal_brings s moment (Stay (Collecting None (passing.Listing heads versions))) h = (h.0, λ answers r t e. e)
-  removal_brings s moment (Stay (Collecting _ _)) h = absurd h.1
-  removal_brings s moment (End phase (Ok counts)) h = absurd h
-  removal_brings s moment (End phase (Err e)) h = Lacks refl (ap (λ (x : SlateDBError). Refused x) h)
+  removal_brings : (s : Store) (g : GcGoes) → Removed s g → Brings s (λ answers r t. RemovalEnds db settings word (pass_answers call (next_of g) answers) r t) g
+  removal_brings s (Stay (Removing (Reading phase))) h = (h.0, λ answers r t e. e)
+  removal_brings s (Stay (Removing (Committing now phase))) h = (h.0, λ answers r t e. e)
+  removal_brings s (Stay (Collecting None (passing.Listing heads versions))) h = (h.0, λ answers r t e. e)
+  removal_brings s (Stay (Collecting _ _)) h = absurd h.1
+  removal_brings s (End phase (Ok counts)) h = absurd h
+  removal_brings s (End phase (Err e)) h = Lacks refl (ap (λ (x : SlateDBError). Refused x) h)
 
   -- what is made without the expired checkpoints is committed, or there is no number left for it
   removal_made : (s : Store) (now : ℤ) (n : ℕ) (v : Manifest) → IsLatest db s n v → IsUp db s n → Removed s (removal_goes of.Manifest now n v (commit_of encoded DropExpired now n v))
@@ -485,7 +485,7 @@ module _ (facts : Facts) (call : Call) (db : List ℕ) (options : GarbageCollect
         → Brings (whole (gc_asks db of.Manifest phase) moment s).store (λ answers r t. Ends phase s (((whole (gc_asks db of.Manifest phase) moment s).answer, moment) ∷ answers) r t)
         (gc_goes (pass_ways word) settings moment phase (whole (gc_asks db of.Manifest phase) moment s).answer)
     step_brings named (Removing (Reading phase)) h =
-        removal_brings (whole (read_asks db ManifestLog phase) moment s).store moment (read_on encoded of.Manifest moment (read_goes ManifestLog decoded_manifest phase (whole (read_asks db ManifestLog phase) moment s).answer))
+        removal_brings (whole (read_asks db ManifestLog phase) moment s).store (read_on encoded of.Manifest moment (read_goes ManifestLog decoded_manifest phase (whole (read_asks db ManifestLog phase) moment s).answer))
         (subst (λ (t : Store). Removed t (read_on encoded of.Manifest moment (read_goes ManifestLog decoded_manifest phase (whole (read_asks db ManifestLog phase) moment s).answer))) (read_same phase) (read_step phase h))
       where
         read_same : (p : ReadPhase Manifest) → s ≡ (whole (read_asks db ManifestLog p) moment s).store
@@ -494,7 +494,7 @@ module _ (facts : Facts) (call : Call) (db : List ℕ) (options : GarbageCollect
         read_same (reading.Bounding n v) = refl
         read_same reading.Over = refl
     step_brings named (Removing (Committing since phase)) h =
-        removal_brings (whole (commit_asks db ManifestLog phase) moment s).store moment (commit_on of.Manifest since (commit_goes phase (whole (commit_asks db ManifestLog phase) moment s).answer))
+        removal_brings (whole (commit_asks db ManifestLog phase) moment s).store (commit_on of.Manifest since (commit_goes phase (whole (commit_asks db ManifestLog phase) moment s).answer))
         (commit_step named since phase h)
     step_brings named (Collecting at (passing.ReadingRecord phase)) h = absurd h
     step_brings named (Collecting at (passing.ReadingManifest least phase)) h = absurd h

@@ -27,10 +27,10 @@ use Rattle.slate_protocol.specs.Calls.{fresh_checkpoints, named_checkpoints, fre
 use Rattle.slate_protocol.specs.Done.{kind_opened, was_opened, is_database, start_names, was_named, start_names_ulid, was_ulid_named, comes_again, is_old, lacks_call, is_bad_after}
 use Rattle.slate_protocol.specs.Ids.{Pool, checkpoint_cmp, is_carried, is_stale_among, is_stale}
 use Rattle.slate_protocol.specs.Lawful.{IsAccepted, AreGood, course_after, world_at_end}
-use Rattle.slate_protocol.specs.Rows.{begin, follow}
+use Rattle.slate_protocol.specs.Rows.{begin, moved}
 use Rattle.slate_protocol.specs.Runs.{Course, Ran, going_on, opening, run}
 use Rattle.slate_protocol.specs.Specs.{opening_world}
-use Rattle.slate_protocol.specs.Works.{WorkGoes, asks, goes, is_due}
+use Rattle.slate_protocol.specs.Works.{asks, is_due}
 use Rattle.slate_protocol.specs.World.{World, Transition, db_cmp, party_of, with_party, tally_of, raise_tally, to_manifest, to_record, committed, wrote, tallied, noted, newcomer, settled, stepped, step_state, start_state, halted, stop_state, carrying, may_start, open_at, start_at, step_at, stop_at, happens, refuses_start, is_bad}
 use Rattle.slate_protocol.specs.declared.party.Facts.{Facts}
 use Rattle.slate_protocol.specs.declared.party.Party.{Party}
@@ -38,7 +38,7 @@ use Rattle.slate_protocol.specs.declared.party.State.{State}
 use Rattle.slate_protocol.specs.declared.party.State.TheVariants.{Resting, Busy, Halted}
 use Rattle.slate_protocol.specs.declared.party.Task.{Task}
 use Rattle.slate_protocol.specs.declared.tally.Tally.{Tally}
-use Rattle.slate_laws.proofs.FactsKept.{ends_same, starts_same}
+use Rattle.slate_laws.proofs.FactsKept.{moved_same, starts_same}
 use Rattle.slate_laws.proofs.GoingOn.{run_world}
 use Rattle.slate_laws.proofs.Maps.{number_order, name_order, set_here, set_else, insert_here, insert_else}
 use Rattle.slate_laws.proofs.Pools.{or_false, shuffle, any_alike, ulid_at, call_carried, call_carried_ulids, databases_open, checkpoints_open, ulids_open}
@@ -79,12 +79,6 @@ first_kind k (Open n kind db) es = test (k == n)
 first_kind k (Start n call) es = refl
 first_kind k (Step n moment mark) es = refl
 first_kind k (Stop n) es = refl
-
--- no phrase changes the kind of its party
-follow_kind : (facts : Facts) (call : Call) (now : ℤ) (g : WorkGoes) → (follow facts call now g).facts.kind ≡ facts.kind
-follow_kind facts call now (Stay at) = refl
-follow_kind facts call now (End at (Ok end)) = (ends_same facts call end).kind
-follow_kind facts call now (End at (Err e)) = refl
 
 same_number : (a b : ℕ) → (a == b) ≡ true → a ≡ b
 same_number a b h = grind (arith, nat_tests)
@@ -156,10 +150,10 @@ module _ (n : ℕ) (w : World) (p : Party) (at : party_of n w.parties ≡ Some p
       went : (task : Task) → Does (Step n moment mark) w (stepped w n p.facts task moment mark).world
       went task =
           let o = effect mark (asks task.work) moment w.store in
-          let standing = follow p.facts task.call moment (goes task.work moment o.answer) in
+          let standing = moved p.facts task.call task.work moment o.answer in
           record {
             databases = λ d. tallied_same d (asks task.work) (wrote w.store o.store) w.tallies;
-            kinds = λ k. kind_kept (settled task.call standing) (follow_kind p.facts task.call moment (goes task.work moment o.answer)) k ∙ sym (or_none (kind_at k w));
+            kinds = λ k. kind_kept (settled task.call standing) (moved_same p.facts task.call task.work moment o.answer).kind k ∙ sym (or_none (kind_at k w));
             names = λ id. sym (or_false (is_carried checkpoint_cmp id w.carried.checkpoints));
             ulids = λ id. sym (or_false (is_carried ulid_cmp id w.carried.ulids));
           }

@@ -30,14 +30,14 @@ by_party : (k : LogKind) (n : ℕ) (author : Author) (c c' : Chain k) → author
 by_party k n author c c' e (Stays same) = Stays same
 by_party k n author c c' e (Gets l a is same grown) = Gets l a is (ap (λ (x : Author). x.party) same ∙ e) grown
 
-step_changes : (w : World) (chains : Chains) (i : Inv w chains) (n : ℕ) (p : Party) (at : party_of n w.parties ≡ Some p) (moment : ℤ) (mark : Mark) (state : State) → StateKnows (HasDb w) w.store chains n p.facts state → (k : LogKind) (d : List ℕ) → HasDb w d
-    → Changed (By n) (chains k d) (chains_state w n p.facts state moment mark chains k d)
+step_changes : (w : World) (chains : Chains) (i : Inv w chains) (n : ℕ) (p : Party) (at : party_of n w.parties ≡ Some p) (moment : ℤ) (mark : Mark) (state : State) → StateKnows w.store chains n p.facts state → (k : LogKind) (d : List ℕ) → HasDb w d
+    → Changed (By n) (chains k d) (chains_state w n state moment mark chains k d)
 step_changes w chains i n p at moment mark Resting known k d h = Stays refl
 step_changes w chains i n p at moment mark Halted known k d h = Stays refl
-step_changes w chains i n p at moment mark (Busy task) known k d h = test (is_due task.work) (by_party k n _ (chains k d) (chains_stepped w n p.facts task moment mark chains k d) (author_party n p.facts task.call (phrase_of task.work)) (log_after w chains i n p at task known moment mark k d h).changed)
+step_changes w chains i n p at moment mark (Busy task) known k d h = test (is_due task.work) (by_party k n _ (chains k d) (chains_stepped w n task moment mark chains k d) (author_party n (phrase_of task.work)) (log_after w chains i n p at task known moment mark k d h).changed)
   where
-    test : (b : Bool) → Changed (By n) (chains k d) (chains_stepped w n p.facts task moment mark chains k d)
-        → Changed (By n) (chains k d) ((if b then chains_stepped w n p.facts task moment mark chains else chains) k d)
+    test : (b : Bool) → Changed (By n) (chains k d) (chains_stepped w n task moment mark chains k d)
+        → Changed (By n) (chains k d) ((if b then chains_stepped w n task moment mark chains else chains) k d)
     test true c = c
     test false c = Stays refl
 

@@ -1,7 +1,32 @@
 -- In a call under way a store call is due.
-use Rattle.std.proofs.Common.{◌≡◌, ℕ, ℤ, ◌+◌, ◌==◌, nat_le, Bool, true, false, List, [], ◌∷◌, drop, length, Option, Some, None, Result, Ok, Err, refl}
+use Rattle.std.proofs.Common.{◌≡◌, ℕ, ℤ, ◌+◌, ◌==◌, nat_le, Bool, true, false, List, [], ◌∷◌, drop, length, Option, Some, None, Result, Ok, Err, refl, subst}
 use Rattle.std.specs.Prelude.{if◌then◌else◌}
-use Rattle.slate_changes.specs.Changes.{fence_by, made_by, right_by, holder_fence}
+use Rattle.slate_changes.specs.Changes.{fence_by, made_by, right_by}
+use Rattle.slate_changes.specs.LogWorks.{WorkGoes, change_goes, commit_on, read_on, work_due, work_goes}
+use Rattle.slate_changes.specs.declared.changing.Changing.{Changing}
+use Rattle.slate_changes.specs.declared.log_work.LogEnd.{LogEnd}
+use Rattle.slate_changes.specs.declared.log_work.LogEnd.TheVariants.{Absent, Unchanged, Committed}
+use Rattle.slate_changes.specs.declared.log_work.LogWork.{LogWork}
+use Rattle.slate_changes.specs.declared.log_work.LogWork.TheVariants.{Reading, Committing}
+use Rattle.slate_compactor.specs.declared.local_state.LocalState.{LocalState}
+use Rattle.slate_compactor_calls.specs.Commits.{ManifestChanging, RecordChanging, begun, committing, first_of, manifest_in, manifest_put, manifest_put_of, merge_of, put_of, record_in, record_put, statuses_of}
+use Rattle.slate_compactor_calls.specs.Compactors.{with_manifest}
+use Rattle.slate_compactor_calls.specs.Opening.{OpenGoes, after_record, on_record as open_record, open_due, open_goes, puts, raised, raising, with_version, without_version}
+use Rattle.slate_compactor_calls.specs.StateSteps.{StateGoes, follows, manifest_next, merge_by, merges, next_after, on_manifest as state_manifest, on_record as state_record, onward, or_missing, record_next, records as state_records, refresh_of, refreshes, start_phase, state_due, state_goes}
+use Rattle.slate_compactor_calls.specs.declared.compactor.Compactor.{Compactor}
+use Rattle.slate_compactor_calls.specs.declared.open_phase.OpenPhase.{OpenPhase}
+use Rattle.slate_compactor_calls.specs.declared.open_phase.OpenPhase.TheVariants as opening
+use Rattle.slate_compactor_calls.specs.declared.open_phase.OpenStep.{OpenStep}
+use Rattle.slate_compactor_calls.specs.declared.open_phase.OpenStep.TheVariants.{Give, Begin, GiveFirst, Reset}
+use Rattle.slate_compactor_calls.specs.declared.state_phase.ManifestStep.{ManifestStep}
+use Rattle.slate_compactor_calls.specs.declared.state_phase.ManifestStep.TheVariants.{Follow, Keep, Merge}
+use Rattle.slate_compactor_calls.specs.declared.state_phase.RecordStep.{RecordStep}
+use Rattle.slate_compactor_calls.specs.declared.state_phase.RecordStep.TheVariants as steps
+use Rattle.slate_compactor_calls.specs.declared.state_phase.StatePhase.{StatePhase}
+use Rattle.slate_compactor_calls.specs.declared.state_phase.StatePhase.TheVariants as compacting
+use Rattle.slate_compactor_calls.specs.declared.state_start.StateStart.{StateStart}
+use Rattle.slate_compactor_calls.specs.declared.state_start.StateStart.TheVariants as starts
+use Rattle.slate_compactor_calls.specs.declared.state_start.TreesWrite.{TreesWrite}
 use Rattle.slate_ids.specs.Limits.{last_number}
 use Rattle.slate_ids.specs.declared.error.SlateDBError.{SlateDBError}
 use Rattle.slate_ids.specs.declared.error.SlateDBError.TheVariants.{TransactionalObjectVersionExists, ManifestMissing, Exhausted}
@@ -13,19 +38,21 @@ use Rattle.slate_record_bytes.specs.Records.{decoded_record}
 use Rattle.slate_layout.specs.RecordCodec.{record_encoded}
 use Rattle.slate_record_updates.specs.RecordChanges.{made as record_made, right_of as record_right_of, fence_of as record_fence_of}
 use Rattle.slate_record_updates.specs.RecordRules.{record_refusal_of}
+use Rattle.slate_record_updates.specs.RecordEpochs.{first_record}
 use Rattle.slate_record_updates.specs.declared.record_change.RecordChange.{RecordChange}
+use Rattle.slate_record_updates.specs.declared.record_change.RecordChange.TheVariants as change
 use Rattle.slate_store.specs.Machines.{Goes, Stay, End}
 use Rattle.slate_store.specs.declared.object.ObjectMetadata.{ObjectMetadata}
 use Rattle.slate_store.specs.declared.object.StoredObject.{StoredObject}
 use Rattle.slate_store.specs.declared.store_answer.StoreAnswer.{StoreAnswer}
-use Rattle.slate_store.specs.declared.store_answer.StoreAnswer.TheVariants.{Found, Got, Created, Replaced, Deleted, Fault}
+use Rattle.slate_store.specs.declared.store_answer.StoreAnswer.TheVariants.{Found, Got, Created, Replaced, Deleted, Fault, Written}
 use Rattle.slate_events.specs.declared.call.Call.{Call}
-use Rattle.slate_events.specs.declared.call.Call.TheVariants.{Upload as UploadCall, OpenCompactor, Refresh, Finish as FinishCall, Fail, WriteState, Pass}
+use Rattle.slate_events.specs.declared.call.Call.TheVariants.{Upload as UploadCall, OpenCompactor, Refresh, Schedule, Finish as FinishCall, Fail, WriteManifest, WriteRecord, WriteState, Claim, Report, Pass}
 use Rattle.slate_log.specs.AdvancePhase.{AdvanceGoes, advance_goes, advance_due, read_goes_to, bound_goes, written_goes}
 use Rattle.slate_log.specs.Boundary.{boundary_of, boundary_got, greatest}
 use Rattle.slate_log.specs.Change.{wanted, some_commit}
 use Rattle.slate_log.specs.CommitPhase.{commit_goes, commit_due, created_goes, bounded_goes, prepared, checked_commit, encoded_commit}
-use Rattle.slate_log.specs.Fence.{unless}
+use Rattle.slate_log.specs.Fence.{fence, unless}
 use Rattle.slate_log.specs.ReadPhase.{read_goes, read_due, listed_goes, got_goes, decoded_goes, boundary_goes}
 use Rattle.slate_log.specs.declared.advance_phase.AdvancePhase.{AdvancePhase}
 use Rattle.slate_log.specs.declared.advance_phase.AdvancePhase.TheVariants as advancing
@@ -37,7 +64,7 @@ use Rattle.slate_log.specs.declared.read_phase.ReadPhase.{ReadPhase}
 use Rattle.slate_log.specs.declared.read_phase.ReadPhase.TheVariants as reading
 use Rattle.slate_log.specs.declared.right.Right.{Right}
 use Rattle.slate_updates.specs.Rules.{manifest_refusal}
-use Rattle.slate_updates.specs.Changes.{made as change_made, right_of as change_right, fence_of as change_fence}
+use Rattle.slate_updates.specs.Changes.{commit_of, made as change_made, right_of as change_right, fence_of as change_fence}
 use Rattle.slate_updates.specs.declared.manifest_change.ManifestChange.{ManifestChange}
 use Rattle.slate_updates.specs.declared.manifest_change.ManifestChange.TheVariants.{DropExpired}
 use Rattle.slate_ids.specs.declared.gc_message.GcMessage.{GcMessage}
@@ -52,8 +79,7 @@ use Rattle.slate_passes.specs.Pass.{PassGoes, pass_goes, pass_due}
 use Rattle.slate_passes.specs.Rows.{reads_greatest, target}
 use Rattle.slate_passes.specs.Ways.{Ways}
 use Rattle.slate_passes.specs.declared.gc_phase.GcPhase.{GcPhase}
-use Rattle.slate_changes.specs.declared.log_work.LogWork.TheVariants as removal
-use Rattle.slate_passes.specs.declared.gc_phase.GcPhase.TheVariants as removing
+use Rattle.slate_passes.specs.declared.gc_phase.GcPhase.TheVariants.{Removing, Collecting}
 use Rattle.slate_passes.specs.declared.heads.Heads.{Heads}
 use Rattle.slate_passes.specs.declared.pass_counts.PassCounts.{PassCounts}
 use Rattle.slate_passes.specs.declared.pass_phase.PassPhase.{PassPhase}
@@ -64,18 +90,11 @@ use Rattle.slate_referenced.specs.Named.{named_numbers}
 use Rattle.slate_referenced.specs.Referenced.{Versions, ReferencedGoes, referenced_due, referenced_goes, rest_goes, number_goes, first_goes, first_number}
 use Rattle.slate_referenced.specs.declared.referenced_phase.ReferencedPhase.{ReferencedPhase}
 use Rattle.slate_referenced.specs.declared.referenced_phase.ReferencedPhase.TheVariants as fetching
-use Rattle.slate_encodable.specs.Normal.{normal_manifest}
-use Rattle.slate_record_bytes.specs.RecordNormal.{normal_record}
-use Rattle.slate_protocol.specs.Calls.{refusal_at_start, change_of, again, done_once, done_merged, done, record_change_of, record_again, record_done_once, record_done, refresh_next, first_of, Next, Go, Finish}
-use Rattle.slate_protocol.specs.PartyChanges.{manifest_commit, record_commit}
-use Rattle.slate_protocol.specs.Rows.{commit_for, last_next, then_next, commit_next, record_commit_for, record_next, record_then, first_put, no_record, after, follow, first_next, begin_unless, begin}
-use Rattle.slate_protocol.specs.Works.{WorkGoes, goes, is_due, read_on, commit_on, record_read_on, record_commit_on, put_end, pass_on, pass_ways}
+use Rattle.slate_protocol.specs.Calls.{refusal_at_start, state_phase, unless_open, Next, Go, Finish}
+use Rattle.slate_protocol.specs.Rows.{begin, begin_unless, compactor_on, first_next, manifest_on, moved, open_on, pass_on, put_on, record_on, state_on}
+use Rattle.slate_protocol.specs.Works.{is_due, pass_ways}
 use Rattle.slate_protocol.specs.declared.party.Facts.{Facts}
 use Rattle.slate_protocol.specs.declared.uploads.Upload.{Upload}
-use Rattle.slate_protocol.specs.declared.work.Ended.{Ended}
-use Rattle.slate_protocol.specs.declared.work.Ended.TheVariants.{NoManifest, ManifestRead, ManifestCommitted, NoRecord, RecordRead, RecordCommitted, TablePut, Passed}
-use Rattle.slate_protocol.specs.declared.work.Purpose.{Purpose}
-use Rattle.slate_protocol.specs.declared.work.Purpose.TheVariants.{Once, First, Reset, Merge}
 use Rattle.slate_protocol.specs.declared.work.Work.{Work}
 use Rattle.slate_protocol.specs.declared.work.Work.TheVariants as work
 
@@ -165,10 +184,10 @@ module _ {V : Type 0} where
     unfenced_due (Some e) r = tt
     unfenced_due None r = wanted_due r
 
-made_due : (change : Option ManifestChange) (now : ℤ) (n : ℕ) (m : Manifest) → DueCommit (manifest_commit change now n m)
+made_due : (change : Option ManifestChange) (now : ℤ) (n : ℕ) (m : Manifest) → DueCommit (manifest_put change now n m)
 made_due change now n m = unfenced_due manifest_refusal encoded n m (right_by change_right change) (fence_by change_fence change m) (made_by change_made change now n m)
 
-record_made_due : (change : Option RecordChange) (now : ℤ) (n : ℕ) (r : Record) → DueCommit (record_commit change now n r)
+record_made_due : (change : Option RecordChange) (now : ℤ) (n : ℕ) (r : Record) → DueCommit (record_put change now n r)
 record_made_due change now n r = unfenced_due record_refusal_of record_encoded n r (right_by record_right_of change) (fence_by record_fence_of change r) (made_by record_made change now n r)
 
 -- ---- passes
@@ -313,6 +332,32 @@ module _ (ways : Ways) (settings : PassSettings) (now : ℤ) where
   passes_due (passing.Deleting left counts) answer = deletes_due left counts answer
   passes_due passing.Over answer = tt
 
+-- ---- a change under way
+
+abbrev ChangeAt : {V : Type 0} → WorkGoes V → Type 0
+ChangeAt {V} g = DueAt (λ (w : LogWork V). work_due w) g
+
+module _ {V : Type 0} (decoded : List ℕ → Result V SlateDBError) (commit_of : ℤ → ℕ → V → Result (Option (CommitPhase V)) SlateDBError) (made : (now : ℤ) (n : ℕ) (v : V) → DueCommit (commit_of now n v)) where
+  made_around : (now : ℤ) (n : ℕ) (v : V) (r : Result (Option (CommitPhase V)) SlateDBError) → DueCommit r → ChangeAt (change_goes now n v r)
+  made_around now n v (Ok (Some commit)) h = h
+  made_around now n v (Ok None) h = tt
+  made_around now n v (Err e) h = tt
+
+  read_around : (now : ℤ) (g : Goes (ReadPhase V) (Option (ℕ × V))) → ReadAt g → ChangeAt (read_on commit_of now g)
+  read_around now (Stay phase) h = h
+  read_around now (End phase (Ok None)) h = tt
+  read_around now (End phase (Ok (Some version))) h = made_around now version.0 version.1 (commit_of now version.0 version.1) (made now version.0 version.1)
+  read_around now (End phase (Err e)) h = tt
+
+  commit_around : (at : ℤ) (g : Goes (CommitPhase V) (ℕ × V)) → CommitAt g → ChangeAt (commit_on at g)
+  commit_around at (Stay phase) h = h
+  commit_around at (End phase (Ok version)) h = tt
+  commit_around at (End phase (Err e)) h = tt
+
+  changes_due : (log : LogKind) (now : ℤ) (work : LogWork V) (answer : StoreAnswer) → ChangeAt (work_goes log decoded commit_of now work answer)
+  changes_due log now (Reading phase) answer = read_around now (read_goes log decoded phase answer) (reads_due decoded log phase answer)
+  changes_due log now (Committing at phase) answer = commit_around at (commit_goes phase answer) (commits_due phase answer)
+
 -- ---- whole passes
 
 abbrev GcAt : GcGoes → Type 0
@@ -326,168 +371,222 @@ begins_due of.Compacted = refl
 begins_due of.Compactions = refl
 begins_due of.Detach = refl
 
-removal_due : (pass : GcMessage) (now : ℤ) (n : ℕ) (m : Manifest) (r : Result (Option (CommitPhase Manifest)) SlateDBError) → DueCommit r → GcAt (whole.removal_goes pass now n m r)
-removal_due pass now n m (Ok (Some commit)) h = h
-removal_due pass now n m (Ok None) h = begins_due pass
-removal_due pass now n m (Err e) h = tt
-
-gc_read_due : (pass : GcMessage) (now : ℤ) (g : Goes (ReadPhase Manifest) (Option (ℕ × Manifest))) → ReadAt g → GcAt (whole.read_on encoded pass now g)
-gc_read_due pass now (Stay phase) h = h
-gc_read_due pass now (End phase (Ok None)) h = tt
-gc_read_due pass now (End phase (Ok (Some version))) h = removal_due pass now version.0 version.1 _ (made_due (Some DropExpired) now version.0 version.1)
-gc_read_due pass now (End phase (Err e)) h = tt
-
-gc_commit_due : (pass : GcMessage) (now : ℤ) (g : Goes (CommitPhase Manifest) (ℕ × Manifest)) → CommitAt g → GcAt (whole.commit_on pass now g)
-gc_commit_due pass now (Stay phase) h = h
-gc_commit_due pass now (End phase (Ok version)) h = begins_due pass
-gc_commit_due pass now (End phase (Err e)) h = tt
+removed_due : (pass : GcMessage) (g : WorkGoes Manifest) → ChangeAt g → GcAt (whole.removed_goes pass g)
+removed_due pass (Stay work) h = h
+removed_due pass (End work (Ok Absent)) h = tt
+removed_due pass (End work (Ok (Unchanged n m))) h = begins_due pass
+removed_due pass (End work (Ok (Committed n m))) h = begins_due pass
+removed_due pass (End work (Err e)) h = tt
 
 gc_collect_due : (at : Option ℤ) (now : ℤ) (g : PassGoes) → PassAt g → GcAt (whole.collect_on at now g)
 gc_collect_due at now (Stay phase) h = h
 gc_collect_due at now (End phase r) h = tt
 
 collects_due : (filter : FilterWord) (settings : PassSettings) (now : ℤ) (phase : GcPhase) (answer : StoreAnswer) → GcAt (gc_goes (pass_ways filter) settings now phase answer)
-collects_due filter settings now (removing.Removing (removal.Reading phase)) answer = gc_read_due settings.pass now (read_goes ManifestLog decoded_manifest phase answer) (reads_due decoded_manifest ManifestLog phase answer)
-collects_due filter settings now (removing.Removing (removal.Committing made phase)) answer = gc_commit_due settings.pass made (commit_goes phase answer) (commits_due phase answer)
-collects_due filter settings now (removing.Collecting at phase) answer =
+collects_due filter settings now (Removing work) answer =
+    removed_due settings.pass (work_goes ManifestLog decoded_manifest (commit_of encoded DropExpired) now work answer) (changes_due decoded_manifest (commit_of encoded DropExpired) (λ at n m. made_due (Some DropExpired) at n m) ManifestLog now work answer)
+collects_due filter settings now (Collecting at phase) answer =
     gc_collect_due at (moment_of_pass at now) (pass_goes (pass_ways filter) settings (moment_of_pass at now) phase answer) (passes_due (pass_ways filter) settings (moment_of_pass at now) phase answer)
 
+-- ---- the calls of a compactor
+
+-- a change that is put at once begins with its put
+begun_due : {C V : Type 0} (change : C) (now : ℤ) (r : Result (Option (CommitPhase V)) SlateDBError) → DueCommit r → (p : Changing (Option C) V) → begun change now r ≡ Ok p → work_due p.work ≡ true
+begun_due {C} {V} change now (Ok (Some commit)) h p is = let same : committing (Some change) now commit ≡ p = cc is in subst (λ (q : Changing (Option C) V). work_due q.work ≡ true) same h
+begun_due change now (Ok None) h p is = absurd (cc is)
+begun_due change now (Err e) h p is = absurd (cc is)
+
+abbrev OpenAt : OpenGoes → Type 0
+OpenAt g = DueAt open_due g
+
+puts_due : (step : OpenStep) (m : ℕ × Manifest) (change : RecordChange) (now : ℤ) (v : ℕ × Record) (r : Result RecordChanging SlateDBError) → put_of change now v ≡ r → OpenAt (puts step m r)
+puts_due step m change now v (Ok p) is = begun_due change now (record_put (Some change) now v.0 v.1) (record_made_due (Some change) now v.0 v.1) p is
+puts_due step m change now v (Err e) is = tt
+
+first_due : (m : ℕ × Manifest) (now : ℤ) (r : Result (List ℕ) SlateDBError) → OpenAt (puts Begin m (first_of now (encoded_commit 1 first_record r)))
+first_due m now (Ok bytes) = refl
+first_due m now (Err e) = tt
+
+with_due : (step : OpenStep) (m : ℕ × Manifest) (now : ℤ) (v : ℕ × Record) → OpenAt (with_version step m now v)
+with_due Give m now v = puts_due Reset m (change.Reset m.1.compactor_epoch) now v (put_of (change.Reset m.1.compactor_epoch) now v) refl
+with_due Begin m now v = puts_due GiveFirst m (change.GiveEpoch m.1.compactor_epoch) now v (put_of (change.GiveEpoch m.1.compactor_epoch) now v) refl
+with_due GiveFirst m now v = puts_due Reset m (change.Reset m.1.compactor_epoch) now v (put_of (change.Reset m.1.compactor_epoch) now v) refl
+with_due Reset m now v = tt
+
+without_due : (step : OpenStep) (m : ℕ × Manifest) (now : ℤ) → OpenAt (without_version step m now)
+without_due Give m now = first_due m now (record_encoded first_record)
+without_due Begin m now = tt
+without_due GiveFirst m now = tt
+without_due Reset m now = tt
+
+after_due : (step : OpenStep) (m : ℕ × Manifest) (now : ℤ) (o : Option (ℕ × Record)) → OpenAt (after_record step m now o)
+after_due step m now None = without_due step m now
+after_due step m now (Some v) = with_due step m now v
+
+raised_due : (o : Option (ℕ × Manifest)) → OpenAt (raised o)
+raised_due None = tt
+raised_due (Some m) = refl
+
+raising_due : (p : ManifestChanging) (g : WorkGoes Manifest) → ChangeAt g → OpenAt (raising p g)
+raising_due p (Stay work) h = h
+raising_due p (End work (Ok end)) h = raised_due (manifest_in end)
+raising_due p (End work (Err e)) h = tt
+
+on_record_due : (step : OpenStep) (m : ℕ × Manifest) (now : ℤ) (p : RecordChanging) (g : WorkGoes Record) → ChangeAt g → OpenAt (open_record step m now p g)
+on_record_due step m now p (Stay work) h = h
+on_record_due step m now p (End work (Ok end)) h = after_due step m now (record_in end)
+on_record_due step m now p (End work (Err e)) h = tt
+
+-- a step of a change of each log
+manifest_work_due : (p : ManifestChanging) (now : ℤ) (answer : StoreAnswer) → ChangeAt (work_goes ManifestLog decoded_manifest (manifest_put p.change) now p.work answer)
+manifest_work_due p now answer = changes_due decoded_manifest (manifest_put p.change) (λ at n m. made_due p.change at n m) ManifestLog now p.work answer
+
+record_work_due : (p : RecordChanging) (now : ℤ) (answer : StoreAnswer) → ChangeAt (work_goes RecordLog decoded_record (record_put p.change) now p.work answer)
+record_work_due p now answer = changes_due decoded_record (record_put p.change) (λ at n r. record_made_due p.change at n r) RecordLog now p.work answer
+
+opens_due : (now : ℤ) (phase : OpenPhase) (answer : StoreAnswer) → OpenAt (open_goes now phase answer)
+opens_due now (opening.Raising p) answer = raising_due p (work_goes ManifestLog decoded_manifest (manifest_put p.change) now p.work answer) (manifest_work_due p now answer)
+opens_due now (opening.OnRecord step m p) answer = on_record_due step m now p (work_goes RecordLog decoded_record (record_put p.change) now p.work answer) (record_work_due p now answer)
+opens_due now opening.Over answer = tt
+
+abbrev StateAt : StateGoes → Type 0
+StateAt g = DueAt (λ (at : StatePhase × Compactor). state_due at.0) g
+
+follows_due : (c : Compactor) (v : ℕ × Record) (o : Option SlateDBError) → StateAt (follows c v o)
+follows_due c v (Some e) = tt
+follows_due c v None = refl
+
+records_due : (write : Option TreesWrite) (c : Compactor) (now : ℤ) (v : ℕ × Record) (r : Result RecordChanging SlateDBError) → put_of (statuses_of c.epoch c.local) now v ≡ r → StateAt (state_records write c r)
+records_due write c now v (Ok p) is = begun_due (statuses_of c.epoch c.local) now (record_put (Some (statuses_of c.epoch c.local)) now v.0 v.1) (record_made_due (Some (statuses_of c.epoch c.local)) now v.0 v.1) p is
+records_due write c now v (Err e) is = tt
+
+record_next_due : (step : RecordStep) (now : ℤ) (c : Compactor) (o : Option (ℕ × Record)) → StateAt (or_missing c (record_next step now c) o)
+record_next_due step now c None = tt
+record_next_due steps.Follow now c (Some v) = follows_due c v (fence c.epoch v.1.compactor_epoch)
+record_next_due steps.Schedule now c (Some v) = tt
+record_next_due (steps.Fetch write) now c (Some v) = records_due write c now v (put_of (statuses_of c.epoch c.local) now v) refl
+record_next_due (steps.Record write) now c (Some v) = tt
+
+state_record_due : (step : RecordStep) (now : ℤ) (c : Compactor) (p : RecordChanging) (g : WorkGoes Record) → ChangeAt g → StateAt (state_record step now c p g)
+state_record_due step now c p (Stay work) h = h
+state_record_due step now c p (End work (Ok end)) h = record_next_due step now c (record_in end)
+state_record_due step now c p (End work (Err e)) h = tt
+
+refreshes_due : (c : Compactor) (v : ℕ × Manifest) (r : Result LocalState SlateDBError) → StateAt (refreshes c v r)
+refreshes_due c v (Ok local) = tt
+refreshes_due c v (Err e) = tt
+
+merges_due : (write : TreesWrite) (now : ℤ) (c : Compactor) (v : ℕ × Manifest) (r : Result ManifestChanging SlateDBError) → manifest_put_of (merge_of c.epoch c.local) now v ≡ r → StateAt (merges write (with_manifest v c) r)
+merges_due write now c v (Ok p) is = begun_due (merge_of c.epoch c.local) now (manifest_put (Some (merge_of c.epoch c.local)) now v.0 v.1) (made_due (Some (merge_of c.epoch c.local)) now v.0 v.1) p is
+merges_due write now c v (Err e) is = tt
+
+next_due_after : (c : Compactor) (write : TreesWrite) (b : Bool) → StateAt (onward c (next_after b write))
+next_due_after c write true = refl
+next_due_after c write false = tt
+
+manifest_next_due : (step : ManifestStep) (now : ℤ) (c : Compactor) (end : LogEnd Manifest) → StateAt (manifest_next step now c end)
+manifest_next_due Follow now c end = follow (manifest_in end)
+  where
+    follow : (o : Option (ℕ × Manifest)) → StateAt (or_missing c (λ v. refreshes c v (refresh_of c v.1)) o)
+    follow None = tt
+    follow (Some v) = refreshes_due c v (refresh_of c v.1)
+manifest_next_due (Keep write) now c end = keep (manifest_in end)
+  where
+    keep : (o : Option (ℕ × Manifest)) → StateAt (or_missing c (merge_by write now c) o)
+    keep None = tt
+    keep (Some v) = merges_due write now c v (manifest_put_of (merge_of c.epoch c.local) now v) refl
+manifest_next_due (Merge write) now c Absent = tt
+manifest_next_due (Merge write) now c (Unchanged n m) = tt
+manifest_next_due (Merge write) now c (Committed n m) = next_due_after _ write write.whole
+
+state_manifest_due : (step : ManifestStep) (now : ℤ) (c : Compactor) (p : ManifestChanging) (g : WorkGoes Manifest) → ChangeAt g → StateAt (state_manifest step now c p g)
+state_manifest_due step now c p (Stay work) h = h
+state_manifest_due step now c p (End work (Ok end)) h = manifest_next_due step now c end
+state_manifest_due step now c p (End work (Err e)) h = tt
+
+states_due : (now : ℤ) (phase : StatePhase) (c : Compactor) (answer : StoreAnswer) → StateAt (state_goes now (phase, c) answer)
+states_due now (compacting.OnRecord step p) c answer = state_record_due step now c p (work_goes RecordLog decoded_record (record_put p.change) now p.work answer) (record_work_due p now answer)
+states_due now (compacting.OnManifest step p) c answer = state_manifest_due step now c p (work_goes ManifestLog decoded_manifest (manifest_put p.change) now p.work answer) (manifest_work_due p now answer)
+states_due now compacting.Over c answer = tt
+
 -- ---- calls
-
-abbrev WorkAt : WorkGoes → Type 0
-WorkAt g = DueAt is_due g
-
-read_around : (purpose : Purpose) (db : List ℕ) (g : Goes (ReadPhase Manifest) (Option (ℕ × Manifest))) → ReadAt g → WorkAt (read_on purpose db g)
-read_around purpose db (Stay phase) h = h
-read_around purpose db (End phase (Ok None)) h = tt
-read_around purpose db (End phase (Ok (Some version))) h = tt
-read_around purpose db (End phase (Err e)) h = tt
-
-commit_around : (purpose : Purpose) (now : ℤ) (db : List ℕ) (g : Goes (CommitPhase Manifest) (ℕ × Manifest)) → CommitAt g → WorkAt (commit_on purpose now db g)
-commit_around purpose now db (Stay phase) h = h
-commit_around purpose now db (End phase (Ok version)) h = tt
-commit_around purpose now db (End phase (Err e)) h = tt
-
-record_read_around : (purpose : Purpose) (db : List ℕ) (g : Goes (ReadPhase Record) (Option (ℕ × Record))) → ReadAt g → WorkAt (record_read_on purpose db g)
-record_read_around purpose db (Stay phase) h = h
-record_read_around purpose db (End phase (Ok None)) h = tt
-record_read_around purpose db (End phase (Ok (Some version))) h = tt
-record_read_around purpose db (End phase (Err e)) h = tt
-
-record_commit_around : (purpose : Purpose) (now : ℤ) (db : List ℕ) (g : Goes (CommitPhase Record) (ℕ × Record)) → CommitAt g → WorkAt (record_commit_on purpose now db g)
-record_commit_around purpose now db (Stay phase) h = h
-record_commit_around purpose now db (End phase (Ok version)) h = tt
-record_commit_around purpose now db (End phase (Err e)) h = tt
-
-pass_around : (db : List ℕ) (settings : PassSettings) (filter : FilterWord) (g : GcGoes) → GcAt g → WorkAt (pass_on db settings filter g)
-pass_around db settings filter (Stay phase) h = h
-pass_around db settings filter (End phase (Ok counts)) h = tt
-pass_around db settings filter (End phase (Err e)) h = tt
-
-put_around : (db : List ℕ) (upload : Upload) (bytes : List ℕ) (r : Result Ended SlateDBError) → WorkAt (End (work.PutTable db upload bytes) r)
-put_around db upload bytes (Ok end) = tt
-put_around db upload bytes (Err e) = tt
-
-work_due : (at : Work) (now : ℤ) (answer : StoreAnswer) → WorkAt (goes at now answer)
-work_due (work.ReadManifest purpose db phase) now answer = read_around purpose db (read_goes ManifestLog decoded_manifest phase answer) (reads_due decoded_manifest ManifestLog phase answer)
-work_due (work.CommitManifest purpose made db phase) now answer = commit_around purpose made db (commit_goes phase answer) (commits_due phase answer)
-work_due (work.ReadRecord purpose db phase) now answer = record_read_around purpose db (read_goes RecordLog decoded_record phase answer) (reads_due decoded_record RecordLog phase answer)
-work_due (work.CommitRecord purpose made db phase) now answer = record_commit_around purpose made db (commit_goes phase answer) (commits_due phase answer)
-work_due (work.PutTable db upload bytes) now answer = put_around db upload bytes (put_end upload answer)
-work_due (work.Pass db settings filter phase) now answer = pass_around db settings filter (gc_goes (pass_ways filter) settings now phase answer) (collects_due filter settings now phase answer)
 
 -- where a call goes on, a store call is due
 abbrev pub DueNext : Next → Type 0
 DueNext (Go at) = is_due at ≡ true
 DueNext (Finish reply) = Unit {0}
 
-once_due : (facts : Facts) (m : Manifest) (call : Call) → DueNext (done_once facts call m)
-once_due facts m OpenCompactor = refl
-once_due facts m _ = tt
+manifest_on_due : (facts : Facts) (call : Call) (db : List ℕ) (p : ManifestChanging) (g : WorkGoes Manifest) → ChangeAt g → DueNext (manifest_on facts call db p g).next
+manifest_on_due facts call db p (Stay at) h = h
+manifest_on_due facts call db p (End at (Ok end)) h = tt
+manifest_on_due facts call db p (End at (Err e)) h = tt
 
-merged_due : (facts : Facts) (call : Call) → DueNext (done_merged facts call)
-merged_due facts (WriteState checkpoint) = refl
-merged_due facts _ = tt
+record_on_due : (facts : Facts) (db : List ℕ) (p : RecordChanging) (g : WorkGoes Record) → ChangeAt g → DueNext (record_on facts db p g).next
+record_on_due facts db p (Stay at) h = h
+record_on_due facts db p (End at (Ok end)) h = tt
+record_on_due facts db p (End at (Err e)) h = tt
 
-done_due : (facts : Facts) (m : Manifest) (call : Call) (purpose : Purpose) → DueNext (done facts call purpose m)
-done_due facts m call Once = once_due facts m call
-done_due facts m call Merge = merged_due facts call
-done_due facts m call First = tt
-done_due facts m call Reset = tt
+put_on_due : (facts : Facts) (upload : Upload) (answer : StoreAnswer) → DueNext (put_on facts upload answer).next
+put_on_due facts upload (Written tag) = tt
+put_on_due facts upload _ = tt
 
-last_due : (facts : Facts) (call : Call) (purpose : Purpose) (db : List ℕ) (now : ℤ) (m : Manifest) (r : Result (Option (CommitPhase Manifest)) SlateDBError) → DueCommit r → DueNext (last_next facts call purpose db now m r)
-last_due facts call purpose db now m (Ok (Some commit)) h = h
-last_due facts call purpose db now m (Ok None) h = done_due facts m call purpose
-last_due facts call purpose db now m (Err e) h = tt
+pass_on_due : (facts : Facts) (db : List ℕ) (settings : PassSettings) (filter : FilterWord) (g : GcGoes) → GcAt g → DueNext (pass_on facts db settings filter g).next
+pass_on_due facts db settings filter (Stay at) h = h
+pass_on_due facts db settings filter (End at (Ok counts)) h = tt
+pass_on_due facts db settings filter (End at (Err e)) h = tt
 
-then_due : (next : Option Purpose) (facts : Facts) (call : Call) (purpose : Purpose) (db : List ℕ) (now : ℤ) (n : ℕ) (m committed : Manifest) → DueNext (then_next next facts call purpose db now n m committed)
-then_due None facts call purpose db now n m committed = done_due facts m call purpose
-then_due (Some next) facts call purpose db now n m committed = last_due facts call next db now committed (commit_for facts call next now n committed) (made_due (change_of facts call next) now n committed)
+open_on_due : (facts : Facts) (db : List ℕ) (g : OpenGoes) → OpenAt g → DueNext (open_on facts db g).next
+open_on_due facts db (Stay at) h = h
+open_on_due facts db (End at (Ok compactor)) h = tt
+open_on_due facts db (End at (Err e)) h = tt
 
-commit_at : (facts : Facts) (call : Call) (purpose : Purpose) (db : List ℕ) (now : ℤ) (n : ℕ) (m : Manifest) (r : Result (Option (CommitPhase Manifest)) SlateDBError) → DueCommit r → DueNext (commit_next facts call purpose db now n m r)
-commit_at facts call purpose db now n m (Ok (Some commit)) h = h
-commit_at facts call purpose db now n m (Ok None) h = then_due (again call purpose) facts call purpose db now n m m
-commit_at facts call purpose db now n m (Err e) h = tt
+state_on_due : (facts : Facts) (db : List ℕ) (g : StateGoes) → StateAt g → DueNext (state_on facts db g).next
+state_on_due facts db (Stay at) h = h
+state_on_due facts db (End at (Ok u)) h = tt
+state_on_due facts db (End at (Err e)) h = tt
 
-refresh_due : (db : List ℕ) (o : Option SlateDBError) → DueNext (refresh_next db o)
-refresh_due db None = refl
-refresh_due db (Some e) = tt
+compactor_on_due : (facts : Facts) (db : List ℕ) (now : ℤ) (phase : StatePhase) (answer : StoreAnswer) (o : Option Compactor) → DueNext (compactor_on facts db now phase answer o).next
+compactor_on_due facts db now phase answer None = tt
+compactor_on_due facts db now phase answer (Some c) = state_on_due facts db (state_goes now (phase, c) answer) (states_due now phase c answer)
 
-record_once_due : (facts : Facts) (r : Record) (call : Call) → DueNext (record_done_once facts call r)
-record_once_due facts r Refresh = refresh_due facts.db (holder_fence facts.epoch r.compactor_epoch)
-record_once_due facts r _ = tt
+pub moved_due : (facts : Facts) (call : Call) (now : ℤ) (at : Work) (answer : StoreAnswer) → DueNext (moved facts call at now answer).next
+moved_due facts call now (work.Manifests db p) answer = manifest_on_due facts call db p (work_goes ManifestLog decoded_manifest (manifest_put p.change) now p.work answer) (manifest_work_due p now answer)
+moved_due facts call now (work.Records db p) answer = record_on_due facts db p (work_goes RecordLog decoded_record (record_put p.change) now p.work answer) (record_work_due p now answer)
+moved_due facts call now (work.PutTable db upload bytes) answer = put_on_due facts upload answer
+moved_due facts call now (work.Pass db settings filter phase) answer = pass_on_due facts db settings filter (gc_goes (pass_ways filter) settings now phase answer) (collects_due filter settings now phase answer)
+moved_due facts call now (work.Opening db phase) answer = open_on_due facts db (open_goes now phase answer) (opens_due now phase answer)
+moved_due facts call now (work.Compacting db phase) answer = compactor_on_due facts db now phase answer facts.compactor
 
-record_done_due : (facts : Facts) (r : Record) (call : Call) (purpose : Purpose) → DueNext (record_done facts call purpose r)
-record_done_due facts r call Once = record_once_due facts r call
-record_done_due facts r call Reset = tt
-record_done_due facts r call First = tt
-record_done_due facts r call Merge = tt
+-- ---- as it begins
 
-record_at : (facts : Facts) (call : Call) (purpose : Purpose) (db : List ℕ) (now : ℤ) (r : Record) (result : Result (Option (CommitPhase Record)) SlateDBError) → DueCommit result → DueNext (record_next facts call purpose db now r result)
-record_at facts call purpose db now r (Ok (Some commit)) h = h
-record_at facts call purpose db now r (Ok None) h = record_done_due facts r call purpose
-record_at facts call purpose db now r (Err e) h = tt
+start_due : (start : StateStart) (c : Compactor) → state_due (start_phase start c) ≡ true
+start_due starts.Refresh c = refl
+start_due (starts.Schedule id) c = refl
+start_due (starts.WriteTrees write) c = refl
+start_due starts.WriteRecord c = refl
 
-record_then_due : (next : Option Purpose) (facts : Facts) (call : Call) (purpose : Purpose) (db : List ℕ) (now : ℤ) (n : ℕ) (r committed : Record) → DueNext (record_then next facts call purpose db now n r committed)
-record_then_due None facts call purpose db now n r committed = record_done_due facts r call purpose
-record_then_due (Some next) facts call purpose db now n r committed = record_at facts call next db now committed (record_commit_for facts call next now n committed) (record_made_due (record_change_of facts call next) now n committed)
+state_first_due : (start : StateStart) (o : Option Compactor) → unless_open o ≡ None → state_due (state_phase start o) ≡ true
+state_first_due start None h = absurd (cc h)
+state_first_due start (Some c) h = start_due start c
 
-first_put_due : (db : List ℕ) (now : ℤ) (r : Record) (bytes : Result (List ℕ) SlateDBError) → DueNext (first_put db now (encoded_commit 1 r bytes))
-first_put_due db now r (Ok bytes) = refl
-first_put_due db now r (Err e) = tt
-
-no_record_due : (o : Option Record) (db : List ℕ) (now : ℤ) → DueNext (no_record o db now)
-no_record_due None db now = tt
-no_record_due (Some r) db now = first_put_due db now r (record_encoded r)
-
-after_due : (facts : Facts) (call : Call) (now : ℤ) (end : Ended) → DueNext (after facts call now end)
-after_due facts call now (NoManifest purpose) = tt
-after_due facts call now (ManifestRead purpose db n m) = commit_at facts call purpose db now n m (commit_for facts call purpose now n m) (made_due (change_of facts call purpose) now n m)
-after_due facts call now (ManifestCommitted purpose db n m) = then_due (again call purpose) facts call purpose db now n m (normal_manifest m)
-after_due facts call now (NoRecord purpose) = no_record_due (first_of call First) facts.db now
-after_due facts call now (RecordRead purpose db n r) = record_at facts call purpose db now r (record_commit_for facts call purpose now n r) (record_made_due (record_change_of facts call purpose) now n r)
-after_due facts call now (RecordCommitted purpose db n r) = record_then_due (record_again call purpose) facts call purpose db now n r (normal_record r)
-after_due facts call now (TablePut upload) = tt
-after_due facts call now (Passed counts) = tt
-
-follow_at : (facts : Facts) (call : Call) (now : ℤ) (g : WorkGoes) → WorkAt g → DueNext (follow facts call now g).next
-follow_at facts call now (Stay at) h = h
-follow_at facts call now (End at (Ok end)) h = after_due facts call now end
-follow_at facts call now (End at (Err e)) h = tt
-
-pub follow_due : (facts : Facts) (call : Call) (now : ℤ) (at : Work) (answer : StoreAnswer) → DueNext (follow facts call now (goes at now answer)).next
-follow_due facts call now at answer = follow_at facts call now (goes at now answer) (work_due at now answer)
-
-first_due : (facts : Facts) (call : Call) → DueNext (first_next facts call)
-first_due facts (UploadCall table first last) = refl
-first_due facts (Pass pass min_age dry_run filter) = refl
-first_due facts (FinishCall id) = tt
-first_due facts (Fail id) = tt
-first_due facts _ = refl
-
-unless_due : (facts : Facts) (call : Call) (refusal : Option SlateDBError) → DueNext (begin_unless refusal facts call)
-unless_due facts call (Some e) = tt
-unless_due facts call None = first_due facts call
+first_next_due : (facts : Facts) (call : Call) → refusal_at_start facts call ≡ None → DueNext (first_next facts call)
+first_next_due facts (UploadCall table first last) h = refl
+first_next_due facts (Pass pass min_age dry_run filter) h = refl
+first_next_due facts OpenCompactor h = refl
+first_next_due facts Refresh h = state_first_due starts.Refresh facts.compactor h
+first_next_due facts (Schedule id) h = state_first_due (starts.Schedule id) facts.compactor h
+first_next_due facts (WriteManifest checkpoint) h = state_first_due (starts.WriteTrees (record { checkpoint = checkpoint; whole = false })) facts.compactor h
+first_next_due facts WriteRecord h = state_first_due starts.WriteRecord facts.compactor h
+first_next_due facts (WriteState checkpoint) h = state_first_due (starts.WriteTrees (record { checkpoint = checkpoint; whole = true })) facts.compactor h
+first_next_due facts (Claim id) h = refl
+first_next_due facts (Report id tables) h = refl
+first_next_due facts (FinishCall id) h = tt
+first_next_due facts (Fail id) h = tt
+first_next_due facts _ h = refl
 
 pub begin_due : (facts : Facts) (call : Call) → DueNext (begin facts call).next
-begin_due facts call = unless_due facts call (refusal_at_start facts call)
+begin_due facts call = unless (refusal_at_start facts call) refl
+  where
+    unless : (o : Option SlateDBError) → refusal_at_start facts call ≡ o → DueNext (begin_unless o facts call)
+    unless (Some e) is = tt
+    unless None is = first_next_due facts call is

@@ -108,26 +108,26 @@ compactor_above : (change : Option ManifestChange) (old new : Manifest) (e : ℕ
 compactor_above None old new e passed up is = absurd cc
 compactor_above (Some change) old new e passed up is = compactor_own change old new e passed up is
 
-writers_fenced : Fences manifests (epoch_of Writer) (λ author m. writer_in (change_by author) m)
+writers_fenced : Fences manifests (epoch_of Writer) (λ author m. writer_in (change_by author.puts) m)
 writers_fenced = record {
   rises = λ n old new right h. (nothing_falls n old new right h).writer;
-  above = λ author old new e passed up is. writer_above (change_by author) old new e passed up is;
+  above = λ author old new e passed up is. writer_above (change_by author.puts) old new e passed up is;
 }
 
-compactors_fenced : Fences manifests (epoch_of Compactor) (λ author m. compactor_in (change_by author) m)
+compactors_fenced : Fences manifests (epoch_of Compactor) (λ author m. compactor_in (change_by author.puts) m)
 compactors_fenced = record {
   rises = λ n old new right h. (nothing_falls n old new right h).compactor;
-  above = λ author old new e passed up is. compactor_above (change_by author) old new e passed up is;
+  above = λ author old new e passed up is. compactor_above (change_by author.puts) old new e passed up is;
 }
 
 -- no epoch of a committed manifest is above that of the greatest
 pub compactor_rises : (n : ℕ) (u l : Link Manifest Author) (c : Chain logs.Manifest) → IsChain manifests (l ∷ c) → link_at n (l ∷ c) ≡ Some u → epoch_of Compactor u.value ≤ epoch_of Compactor l.value
-compactor_rises n u l c h at = epochs_rise manifests (epoch_of Compactor) (λ author m. compactor_in (change_by author) m) compactors_fenced n u l c h at
+compactor_rises n u l c h at = epochs_rise manifests (epoch_of Compactor) (λ author m. compactor_in (change_by author.puts) m) compactors_fenced n u l c h at
 
 pub chain_fenced : (c : Chain logs.Manifest) → IsChain manifests c → IsFenced c
 chain_fenced c h = record {
-  writers = is_fenced manifests (epoch_of Writer) (λ author m. writer_in (change_by author) m) writers_fenced c h;
-  compactors = is_fenced manifests (epoch_of Compactor) (λ author m. compactor_in (change_by author) m) compactors_fenced c h;
+  writers = is_fenced manifests (epoch_of Writer) (λ author m. writer_in (change_by author.puts) m) writers_fenced c h;
+  compactors = is_fenced manifests (epoch_of Compactor) (λ author m. compactor_in (change_by author.puts) m) compactors_fenced c h;
 }
 
 -- ---- records
@@ -148,15 +148,15 @@ record_above (Some (Schedule compactor id)) old e passed is = holder_passes comp
 record_above (Some (PutStatuses compactor local pending)) old e passed is = holder_passes compactor old.compactor_epoch e passed is
 record_above (Some _) old e passed is = absurd cc
 
-records_fenced : Fences records record_epoch (λ author r. record_epoch_in (record_change_by author))
+records_fenced : Fences records record_epoch (λ author r. record_epoch_in (record_change_by author.puts))
 records_fenced = record {
   rises = λ n old new right h. record_epoch_rises n old new right h;
-  above = λ author old new e passed up is. record_above (record_change_by author) old e passed is;
+  above = λ author old new e passed up is. record_above (record_change_by author.puts) old e passed is;
 }
 
 -- nor is that of a committed record
 pub record_rises : (n : ℕ) (u l : Link Record Author) (c : Chain logs.Compactions) → IsChain records (l ∷ c) → link_at n (l ∷ c) ≡ Some u → record_epoch u.value ≤ record_epoch l.value
-record_rises n u l c h at = epochs_rise records record_epoch (λ author r. record_epoch_in (record_change_by author)) records_fenced n u l c h at
+record_rises n u l c h at = epochs_rise records record_epoch (λ author r. record_epoch_in (record_change_by author.puts)) records_fenced n u l c h at
 
 pub chain_record_fenced : (c : Chain logs.Compactions) → IsChain records c → IsRecordFenced c
-chain_record_fenced c h = is_fenced records record_epoch (λ author r. record_epoch_in (record_change_by author)) records_fenced c h
+chain_record_fenced c h = is_fenced records record_epoch (λ author r. record_epoch_in (record_change_by author.puts)) records_fenced c h

@@ -45,8 +45,8 @@ use Rattle.slate_referenced.specs.declared.referenced_phase.ReferencedPhase.TheV
 use Rattle.slate_protocol.specs.ByRows.{Doing, Answers, Told, AllTold, entry_by, party_in, all_told_after, entry_store}
 use Rattle.slate_protocol.specs.Calls.{pass_settings, Go, Finish}
 use Rattle.slate_protocol.specs.Passes.{calls_made, pass_answers, is_delete, deletes_in, deletes_made, deletes_of, calls_of, with_deletes, picked_so_far, reply_of, IsExact, ExactDoing, ExactEntry, ExactPasses}
-use Rattle.slate_protocol.specs.Rows.{Answered, Standing, answered, after_answers, follow}
-use Rattle.slate_protocol.specs.Works.{pass_on, pass_ways}
+use Rattle.slate_protocol.specs.Rows.{Answered, Standing, answered, after_answers, pass_on}
+use Rattle.slate_protocol.specs.Works.{pass_ways}
 use Rattle.slate_protocol.specs.declared.party.Facts.{Facts}
 use Rattle.slate_protocol.specs.declared.work.Work.TheVariants.{Pass}
 
@@ -132,13 +132,13 @@ module _ (facts : Facts) (call : Call) (db : List ℕ) (settings : PassSettings)
   standing_at (End phase (Ok counts)) = record { facts = facts; next = Finish (reply_of counts) }
   standing_at (End phase (Err e)) = record { facts = facts; next = Finish (Refused e) }
 
-  pub follows : (now : ℤ) (g : GcGoes) → follow facts call now (pass_on db settings word g) ≡ standing_at g
-  follows now (Stay phase) = refl
-  follows now (End phase (Ok counts)) = refl
-  follows now (End phase (Err e)) = refl
+  follows : (g : GcGoes) → pass_on facts db settings word g ≡ standing_at g
+  follows (Stay phase) = refl
+  follows (End phase (Ok counts)) = refl
+  follows (End phase (Err e)) = refl
 
   pub went : (phase : GcPhase) (a : Answered) → answered call facts (Go (Pass db settings word phase)) a ≡ standing_at (gc_goes (pass_ways word) settings a.1 phase a.0)
-  went phase a = follows a.1 (gc_goes (pass_ways word) settings a.1 phase a.0)
+  went phase a = follows (gc_goes (pass_ways word) settings a.1 phase a.0)
 
   -- after answers it stands where its machine does
   stands : (answers : List Answered) (g : GcGoes) → after_answers call (standing_at g) answers ≡ standing_at (stands_after (pass_ways word) settings g answers)

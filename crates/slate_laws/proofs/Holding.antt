@@ -1,8 +1,28 @@
 -- What the parties of a run hold.
-use Rattle.std.proofs.Common.{◌≡◌, ℕ, ◌<◌, ◌≤◌, ◌^◌, ℤ, nat_le, true, List, [], ◌∷◌, ◌++◌, Some, Ok, Err, refl, sym, ap, ◌∙◌, subst, arith}
+use Rattle.std.proofs.Common.{◌≡◌, ℕ, ◌<◌, ◌≤◌, ◌^◌, ℤ, nat_le, true, List, [], ◌∷◌, ◌++◌, Option, Some, None, Result, Ok, Err, refl, sym, ap, ◌∙◌, subst, arith}
 use Rattle.std.proofs.lemmas.Bool.Decides.{nat_tests}
 use Rattle.std.specs.Prelude.{if◌then◌else◌}
-use Rattle.slate_ids.specs.declared.error.SlateDBError.TheVariants.{TransactionalObjectVersionExists, StoreFault}
+use Rattle.slate_changes.specs.LogWorks.{WorkGoes, commit_on, work_asks as changes_ask, work_goes}
+use Rattle.slate_changes.specs.declared.log_work.LogWork.{LogWork}
+use Rattle.slate_changes.specs.declared.log_work.LogWork.TheVariants.{Reading, Committing}
+use Rattle.slate_compactor_calls.specs.Commits.{ManifestChanging, RecordChanging, manifest_put, record_put}
+use Rattle.slate_compactor_calls.specs.Opening.{on_record as open_record, raising}
+use Rattle.slate_compactor_calls.specs.StateSteps.{on_manifest as state_manifest, on_record as state_record, state_asks}
+use Rattle.slate_compactor_calls.specs.declared.compactor.Compactor.{Compactor}
+use Rattle.slate_compactor_calls.specs.declared.open_phase.OpenPhase.TheVariants as opening
+use Rattle.slate_compactor_calls.specs.declared.state_phase.StatePhase.{StatePhase}
+use Rattle.slate_compactor_calls.specs.declared.state_phase.StatePhase.TheVariants as compacting
+use Rattle.slate_ids.specs.declared.error.SlateDBError.{SlateDBError}
+use Rattle.slate_ids.specs.declared.error.SlateDBError.TheVariants.{InvalidDBState, TransactionalObjectVersionExists, StoreFault}
+use Rattle.slate_ids.specs.declared.error.StateCause.TheVariants.{NotOpen}
+use Rattle.slate_layout.specs.Codec.{encoded}
+use Rattle.slate_manifest_parts.specs.Decoding.{decoded_manifest}
+use Rattle.slate_passes.specs.GcPhase.{removed_goes}
+use Rattle.slate_record_bytes.specs.Records.{decoded_record}
+use Rattle.slate_store.specs.declared.store_answer.StoreAnswer.{StoreAnswer}
+use Rattle.slate_store.specs.declared.store_call.StoreCall.{StoreCall}
+use Rattle.slate_updates.specs.Changes.{commit_of}
+use Rattle.slate_updates.specs.declared.manifest_change.ManifestChange.TheVariants.{DropExpired}
 use Rattle.slate_ids.specs.declared.object_path.ObjectPath.{ObjectPath}
 use Rattle.slate_store.specs.Machines.{End}
 use Rattle.slate_store.specs.Store.{Store, effect}
@@ -12,11 +32,9 @@ use Rattle.slate_events.specs.declared.call.Call.{Call}
 use Rattle.slate_events.specs.declared.db_spec.DbSpec.{DbSpec}
 use Rattle.slate_events.specs.declared.event.Event.{Event}
 use Rattle.slate_ids.specs.declared.gc_message.GcMessage.{GcMessage}
-use Rattle.slate_changes.specs.declared.log_work.LogWork.TheVariants as removal
 use Rattle.slate_passes.specs.declared.gc_phase.GcPhase.TheVariants as gc
 use Rattle.slate_passes.specs.declared.pass_phase.PassPhase.{PassPhase}
 use Rattle.slate_passes.specs.declared.pass_phase.PassPhase.TheVariants as passing
-use Rattle.slate_passes.specs.GcPhase as whole_pass
 use Rattle.slate_log.specs.Advance.{boundary_at}
 use Rattle.slate_log.specs.CommitPhase.{CommitGoes, commit_asks, commit_goes, bounded_goes}
 use Rattle.slate_log.specs.LogPaths.{version_path}
@@ -27,27 +45,26 @@ use Rattle.slate_log.specs.declared.log_kind.LogKind.{LogKind}
 use Rattle.slate_log.specs.declared.log_kind.LogKind.TheVariants as logs
 use Rattle.slate_log.specs.declared.read_phase.ReadPhase.{ReadPhase}
 use Rattle.slate_protocol.specs.Chains.{Link, Log, bound_in, AgreesAt}
-use Rattle.slate_protocol.specs.Holding.{IsVersion, IsMadeOf, Each, IsManifestThat, IsRefused, picks_in, due_in}
+use Rattle.slate_protocol.specs.Holding.{Fits, IsVersion, IsMadeOf, Each, IsManifestThat, IsRefused, picks_in, due_in}
 use Rattle.slate_protocol.specs.Holding.IsMadeOf.{OfVersion as Makes, OfNone as Begins}
 use Rattle.slate_protocol.specs.Lawful.{IsAccepted, AreGood, chains_at_end, course_after, gone_after}
-use Rattle.slate_protocol.specs.Logs.{Held, Chain, Chains, Author, Phrase, log_of, manifests, phrase_of, world_after}
+use Rattle.slate_protocol.specs.Logs.{Held, Chain, Chains, Author, Phrase, Puts, OfManifest, change_phrase, log_of, manifest_phrase, manifest_puts, manifests, phrase_of, record_phrase, record_puts, state_phrase, world_after}
 use Rattle.slate_protocol.specs.Logs.Phrase.{Reads, Commits, Uploads, Collects}
 use Rattle.slate_protocol.specs.Owners.{owner_of}
 use Rattle.slate_protocol.specs.Owners.Owner.{Version}
 use Rattle.slate_protocol.specs.Reach.{IsSpare}
-use Rattle.slate_protocol.specs.Rows.{follow}
+use Rattle.slate_protocol.specs.Rows.{compactor_on, manifest_on, moved, open_on, pass_on, record_on, state_on}
 use Rattle.slate_protocol.specs.Runs.{opening}
 use Rattle.slate_protocol.specs.Safe.{IsCollected, AllCollected}
 use Rattle.slate_protocol.specs.Specs.{opening_world}
-use Rattle.slate_protocol.specs.Works.{asks, goes, commit_on, record_commit_on, pass_on}
+use Rattle.slate_protocol.specs.Works.{asks}
 use Rattle.slate_protocol.specs.World.{World, HasDb, party_of}
 use Rattle.slate_protocol.specs.declared.party.Facts.{Facts}
 use Rattle.slate_protocol.specs.declared.party.Party.{Party}
 use Rattle.slate_protocol.specs.declared.party.State.TheVariants.{Busy}
 use Rattle.slate_protocol.specs.declared.party.Task.{Task}
-use Rattle.slate_protocol.specs.declared.work.Purpose.{Purpose}
 use Rattle.slate_protocol.specs.declared.work.Work.{Work}
-use Rattle.slate_protocol.specs.declared.work.Work.TheVariants.{ReadManifest, CommitManifest, ReadRecord, CommitRecord, PutTable, Pass}
+use Rattle.slate_protocol.specs.declared.work.Work.TheVariants.{Manifests, Records, PutTable, Pass, Opening, Compacting}
 use Rattle.slate_laws.proofs.AfterEvents.{after_inv, course_collected}
 use Rattle.slate_laws.proofs.Calls.{WorkKnows}
 use Rattle.slate_laws.proofs.Facts.{IsSound, IsMade, ReadKnows, ReadBrings}
@@ -95,6 +112,12 @@ record CommitFails {T : Type 0} (g : CommitGoes T) : Type 0 where
 at_most : (n b : ℕ) → n ≤ b → nat_le n b ≡ true
 at_most n b h = grind (arith, nat_tests)
 
+-- a change under way that ended so
+record ChangeFails {V : Type 0} (g : WorkGoes V) : Type 0 where
+  pub work : LogWork V
+  pub error : _
+  pub is : g ≡ End work (Err error)
+
 -- at or below the boundary it is refused, whatever the mark
 bound_fails : {T : Type 0} (db : List ℕ) (k : LogKind) (n : ℕ) (v : T) (s : Store) (moment : ℤ) (mark : Mark) (b : ℕ) → boundary_at db k s ≡ Some b → n ≤ b
     → CommitFails (commit_goes (Bounding n v) (effect mark (commit_asks db k (Bounding n v)) moment s).answer)
@@ -108,21 +131,46 @@ bound_fails db k n v s moment Lost b read le = record { phase = Over; error = St
 
 -- a phrase that is a commit whose step ends with a refusal
 abbrev PhraseFails : Store → ℤ → Mark → Phrase → Type 0
-PhraseFails s moment mark (Commits k db purpose now phase) = CommitFails (commit_goes phase (effect mark (commit_asks db k phase) moment s).answer)
+PhraseFails s moment mark (Commits k db puts now phase) = CommitFails (commit_goes phase (effect mark (commit_asks db k phase) moment s).answer)
 PhraseFails s moment mark (Reads k db phase) = ⊥
 PhraseFails s moment mark (Uploads db table bytes) = ⊥
 PhraseFails s moment mark (Collects db pass phase) = ⊥
 
 -- then the call ends with it
-work_fails : (s : Store) (moment : ℤ) (mark : Mark) (facts : Facts) (call : Call) (work : Work) → PhraseFails s moment mark (phrase_of work) → IsRefused (follow facts call moment (goes work moment (effect mark (asks work) moment s).answer)).next
-work_fails s moment mark facts call (ReadManifest purpose db phase) h = absurd h
-work_fails s moment mark facts call (CommitManifest purpose now db phase) h = record { error = h.error; is = ap (λ g. (follow facts call moment (commit_on purpose now db g)).next) h.is }
-work_fails s moment mark facts call (ReadRecord purpose db phase) h = absurd h
-work_fails s moment mark facts call (CommitRecord purpose now db phase) h = record { error = h.error; is = ap (λ g. (follow facts call moment (record_commit_on purpose now db g)).next) h.is }
-work_fails s moment mark facts call (PutTable db upload bytes) h = absurd h
-work_fails s moment mark facts call (Pass db settings filter (gc.Removing (removal.Reading phase))) h = absurd h
-work_fails s moment mark facts call (Pass db settings filter (gc.Removing (removal.Committing now phase))) h = record { error = h.error; is = ap (λ g. (follow facts call moment (pass_on db settings filter (whole_pass.commit_on settings.pass now g))).next) h.is }
-work_fails s moment mark facts call (Pass db settings filter (gc.Collecting at phase)) h = absurd h
+module _ (s : Store) (moment : ℤ) (mark : Mark) (facts : Facts) (call : Call) where
+  abbrev answered_by : StoreCall → StoreAnswer
+  answered_by asked = (effect mark asked moment s).answer
+
+  -- the refusal of a commit is that of the change under way
+  change_fails : (k : LogKind) (db : List ℕ) (puts : Puts) (commit_of : ℤ → ℕ → Held k → Result (Option (CommitPhase (Held k))) SlateDBError) (work : LogWork (Held k)) → PhraseFails s moment mark (change_phrase k db puts work)
+      → ChangeFails (work_goes k (log_of k).decoded commit_of moment work (answered_by (changes_ask db k work)))
+  change_fails k db puts commit_of (Reading phase) h = absurd h
+  change_fails k db puts commit_of (Committing made phase) h = record { work = Committing made h.phase; error = h.error; is = ap (commit_on made) h.is }
+
+  manifest_fails : (db : List ℕ) (p : ManifestChanging) → PhraseFails s moment mark (manifest_phrase db p) → ChangeFails (work_goes logs.Manifest decoded_manifest (manifest_put p.change) moment p.work (answered_by (changes_ask db logs.Manifest p.work)))
+  manifest_fails db p h = change_fails logs.Manifest db (manifest_puts p.change) (manifest_put p.change) p.work h
+
+  record_fails : (db : List ℕ) (p : RecordChanging) → PhraseFails s moment mark (record_phrase db p) → ChangeFails (work_goes logs.Compactions decoded_record (record_put p.change) moment p.work (answered_by (changes_ask db logs.Compactions p.work)))
+  record_fails db p h = change_fails logs.Compactions db (record_puts p.change) (record_put p.change) p.work h
+
+  compactor_fails : (db : List ℕ) (phase : StatePhase) (o : Option Compactor) → PhraseFails s moment mark (state_phrase db phase) → IsRefused (compactor_on facts db moment phase (answered_by (state_asks db phase)) o).next
+  compactor_fails db phase None h = record { error = InvalidDBState NotOpen; is = refl }
+  compactor_fails db (compacting.OnRecord step p) (Some c) h = let f = record_fails db p h in record { error = f.error; is = ap (λ g. (state_on facts db (state_record step moment c p g)).next) f.is }
+  compactor_fails db (compacting.OnManifest step p) (Some c) h = let f = manifest_fails db p h in record { error = f.error; is = ap (λ g. (state_on facts db (state_manifest step moment c p g)).next) f.is }
+  compactor_fails db compacting.Over (Some c) h = absurd h
+
+  work_fails : (work : Work) → PhraseFails s moment mark (phrase_of work) → IsRefused (moved facts call work moment (answered_by (asks work))).next
+  work_fails (Manifests db p) h = let f = manifest_fails db p h in record { error = f.error; is = ap (λ g. (manifest_on facts call db p g).next) f.is }
+  work_fails (Records db p) h = let f = record_fails db p h in record { error = f.error; is = ap (λ g. (record_on facts db p g).next) f.is }
+  work_fails (PutTable db upload bytes) h = absurd h
+  work_fails (Pass db settings filter (gc.Removing work)) h =
+      let f = change_fails logs.Manifest db (OfManifest DropExpired) (commit_of encoded DropExpired) work h in
+      record { error = f.error; is = ap (λ g. (pass_on facts db settings filter (removed_goes settings.pass g)).next) f.is }
+  work_fails (Pass db settings filter (gc.Collecting at phase)) h = absurd h
+  work_fails (Opening db (opening.Raising p)) h = let f = manifest_fails db p h in record { error = f.error; is = ap (λ g. (open_on facts db (raising p g)).next) f.is }
+  work_fails (Opening db (opening.OnRecord step m p)) h = let f = record_fails db p h in record { error = f.error; is = ap (λ g. (open_on facts db (open_record step m moment p g)).next) f.is }
+  work_fails (Opening db opening.Over) h = absurd h
+  work_fails (Compacting db phase) h = compactor_fails db phase facts.compactor h
 
 -- what was removed up to now was collected
 gone_collected : (specs : List DbSpec) (events : List Event) → IsAccepted specs → AreGood specs events → AllCollected (world_after events (opening_world specs)) (chains_at_end specs events) (gone_after specs events)
@@ -146,19 +194,23 @@ module _ (specs : List DbSpec) (events : List Event) (n : ℕ) (p : Party) (task
   i : Inv w chains
   i = after_inv specs events accepted
 
-  known : WorkKnows (HasDb w) w.store chains n p.facts task.call task.work
-  known = subst (λ s. StateKnows (HasDb w) w.store chains n p.facts s) is (i.parties n p at).knows
+  known : WorkKnows w.store chains n p.facts task.call task.work
+  known = subst (λ s. StateKnows w.store chains n p.facts s) is (i.parties n p at).knows
 
-  knows : (phrase : Phrase) → phrase_of task.work ≡ phrase → PhraseKnows w.store chains n p.facts task.call phrase
-  knows phrase e = subst (λ ph. PhraseKnows w.store chains n p.facts task.call ph) e known.knows
+  knows : (phrase : Phrase) → phrase_of task.work ≡ phrase → PhraseKnows w.store chains n phrase
+  knows phrase e = subst (λ ph. PhraseKnows w.store chains n ph) e known.knows
+
+  -- what it puts is what its facts and its call say
+  pub work_fits : Fits p.facts task.call task.work
+  work_fits = known.fits
 
   made_of : (k : LogKind) (c : Chain k) (author : Author) (number : ℕ) (v : Held k) → IsMade (log_of k) c author number v → IsMadeOf k c author number v
   made_of k c author number v (OfVersion old at number_is makes lawful passed) = Makes old at number_is makes
   made_of k c author number v (OfNone number_is first) = Begins number_is first
 
-  pub commit_holds : (k : LogKind) (db : List ℕ) (purpose : Purpose) (now : ℤ) (number : ℕ) (bytes : List ℕ) (v : Held k) → phrase_of task.work ≡ Commits k db purpose now (Putting number bytes v)
-      → IsMadeOf k (chains k db) (record { party = n; facts = p.facts; call = task.call; purpose = purpose; now = now }) number v
-  commit_holds k db purpose now number bytes v e = made_of k (chains k db) _ number v (knows (Commits k db purpose now (Putting number bytes v)) e).made
+  pub commit_holds : (k : LogKind) (db : List ℕ) (puts : Puts) (now : ℤ) (number : ℕ) (bytes : List ℕ) (v : Held k) → phrase_of task.work ≡ Commits k db puts now (Putting number bytes v)
+      → IsMadeOf k (chains k db) (record { party = n; puts = puts; now = now }) number v
+  commit_holds k db puts now number bytes v e = made_of k (chains k db) _ number v (knows (Commits k db puts now (Putting number bytes v)) e).made
 
   all_spare : (db : List ℕ) (phase : PassPhase) → PassKnows w.store (chains logs.Manifest db) db phase → Each (IsManifestThat db (IsSpare manifests (chains logs.Manifest db))) (picks_in phase)
   all_spare db (passing.ReadingRecord phase) h = tt
@@ -190,16 +242,16 @@ module _ (specs : List DbSpec) (events : List Event) (n : ℕ) (p : Party) (task
 
   -- the database of a phrase is one of the cluster
   has_db : (phrase : Phrase) → phrase_of task.work ≡ phrase → HasDb w (db_in phrase)
-  has_db phrase e = subst (λ d. HasDb w d) (sym (work_db task.work) ∙ ap db_in e) known.has
+  has_db phrase e = subst (λ d. HasDb w d) (sym known.own ∙ (sym (work_db task.work) ∙ ap db_in e)) (i.parties n p at).has
 
   pub read_answers : (k : LogKind) (db : List ℕ) (phase : ReadPhase (Held k)) (mark : Mark) (moment : ℤ) (to : ReadPhase (Held k)) (number : ℕ) (v : Held k) → phrase_of task.work ≡ Reads k db phase
       → read_goes k (log_of k).decoded phase (effect mark (read_asks db k phase) moment w.store).answer ≡ End to (Ok (Some (number, v))) → IsVersion (chains k db) number v
   read_answers k db phase mark moment to number v e answer = answers_of k db w.store (chains k db) (i.logs k db (has_db (Reads k db phase) e)) i.tidy phase mark moment (knows (Reads k db phase) e) to number v answer
 
   -- the step of a commit whose number was collected ends the call with a refusal
-  pub late_refused : (k : LogKind) (db : List ℕ) (purpose : Purpose) (now : ℤ) (number : ℕ) (v : Held k) (front back : List ObjectPath) (mark : Mark) (moment : ℤ) → phrase_of task.work ≡ Commits k db purpose now (Bounding number v)
-      → AreGood specs events → gone_after specs events ≡ front ++ version_path k db number ∷ back → IsRefused (follow p.facts task.call moment (goes task.work moment (effect mark (asks task.work) moment w.store).answer)).next
-  late_refused k db purpose now number v front back mark moment e good gone =
+  pub late_refused : (k : LogKind) (db : List ℕ) (puts : Puts) (now : ℤ) (number : ℕ) (v : Held k) (front back : List ObjectPath) (mark : Mark) (moment : ℤ) → phrase_of task.work ≡ Commits k db puts now (Bounding number v)
+      → AreGood specs events → gone_after specs events ≡ front ++ version_path k db number ∷ back → IsRefused (moved p.facts task.call task.work moment (effect mark (asks task.work) moment w.store).answer).next
+  late_refused k db puts now number v front back mark moment e good gone =
       let all = subst (λ (paths : List ObjectPath). AllCollected w chains paths) gone (gone_collected specs events accepted good) in
       work_fails w.store moment mark p.facts task.call task.work (subst (PhraseFails w.store moment mark) (sym e) (by_log k db number v (one_collected w chains front (version_path k db number) back all)))
     where

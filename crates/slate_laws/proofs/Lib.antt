@@ -16,6 +16,9 @@ mod Advances
 mod Passes
 mod Steps
 mod FactsKept
+mod Changing
+mod Opens
+mod StateCalls
 mod Calls
 mod Tallies
 mod Epochs
@@ -50,5 +53,4 @@ mod Elsewhere
 mod Encodable
 mod Pools
 mod Sources
-mod GivenEpochs
 mod OpenedEpochs

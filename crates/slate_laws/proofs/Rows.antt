@@ -15,9 +15,9 @@ use Rattle.slate_events.specs.declared.event.Event.TheVariants.{Open, Start, Ste
 use Rattle.slate_events.specs.declared.party_kind.PartyKind.{PartyKind}
 use Rattle.slate_protocol.specs.ByRows.{Doing, Rests, Answers, Stays, Told, AllTold, reply_in, asked_entry, step_entry, start_entry, stop_entry, entry_by, told_call, told_answer, told_after, party_in, all_told_after, entry_store, trail_by}
 use Rattle.slate_protocol.specs.Calls.{Next, Go, Finish}
-use Rattle.slate_protocol.specs.Rows.{Answered, Row, Asks, Standing, begin, follow, answered, after_answers, stands_after, row_of, row}
+use Rattle.slate_protocol.specs.Rows.{Answered, Row, Asks, Standing, begin, moved, answered, after_answers, stands_after, row_of, row}
 use Rattle.slate_protocol.specs.Runs.{Course, Ran, going_on, run}
-use Rattle.slate_protocol.specs.Works.{asks, goes, is_due}
+use Rattle.slate_protocol.specs.Works.{asks, is_due}
 use Rattle.slate_protocol.specs.World.{World, Transition, party_of, with_party, tally_of, noted, first_facts, newcomer, settled, reply_of, stepped, step_state, start_state, halted, stop_state, carrying, may_start, open_at, start_at, step_at, stop_at, happens}
 use Rattle.slate_protocol.specs.declared.party.Facts.{Facts}
 use Rattle.slate_protocol.specs.declared.party.Party.{Party}
@@ -25,7 +25,7 @@ use Rattle.slate_protocol.specs.declared.party.State.{State}
 use Rattle.slate_protocol.specs.declared.party.State.TheVariants.{Resting, Busy, Halted}
 use Rattle.slate_protocol.specs.declared.party.Task.{Task}
 use Rattle.slate_protocol.specs.declared.tally.Tally.{Tally}
-use Rattle.slate_laws.proofs.Due.{DueNext, follow_due, begin_due}
+use Rattle.slate_laws.proofs.Due.{DueNext, moved_due, begin_due}
 use Rattle.slate_laws.proofs.Maps.{number_order, set_here, set_else, insert_here, insert_else}
 
 -- one answer more
@@ -150,7 +150,7 @@ module _ (n : ℕ) (w : World) (p : Party) (at : party_of n w.parties ≡ Some p
       → Brought (Step n moment mark) (Some s) w (stepped w n p.facts task moment mark)
   step_on moment mark task answers is h =
       let answer = (effect mark (asks task.work) moment w.store).answer in
-      let standing = follow p.facts task.call moment (goes task.work moment answer) in
+      let standing = moved p.facts task.call task.work moment answer in
       let more : stands_after s.facts task.call (answers ++ (answer, moment) ∷ []) ≡ standing =
       more_answers task.call (begin s.facts task.call) answers (answer, moment) ∙ ap (λ (x : Standing). answered task.call x.facts x.next (answer, moment)) h in
       let asked : row s.facts task.call answers ≡ Asks (asks task.work) = ap (λ (x : Standing). row_of x.next) h in
@@ -161,7 +161,7 @@ module _ (n : ℕ) (w : World) (p : Party) (at : party_of n w.parties ≡ Some p
         store = refl;
         own = subst (Matches (Some (told_answer s.facts s.doing (answer, moment) (reply_of standing.next)))) (sym (here (settled task.call standing)))
             (subst (λ (x : Doing). Matches (Some (told_answer s.facts x (answer, moment) (reply_of standing.next))) (Some (settled task.call standing))) (sym is)
-            (settled_matches s.facts task.call (answers ++ (answer, moment) ∷ []) standing.facts standing.next more (follow_due p.facts task.call moment task.work answer)));
+            (settled_matches s.facts task.call (answers ++ (answer, moment) ∷ []) standing.facts standing.next more (moved_due p.facts task.call moment task.work answer)));
         others = λ k ne. away (settled task.call standing) k ne;
       }
 

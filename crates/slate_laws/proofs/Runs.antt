@@ -16,11 +16,11 @@ use Rattle.slate_events.specs.declared.call.Call.{Call}
 use Rattle.slate_events.specs.declared.event.Event.{Event}
 use Rattle.slate_events.specs.declared.event.Event.TheVariants.{Open, Start, Step, Stop}
 use Rattle.slate_events.specs.declared.party_kind.PartyKind.{PartyKind}
-use Rattle.slate_protocol.specs.Chains.{Changed}
+use Rattle.slate_protocol.specs.Chains.{Changed, link_at}
 use Rattle.slate_protocol.specs.Chains.Changed.{Stays}
 use Rattle.slate_protocol.specs.Logs.{Author, log_of, Chain, Chains, Phrase, Reads, Commits, Uploads, Collects, phrase_of, put_by, chains_put, chains_stepped, chains_state, chains_at, chains_after, world_after, chains_of}
-use Rattle.slate_protocol.specs.Rows.{Standing, begin, follow}
-use Rattle.slate_protocol.specs.Works.{db_of, asks, goes, is_due}
+use Rattle.slate_protocol.specs.Rows.{Standing, begin, moved}
+use Rattle.slate_protocol.specs.Works.{db_of, asks, is_due}
 use Rattle.slate_protocol.specs.World.{World, Transition, party_of, with_party, tally_of, tallied, wrote, noted, newcomer, settled, stepped, step_state, start_state, halted, stop_state, carrying, may_start, open_at, start_at, step_at, stop_at, happens, HasDb}
 use Rattle.slate_protocol.specs.declared.party.Facts.{Facts}
 use Rattle.slate_protocol.specs.declared.party.Party.{Party}
@@ -41,19 +41,20 @@ use Rattle.slate_laws.proofs.Moves.{gone_grows, gone_sound}
 use Rattle.slate_laws.proofs.Passes.{kept_pass}
 use Rattle.slate_laws.proofs.Puts.{grows_not, elsewhere_grows, elsewhere_sound}
 use Rattle.slate_laws.proofs.Steps.{log_in, db_in, phrase_asks, work_asks, work_db, author_of, author_in, PhraseKnows, PhraseBrings, none_put, other_put, phrase_step}
-use Rattle.slate_laws.proofs.Calls.{WorkKnows, NextKnows, Reaches, follow_reaches, begin_reaches}
+use Rattle.slate_laws.proofs.Calls.{Holds, WorkKnows, NextKnows, Reaches, begin_reaches, kept_holds, kept_work, moved_reaches}
 use Rattle.slate_laws.proofs.Tallies.{StoreAfter, store_after, tidy_after, same_kind, its_kind, Told, TalliesAfter, tallies_after}
 use Rattle.slate_laws.proofs.Tallies.StoreAfter.{Same, Wrote, Gone, WroteElse}
 
 -- what a party knows, by its state
-abbrev pub StateKnows : (List ℕ → Type 0) → Store → Chains → ℕ → Facts → State → Type 0
-StateKnows Has s chains n facts Resting = Unit {0}
-StateKnows Has s chains n facts (Busy task) = WorkKnows Has s chains n facts task.call task.work
-StateKnows Has s chains n facts Halted = Unit {0}
+abbrev pub StateKnows : Store → Chains → ℕ → Facts → State → Type 0
+StateKnows s chains n facts Resting = Unit {0}
+StateKnows s chains n facts (Busy task) = WorkKnows s chains n facts task.call task.work
+StateKnows s chains n facts Halted = Unit {0}
 
 pub record PartyKnows (w : World) (chains : Chains) (n : ℕ) (p : Party) : Type 0 where
   pub has : HasDb w p.facts.db
-  pub knows : StateKnows (HasDb w) w.store chains n p.facts p.state
+  pub holds : Holds chains p.facts.db p.facts.compactor
+  pub knows : StateKnows w.store chains n p.facts p.state
 
 -- what is kept from event to event
 pub record Inv (w : World) (chains : Chains) : Type 0 where
@@ -69,32 +70,47 @@ pub record Inv (w : World) (chains : Chains) : Type 0 where
 abbrev pub LogGrows : Store → Chains → Store → Chains → LogKind → List ℕ → Type 0
 LogGrows s chains s' chains' k d = Grows (log_of k) d s (chains k d) s' (chains' k d)
 
-phrase_kept : (s : Store) (chains : Chains) (s' : Store) (chains' : Chains) (n : ℕ) (facts : Facts) (call : Call) (phrase : Phrase) → LogGrows s chains s' chains' (log_in phrase) (db_in phrase)
-    → PhraseKnows s chains n facts call phrase → PhraseKnows s' chains' n facts call phrase
-phrase_kept s chains s' chains' n facts call (Reads k db phase) g h = kept_read (log_of k) db s (chains k db) s' (chains' k db) g phase h
-phrase_kept s chains s' chains' n facts call (Commits k db purpose now phase) g h = kept_commit (log_of k) db s (chains k db) s' (chains' k db) g (author_of n facts call purpose now) phase h
-phrase_kept s chains s' chains' n facts call (Uploads db table bytes) g h = h
-phrase_kept s chains s' chains' n facts call (Collects db pass phase) g h = (h.0, kept_pass s (chains logs.Manifest db) s' (chains' logs.Manifest db) db g phase h.1)
+phrase_kept : (s : Store) (chains : Chains) (s' : Store) (chains' : Chains) (n : ℕ) (phrase : Phrase) → LogGrows s chains s' chains' (log_in phrase) (db_in phrase)
+    → PhraseKnows s chains n phrase → PhraseKnows s' chains' n phrase
+phrase_kept s chains s' chains' n (Reads k db phase) g h = kept_read (log_of k) db s (chains k db) s' (chains' k db) g phase h
+phrase_kept s chains s' chains' n (Commits k db puts now phase) g h = kept_commit (log_of k) db s (chains k db) s' (chains' k db) g (author_of n puts now) phase h
+phrase_kept s chains s' chains' n (Uploads db table bytes) g h = h
+phrase_kept s chains s' chains' n (Collects db pass phase) g h = (h.0, kept_pass s (chains logs.Manifest db) s' (chains' logs.Manifest db) db g phase h.1)
 
-module _ (Has Has' : List ℕ → Type 0) (s : Store) (chains : Chains) (s' : Store) (chains' : Chains) (still : (d : List ℕ) → Has d → Has' d) (grows : (k : LogKind) (d : List ℕ) → Has d → LogGrows s chains s' chains' k d) where
-  work_kept : (n : ℕ) (facts : Facts) (call : Call) (work : Work) → WorkKnows Has s chains n facts call work → WorkKnows Has' s' chains' n facts call work
-  work_kept n facts call work h = record {
-    has = still (db_of work) h.has;
-    fits = h.fits;
-    knows = phrase_kept s chains s' chains' n facts call (phrase_of work) (grows (log_in (phrase_of work)) (db_in (phrase_of work)) (subst Has (sym (work_db work)) h.has)) h.knows;
-  }
+module _ (s : Store) (chains : Chains) (s' : Store) (chains' : Chains) (d : List ℕ) (grows : (k : LogKind) → LogGrows s chains s' chains' k d) where
+  versions_kept : (k : LogKind) (n : ℕ) (l : _) → link_at n (chains k d) ≡ Some l → link_at n (chains' k d) ≡ Some l
+  versions_kept k n l at = (grows k).kept n l at
 
-  state_kept : (n : ℕ) (facts : Facts) (state : State) → StateKnows Has s chains n facts state → StateKnows Has' s' chains' n facts state
-  state_kept n facts Resting h = tt
-  state_kept n facts Halted h = tt
-  state_kept n facts (Busy task) h = work_kept n facts task.call task.work h
+  work_kept : (n : ℕ) (facts : Facts) (call : Call) (work : Work) → facts.db ≡ d → WorkKnows s chains n facts call work → WorkKnows s' chains' n facts call work
+  work_kept n facts call work is h =
+      let at : db_of work ≡ d = h.own ∙ is in
+      record {
+        own = h.own;
+        over = h.over;
+        fits = h.fits;
+        holds = kept_work chains chains' work (λ k n l. subst (λ x. link_at n (chains k x) ≡ Some l → link_at n (chains' k x) ≡ Some l) (sym at) (versions_kept k n l)) h.holds;
+        knows = phrase_kept s chains s' chains' n (phrase_of work) (subst (LogGrows s chains s' chains' (log_in (phrase_of work))) (sym (work_db work ∙ at)) (grows (log_in (phrase_of work)))) h.knows;
+      }
+
+  state_kept : (n : ℕ) (facts : Facts) (state : State) → facts.db ≡ d → StateKnows s chains n facts state → StateKnows s' chains' n facts state
+  state_kept n facts Resting is h = tt
+  state_kept n facts Halted is h = tt
+  state_kept n facts (Busy task) is h = work_kept n facts task.call task.work is h
 
 -- ---- a change of one party alone
 
-settle_knows : (Has : List ℕ → Type 0) (s : Store) (chains : Chains) (n : ℕ) (call : Call) (facts : Facts) (next : Next) → NextKnows Has s chains n facts call next
-    → StateKnows Has s chains n facts (settled call (record { facts = facts; next = next })).state
-settle_knows Has s chains n call facts (Go work) h = h
-settle_knows Has s chains n call facts (Finish reply) h = tt
+settle_knows : (s : Store) (chains : Chains) (n : ℕ) (call : Call) (facts : Facts) (next : Next) → NextKnows s chains n facts call next
+    → StateKnows s chains n facts (settled call (record { facts = facts; next = next })).state
+settle_knows s chains n call facts (Go work) h = h
+settle_knows s chains n call facts (Finish reply) h = tt
+
+-- a party whose call goes on so, or has ended
+settled_knows : (w : World) (chains : Chains) (n : ℕ) (facts : Facts) (call : Call) (standing : Standing) → HasDb w facts.db → Reaches w.store chains n facts call standing → PartyKnows w chains n (settled call standing)
+settled_knows w chains n facts call standing has r = record {
+  has = subst (λ d. HasDb w d) (sym r.same.db) has;
+  holds = r.holds;
+  knows = settle_knows w.store chains n call standing.facts standing.next r.next;
+}
 
 -- the parties with one in the place of its number
 pub party_in_place : (n : ℕ) (p q : Party) (parties : List (ℕ × Party)) → party_of n parties ≡ Some p → party_of n (with_party n q parties) ≡ Some q
@@ -116,7 +132,12 @@ module _ (w w' : World) (chains chains' : Chains) (n : ℕ) (q : Party) (here : 
       subst (λ (j : ℕ). PartyKnows w' chains' j p) (sym e) (subst (λ (r : Party). PartyKnows w' chains' n r) is own))
       (λ (ne : k ≢ n).
       let h = others k p (sym (away k ne) ∙ at) in
-      record { has = same p.facts.db h.has; knows = state_kept (HasDb w) (HasDb w') w.store chains w'.store chains' same grows k p.facts p.state h.knows })
+      let grown = λ (j : LogKind). grows j p.facts.db h.has in
+      record {
+        has = same p.facts.db h.has;
+        holds = kept_holds chains chains' p.facts.db (λ j. (grown j).kept) p.facts.compactor h.holds;
+        knows = state_kept w.store chains w'.store chains' p.facts.db grown k p.facts p.state refl h.knows;
+      })
       (same_or_not k n)
 
 -- a change of one party, with the store and the chains as they are
@@ -129,7 +150,7 @@ moved_inv w chains n p q i at own =
       logs = i.logs;
       told = i.told;
       parties = each_knows w w' chains chains n q (party_in_place n p q w.parties at) (λ k ne. others_stay n k q w.parties ne) (λ d h. h) (λ k d h. grows_not (log_of k) d w.store (chains k d))
-          (record { has = own.has; knows = own.knows }) i.parties;
+          (record { has = own.has; holds = own.holds; knows = own.knows }) i.parties;
     }
 
 -- ---- a step
@@ -160,14 +181,14 @@ same_place j d k db =
     (same_kind j k)
 
 -- a put of a phrase leaves the other chains
-other_chain : (b : Bool) (n : ℕ) (facts : Facts) (call : Call) (phrase : Phrase) (chains : Chains) (j : LogKind) (d : List ℕ) → AreApart j d (log_in phrase) (db_in phrase) → chains_put b (put_by n facts call phrase) chains j d ≡ chains j d
-other_chain b n facts call (Reads k db phase) chains j d apart = none_put b chains j d
-other_chain b n facts call (Uploads db table bytes) chains j d apart = none_put b chains j d
-other_chain b n facts call (Collects db pass phase) chains j d apart = none_put b chains j d
-other_chain b n facts call (Commits k db purpose now (committing.Putting m bytes v)) chains j d apart =
-    other_put b k db (record { number = m; bytes = bytes; value = (log_of k).normal v; by = Some (author_of n facts call purpose now) }) chains j d apart
-other_chain b n facts call (Commits k db purpose now (committing.Bounding m v)) chains j d apart = none_put b chains j d
-other_chain b n facts call (Commits k db purpose now committing.Over) chains j d apart = none_put b chains j d
+other_chain : (b : Bool) (n : ℕ) (phrase : Phrase) (chains : Chains) (j : LogKind) (d : List ℕ) → AreApart j d (log_in phrase) (db_in phrase) → chains_put b (put_by n phrase) chains j d ≡ chains j d
+other_chain b n (Reads k db phase) chains j d apart = none_put b chains j d
+other_chain b n (Uploads db table bytes) chains j d apart = none_put b chains j d
+other_chain b n (Collects db pass phase) chains j d apart = none_put b chains j d
+other_chain b n (Commits k db puts now (committing.Putting m bytes v)) chains j d apart =
+    other_put b k db (record { number = m; bytes = bytes; value = (log_of k).normal v; by = Some (author_of n puts now) }) chains j d apart
+other_chain b n (Commits k db puts now (committing.Bounding m v)) chains j d apart = none_put b chains j d
+other_chain b n (Commits k db puts now committing.Over) chains j d apart = none_put b chains j d
 
 -- what a step changes of each log
 pub record LogAfter (k : LogKind) (s : Store) (c : Chain k) (s' : Store) (c' : Chain k) (d : List ℕ) (author : Author) : Type 0 where
@@ -175,7 +196,7 @@ pub record LogAfter (k : LogKind) (s : Store) (c : Chain k) (s' : Store) (c' : C
   pub grows : Grows (log_of k) d s c s' c'
   pub changed : Changed (λ (a : Author). a ≡ author) c c'
 
-module _ (w : World) (chains : Chains) (i : Inv w chains) (n : ℕ) (p : Party) (at : party_of n w.parties ≡ Some p) (task : Task) (knows : StateKnows (HasDb w) w.store chains n p.facts (Busy task)) (moment : ℤ) (mark : Mark) where
+module _ (w : World) (chains : Chains) (i : Inv w chains) (n : ℕ) (p : Party) (at : party_of n w.parties ≡ Some p) (task : Task) (knows : StateKnows w.store chains n p.facts (Busy task)) (moment : ℤ) (mark : Mark) where
   abbrev facts : Facts
   facts = p.facts
 
@@ -183,7 +204,7 @@ module _ (w : World) (chains : Chains) (i : Inv w chains) (n : ℕ) (p : Party) 
   phrase = phrase_of task.work
 
   abbrev author : Author
-  author = author_in n facts task.call phrase
+  author = author_in n phrase
 
   abbrev s' : Store
   s' = (effect mark (asks task.work) moment w.store).store
@@ -192,10 +213,10 @@ module _ (w : World) (chains : Chains) (i : Inv w chains) (n : ℕ) (p : Party) 
   answer = (effect mark (asks task.work) moment w.store).answer
 
   abbrev standing : Standing
-  standing = follow facts task.call moment (goes task.work moment answer)
+  standing = moved facts task.call task.work moment answer
 
   abbrev chains' : Chains
-  chains' = chains_stepped w n facts task moment mark chains
+  chains' = chains_stepped w n task moment mark chains
 
   abbrev k0 : LogKind
   k0 = log_in phrase
@@ -203,8 +224,12 @@ module _ (w : World) (chains : Chains) (i : Inv w chains) (n : ℕ) (p : Party) 
   abbrev db0 : List ℕ
   db0 = db_in phrase
 
+  -- it is the party's
+  own_db : db0 ≡ facts.db
+  own_db = work_db task.work ∙ knows.own
+
   has : HasDb w db0
-  has = subst (λ d. HasDb w d) (sym (work_db task.work)) knows.has
+  has = subst (λ d. HasDb w d) (sym own_db) (i.parties n p at).has
 
   sound : IsSound (log_of k0) db0 w.store (chains k0 db0)
   sound = i.logs k0 db0 has
@@ -214,22 +239,22 @@ module _ (w : World) (chains : Chains) (i : Inv w chains) (n : ℕ) (p : Party) 
     pub sound_after : IsSound (log_of k0) db0 s' (chains' k0 db0)
     pub grows : LogGrows w.store chains s' chains' k0 db0
     pub changed : Changed (λ (a : Author). a ≡ author) (chains k0 db0) (chains' k0 db0)
-    pub brings : PhraseBrings s' chains' n facts task.call phrase moment answer
+    pub brings : PhraseBrings s' chains' n phrase moment answer
     pub stored : StoreAfter k0 db0 w.store s'
     pub tallies : TalliesAfter w.tallies (tallied (asks task.work) (wrote w.store s') w.tallies) chains'
 
   abbrev Asked : StoreCall → Type 0
   Asked asked =
-      IsSound (log_of k0) db0 (effect mark asked moment w.store).store (chains_put (wrote w.store (effect mark asked moment w.store).store) (put_by n facts task.call phrase) chains k0 db0)
-      × (LogGrows w.store chains (effect mark asked moment w.store).store (chains_put (wrote w.store (effect mark asked moment w.store).store) (put_by n facts task.call phrase) chains) k0 db0
-      × (Changed (λ (a : Author). a ≡ author) (chains k0 db0) (chains_put (wrote w.store (effect mark asked moment w.store).store) (put_by n facts task.call phrase) chains k0 db0)
-      × (PhraseBrings (effect mark asked moment w.store).store (chains_put (wrote w.store (effect mark asked moment w.store).store) (put_by n facts task.call phrase) chains) n facts task.call phrase moment (effect mark asked moment w.store).answer
+      IsSound (log_of k0) db0 (effect mark asked moment w.store).store (chains_put (wrote w.store (effect mark asked moment w.store).store) (put_by n phrase) chains k0 db0)
+      × (LogGrows w.store chains (effect mark asked moment w.store).store (chains_put (wrote w.store (effect mark asked moment w.store).store) (put_by n phrase) chains) k0 db0
+      × (Changed (λ (a : Author). a ≡ author) (chains k0 db0) (chains_put (wrote w.store (effect mark asked moment w.store).store) (put_by n phrase) chains k0 db0)
+      × (PhraseBrings (effect mark asked moment w.store).store (chains_put (wrote w.store (effect mark asked moment w.store).store) (put_by n phrase) chains) n phrase moment (effect mark asked moment w.store).answer
       × (StoreAfter k0 db0 w.store (effect mark asked moment w.store).store
-      × TalliesAfter w.tallies (tallied asked (wrote w.store (effect mark asked moment w.store).store) w.tallies) (chains_put (wrote w.store (effect mark asked moment w.store).store) (put_by n facts task.call phrase) chains)))))
+      × TalliesAfter w.tallies (tallied asked (wrote w.store (effect mark asked moment w.store).store) w.tallies) (chains_put (wrote w.store (effect mark asked moment w.store).store) (put_by n phrase) chains)))))
 
   by_phrase : Asked (phrase_asks phrase)
   by_phrase =
-      let a = phrase_step w.store chains n facts task.call i.tidy mark moment phrase (i.named db0 has) sound knows.knows in (
+      let a = phrase_step w.store chains n i.tidy mark moment phrase (i.named db0 has) sound knows.knows in (
         a.leaves.sound,
         (
           a.leaves.grows,
@@ -238,8 +263,8 @@ module _ (w : World) (chains : Chains) (i : Inv w chains) (n : ℕ) (p : Party) 
             (
               a.brings,
               (
-                store_after w.store chains n facts task.call mark moment phrase (i.named db0 has) sound knows.knows,
-                tallies_after w.store chains w.tallies i.told n facts task.call phrase (wrote w.store (effect mark (phrase_asks phrase) moment w.store).store) sound knows.knows,
+                store_after w.store chains n mark moment phrase (i.named db0 has) sound knows.knows,
+                tallies_after w.store chains w.tallies i.told n phrase (wrote w.store (effect mark (phrase_asks phrase) moment w.store).store) sound knows.knows,
               ),
             ),
           ),
@@ -259,7 +284,7 @@ module _ (w : World) (chains : Chains) (i : Inv w chains) (n : ℕ) (p : Party) 
 
   other_after : (k : LogKind) (d : List ℕ) → HasDb w d → AreApart k d k0 db0 → LogAfter k w.store (chains k d) s' (chains' k d) d author
   other_after k d h apart =
-      let same : chains' k d ≡ chains k d = other_chain (wrote w.store s') n facts task.call phrase chains k d apart in
+      let same : chains' k d ≡ chains k d = other_chain (wrote w.store s') n phrase chains k d apart in
       let g = other_grows w.store s' k0 db0 k d (chains k d) (i.named d h) (i.named db0 has) apart after.stored in
       let o = other_sound w.store s' k0 db0 k d (chains k d) (i.named d h) (i.named db0 has) apart after.stored (i.logs k d h) in
       subst (λ (c : Chain k). LogAfter k w.store (chains k d) s' c d author) (sym same) (record { sound = o; grows = g; changed = Stays refl })
@@ -284,12 +309,19 @@ module _ (w : World) (chains : Chains) (i : Inv w chains) (n : ℕ) (p : Party) 
   was_db : (d : List ℕ) → HasDb w' d → HasDb w d
   was_db d h = sym (after.tallies.same d) ∙ h
 
-  reaches : Reaches (HasDb w') s' chains' n task.call standing
-  reaches = follow_reaches (HasDb w') s' chains' n task.call facts task.work moment answer (same_db facts.db (i.parties n p at).has) (same_db (db_of task.work) knows.has)
-      (λ k. (log_after k (db_of task.work) knows.has).sound) knows.fits after.brings
+  -- what is left of the logs of the party's database
+  own_log : (k : LogKind) → LogAfter k w.store (chains k facts.db) s' (chains' k facts.db) facts.db author
+  own_log k = log_after k facts.db (i.parties n p at).has
+
+  kept : (d : List ℕ) → d ≡ facts.db → (k : LogKind) (m : ℕ) (l : _) → link_at m (chains k d) ≡ Some l → link_at m (chains' k d) ≡ Some l
+  kept d is k m l = subst (λ x. link_at m (chains k x) ≡ Some l → link_at m (chains' k x) ≡ Some l) (sym is) ((own_log k).grows.kept m l)
+
+  reaches : Reaches s' chains' n facts task.call standing
+  reaches = moved_reaches s' chains' n task.call facts (kept_holds chains chains' facts.db (kept facts.db refl) facts.compactor (i.parties n p at).holds) task.work knows.own
+      (λ k. subst (λ d. IsSound (log_of k) d s' (chains' k d)) (sym knows.own) (own_log k).sound) knows.over knows.fits (kept_work chains chains' task.work (kept (db_of task.work) knows.own) knows.holds) moment answer after.brings
 
   own_knows : PartyKnows w' chains' n (settled task.call standing)
-  own_knows = record { has = reaches.0; knows = settle_knows (HasDb w') s' chains' n task.call standing.facts standing.next reaches.1 }
+  own_knows = settled_knows w' chains' n facts task.call standing (same_db facts.db (i.parties n p at).has) reaches
 
   pub stepped_inv : Inv w' chains'
   stepped_inv = record {
@@ -303,25 +335,21 @@ module _ (w : World) (chains : Chains) (i : Inv w chains) (n : ℕ) (p : Party) 
 
 -- ---- events
 
-step_inv : (w : World) (chains : Chains) (n : ℕ) (p : Party) (moment : ℤ) (mark : Mark) → Inv w chains → party_of n w.parties ≡ Some p → (state : State) → StateKnows (HasDb w) w.store chains n p.facts state
-    → Inv (step_state w n p.facts state moment mark).world (chains_state w n p.facts state moment mark chains)
+step_inv : (w : World) (chains : Chains) (n : ℕ) (p : Party) (moment : ℤ) (mark : Mark) → Inv w chains → party_of n w.parties ≡ Some p → (state : State) → StateKnows w.store chains n p.facts state
+    → Inv (step_state w n p.facts state moment mark).world (chains_state w n state moment mark chains)
 step_inv w chains n p moment mark i at Resting k = i
 step_inv w chains n p moment mark i at Halted k = i
 step_inv w chains n p moment mark i at (Busy task) k = test (is_due task.work) (stepped_inv w chains i n p at task k moment mark)
   where
-    test : (b : Bool) → Inv (stepped w n p.facts task moment mark).world (chains_stepped w n p.facts task moment mark chains)
-        → Inv (if b then stepped w n p.facts task moment mark else noted n w).world (if b then chains_stepped w n p.facts task moment mark chains else chains)
+    test : (b : Bool) → Inv (stepped w n p.facts task moment mark).world (chains_stepped w n task moment mark chains)
+        → Inv (if b then stepped w n p.facts task moment mark else noted n w).world (if b then chains_stepped w n task moment mark chains else chains)
     test true h = h
     test false h = i
 
 start_inv : (w : World) (chains : Chains) (n : ℕ) (p : Party) (call : Call) → has_call p.facts.kind call ≡ true → Inv w chains → party_of n w.parties ≡ Some p → (state : State) → Inv (start_state w n p.facts state call).world chains
 start_inv w chains n p call may i at Resting =
-    let standing = begin p.facts call in
-    let reached = begin_reaches (HasDb w) w.store chains n p.facts call may (i.parties n p at).has in
-    moved_inv w chains n p (settled call standing) i at (record {
-      has = reached.0;
-      knows = settle_knows (HasDb w) w.store chains n call standing.facts standing.next reached.1;
-    })
+    let own = i.parties n p at in
+    moved_inv w chains n p (settled call (begin p.facts call)) i at (settled_knows w chains n p.facts call (begin p.facts call) own.has (begin_reaches w.store chains n p.facts call may own.holds))
 start_inv w chains n p call may i at (Busy task) = i
 start_inv w chains n p call may i at Halted = i
 
@@ -332,14 +360,14 @@ carried_inv w chains n call i = record {
   named = i.named;
   logs = i.logs;
   told = i.told;
-  parties = λ k p at. let known = i.parties k p at in record { has = known.has; knows = known.knows };
+  parties = λ k p at. let known = i.parties k p at in record { has = known.has; holds = known.holds; knows = known.knows };
 }
 
 -- nor does a stop
 stop_inv : (w : World) (chains : Chains) (n : ℕ) (p : Party) → Inv w chains → party_of n w.parties ≡ Some p → (state : State) → Inv (stop_state w n p.facts state).world chains
 stop_inv w chains n p i at Halted = i
-stop_inv w chains n p i at Resting = moved_inv w chains n p (halted p.facts) i at (record { has = (i.parties n p at).has; knows = tt })
-stop_inv w chains n p i at (Busy task) = moved_inv w chains n p (halted p.facts) i at (record { has = (i.parties n p at).has; knows = tt })
+stop_inv w chains n p i at Resting = moved_inv w chains n p (halted p.facts) i at (let own = i.parties n p at in record { has = own.has; holds = own.holds; knows = tt })
+stop_inv w chains n p i at (Busy task) = moved_inv w chains n p (halted p.facts) i at (let own = i.parties n p at in record { has = own.has; holds = own.holds; knows = tt })
 
 open_inv : (w : World) (chains : Chains) (n : ℕ) (kind : PartyKind) (db : List ℕ) (t : Tally) → Inv w chains → party_of n w.parties ≡ None → tally_of db w.tallies ≡ Some t → Inv (record w { parties = insert_entry nat_cmp w.parties n (newcomer n kind db) }) chains
 open_inv w chains n kind db t i none found =
@@ -350,7 +378,7 @@ open_inv w chains n kind db t i none found =
       logs = i.logs;
       told = i.told;
       parties = each_knows w w' chains chains n (newcomer n kind db) (insert_here nat_cmp number_order n (newcomer n kind db) w.parties) (λ k ne. insert_else nat_cmp number_order n k (newcomer n kind db) w.parties ne)
-          (λ d h. h) (λ k d h. grows_not (log_of k) d w.store (chains k d)) (record { has = ap is_some found; knows = tt }) i.parties;
+          (λ d h. h) (λ k d h. grows_not (log_of k) d w.store (chains k d)) (record { has = ap is_some found; holds = tt; knows = tt }) i.parties;
     }
 
 -- one event that isn't bad keeps them all
@@ -378,7 +406,7 @@ event_inv w chains (Step n moment mark) d h i = went (party_of n w.parties) refl
     went None at h = absurd cc
     went (Some p) at h =
         let same : step_state w n p.facts p.state moment mark ≡ d = cc in
-        subst (λ (r : Transition). Inv r.world (chains_state w n p.facts p.state moment mark chains)) same (step_inv w chains n p moment mark i at p.state (i.parties n p at).knows)
+        subst (λ (r : Transition). Inv r.world (chains_state w n p.state moment mark chains)) same (step_inv w chains n p moment mark i at p.state (i.parties n p at).knows)
 event_inv w chains (Stop n) d h i = went (party_of n w.parties) refl h
   where
     went : (o : Option Party) → party_of n w.parties ≡ o → stop_at w n o ≡ Some d → Inv d.world chains

@@ -3,7 +3,9 @@ use Rattle.std.proofs.Common.{◌≡◌, ℕ, ℤ, ◌+◌, ◌≤◌, Bool, tru
 use Rattle.std.proofs.lemmas.List.{append-nil}
 use Rattle.std.specs.Prelude.{if◌then◌else◌}
 use Rattle.slate_ids.specs.declared.object_path.ObjectPath.{ObjectPath}
+use Rattle.slate_ids.specs.Ids.{is_db_path}
 use Rattle.slate_store.specs.Store.{Store, object_at, effect}
+use Rattle.slate_store.specs.declared.store_call.StoreCall.{StoreCall}
 use Rattle.slate_store.specs.declared.mark.Mark.{Mark}
 use Rattle.slate_store.specs.declared.object.ObjectMetadata.{ObjectMetadata}
 use Rattle.slate_events.specs.declared.call.Call.{Call}
@@ -22,14 +24,12 @@ use Rattle.slate_log.specs.declared.read_phase.ReadPhase.{ReadPhase}
 use Rattle.slate_log.specs.declared.read_phase.ReadPhase.TheVariants as reading
 use Rattle.slate_ids.specs.declared.gc_message.GcMessage.{GcMessage}
 use Rattle.slate_passes.specs.Pass.{pass_asks}
-use Rattle.slate_changes.specs.declared.log_work.LogWork.TheVariants as removal
-use Rattle.slate_passes.specs.declared.gc_phase.GcPhase.TheVariants as gc
 use Rattle.slate_passes.specs.declared.pass_phase.PassPhase.{PassPhase}
 use Rattle.slate_passes.specs.declared.pass_phase.PassPhase.TheVariants as passing
 use Rattle.slate_protocol.specs.ByRows.{AllTold, all_told_after, entry_store}
 use Rattle.slate_protocol.specs.Chains.{bound_in}
 use Rattle.slate_protocol.specs.Holding.{IsManifestThat}
-use Rattle.slate_protocol.specs.Logs.{Chains, log_of, manifests, phrase_of, chains_stepped, chains_state, chains_at, chains_after, chains_of}
+use Rattle.slate_protocol.specs.Logs.{Chains, Phrase, Reads, Commits, Uploads, Collects, log_of, manifests, phrase_of, chains_stepped, chains_state, chains_at, chains_after, chains_of}
 use Rattle.slate_protocol.specs.Owners.{owner_of}
 use Rattle.slate_protocol.specs.Owners.Owner.{Version}
 use Rattle.slate_protocol.specs.Reach.{IsNeeded, InReach, Reachable, IsSpare}
@@ -44,7 +44,6 @@ use Rattle.slate_protocol.specs.declared.party.State.{State}
 use Rattle.slate_protocol.specs.declared.party.State.TheVariants.{Resting, Busy, Halted}
 use Rattle.slate_protocol.specs.declared.tally.Tally.{Tally}
 use Rattle.slate_protocol.specs.declared.work.Work.{Work}
-use Rattle.slate_protocol.specs.declared.work.Work.TheVariants.{ReadManifest, CommitManifest, ReadRecord, CommitRecord, PutTable, Pass}
 use Rattle.slate_laws.proofs.Facts.{IsReached, Grows}
 use Rattle.slate_laws.proofs.Passes.{PassKnows}
 use Rattle.slate_laws.proofs.Paths.{version_owner}
@@ -52,7 +51,7 @@ use Rattle.slate_laws.proofs.Puts.{grows_not}
 use Rattle.slate_laws.proofs.Rows.{AllMatch, ended, event_brings, all_after}
 use Rattle.slate_laws.proofs.Runs.{Inv, StateKnows, log_after, same_tallies, event_inv}
 use Rattle.slate_laws.proofs.Spares.{not_needed}
-use Rattle.slate_laws.proofs.Steps.{PhraseKnows}
+use Rattle.slate_laws.proofs.Steps.{PhraseKnows, db_in, phrase_asks, work_asks, work_db}
 use Rattle.slate_laws.proofs.Zeros.{NoZero, zero_stays}
 
 -- ---- what an event leaves of each log
@@ -71,8 +70,8 @@ leaves_all w v chains store tallies = record {
   zero = λ h k db has. ap (λ (s : Store). object_at (version_path k db 0) s) store ∙ h k db (ap (λ (ts : List (List ℕ × Tally)). is_some (tally_of db ts)) (sym tallies) ∙ has);
 }
 
-step_after : (w : World) (chains : Chains) (i : Inv w chains) (n : ℕ) (p : Party) (at : party_of n w.parties ≡ Some p) (moment : ℤ) (mark : Mark) (state : State) → StateKnows (HasDb w) w.store chains n p.facts state
-    → EventAfter w chains (step_state w n p.facts state moment mark).world (chains_state w n p.facts state moment mark chains)
+step_after : (w : World) (chains : Chains) (i : Inv w chains) (n : ℕ) (p : Party) (at : party_of n w.parties ≡ Some p) (moment : ℤ) (mark : Mark) (state : State) → StateKnows w.store chains n p.facts state
+    → EventAfter w chains (step_state w n p.facts state moment mark).world (chains_state w n state moment mark chains)
 step_after w chains i n p at moment mark Resting k = leaves_all w w chains refl refl
 step_after w chains i n p at moment mark Halted k = leaves_all w w chains refl refl
 step_after w chains i n p at moment mark (Busy task) k = test (is_due task.work) (record {
@@ -80,11 +79,11 @@ step_after w chains i n p at moment mark (Busy task) k = test (is_due task.work)
   grows = λ log db has. (log_after w chains i n p at task k moment mark log db has).grows;
   zero = λ h log db has.
       let had = sym (same_tallies w chains i n p at task k moment mark db) ∙ has in
-      zero_stays log db (i.named db had) w.store chains n p.facts task.call task.work moment mark (i.named (db_of task.work) k.has) k.knows (h log db had);
+      zero_stays log db (i.named db had) w.store chains n task.work moment mark (subst (λ d. is_db_path d ≡ true) (sym k.own) (i.named p.facts.db (i.parties n p at).has)) k.knows (h log db had);
 })
   where
-    test : (b : Bool) → EventAfter w chains (stepped w n p.facts task moment mark).world (chains_stepped w n p.facts task moment mark chains)
-        → EventAfter w chains (if b then stepped w n p.facts task moment mark else noted n w).world (if b then chains_stepped w n p.facts task moment mark chains else chains)
+    test : (b : Bool) → EventAfter w chains (stepped w n p.facts task moment mark).world (chains_stepped w n task moment mark chains)
+        → EventAfter w chains (if b then stepped w n p.facts task moment mark else noted n w).world (if b then chains_stepped w n task moment mark chains else chains)
     test true h = h
     test false h = leaves_all w w chains refl refl
 
@@ -120,7 +119,7 @@ event_after w chains (Step n moment mark) d i h = went (party_of n w.parties) re
     went None at h = absurd cc
     went (Some p) at h =
         let same : step_state w n p.facts p.state moment mark ≡ d = cc in
-        subst (λ (r : Transition). EventAfter w chains r.world (chains_state w n p.facts p.state moment mark chains)) same (step_after w chains i n p at moment mark p.state (i.parties n p at).knows)
+        subst (λ (r : Transition). EventAfter w chains r.world (chains_state w n p.state moment mark chains)) same (step_after w chains i n p at moment mark p.state (i.parties n p at).knows)
 event_after w chains (Stop n) d i h = went (party_of n w.parties) h
   where
     went : (o : Option Party) → stop_at w n o ≡ Some d → EventAfter w chains d.world chains
@@ -185,23 +184,23 @@ module _ (w : World) (chains : Chains) (v : World) (chains' : Chains) (a : Event
   commit_gone db k (committing.Bounding n m) s = tt
   commit_gone db k committing.Over s = tt
 
-  work_gone : (n : ℕ) (facts : Facts) (call : Call) (work : Work) (s : Store) → HasDb w (db_of work) → PhraseKnows w.store chains n facts call (phrase_of work) → AllCollected v chains' (removed_by_call (asks work) w.store s)
-  work_gone n facts call (ReadManifest purpose db phase) s has k = read_gone db logs.Manifest phase s
-  work_gone n facts call (CommitManifest purpose now db phase) s has k = commit_gone db logs.Manifest phase s
-  work_gone n facts call (ReadRecord purpose db phase) s has k = read_gone db logs.Compactions phase s
-  work_gone n facts call (CommitRecord purpose now db phase) s has k = commit_gone db logs.Compactions phase s
-  work_gone n facts call (PutTable db upload bytes) s has k = tt
-  work_gone n facts call (Pass db settings filter (gc.Removing (removal.Reading phase))) s has k = read_gone db logs.Manifest phase s
-  work_gone n facts call (Pass db settings filter (gc.Removing (removal.Committing now phase))) s has k = commit_gone db logs.Manifest phase s
-  work_gone n facts call (Pass db settings filter (gc.Collecting at phase)) s has k = collect_gone db settings.pass phase s has k.1
+  phrase_gone : (n : ℕ) (phrase : Phrase) (s : Store) → HasDb w (db_in phrase) → PhraseKnows w.store chains n phrase → AllCollected v chains' (removed_by_call (phrase_asks phrase) w.store s)
+  phrase_gone n (Reads k db phase) s has h = read_gone db (log_of k).kind phase s
+  phrase_gone n (Commits k db puts now phase) s has h = commit_gone db (log_of k).kind phase s
+  phrase_gone n (Uploads db table bytes) s has h = tt
+  phrase_gone n (Collects db pass phase) s has h = collect_gone db pass phase s has h.1
+
+  work_gone : (n : ℕ) (work : Work) (s : Store) → HasDb w (db_of work) → PhraseKnows w.store chains n (phrase_of work) → AllCollected v chains' (removed_by_call (asks work) w.store s)
+  work_gone n work s has h =
+      subst (λ (call : StoreCall). AllCollected v chains' (removed_by_call call w.store s)) (sym (work_asks work)) (phrase_gone n (phrase_of work) s (subst (λ d. HasDb w d) (sym (work_db work)) has) h)
 
   -- what a step removed
-  pub step_gone : (n : ℕ) (facts : Facts) (state : State) (moment : ℤ) (mark : Mark) → StateKnows (HasDb w) w.store chains n facts state → AllCollected v chains' (removed_by (step_state w n facts state moment mark).entry w.store)
-  step_gone n facts Resting moment mark k = tt
-  step_gone n facts Halted moment mark k = tt
-  step_gone n facts (Busy task) moment mark k =
+  pub step_gone : (n : ℕ) (facts : Facts) (state : State) (moment : ℤ) (mark : Mark) → HasDb w facts.db → StateKnows w.store chains n facts state → AllCollected v chains' (removed_by (step_state w n facts state moment mark).entry w.store)
+  step_gone n facts Resting moment mark has k = tt
+  step_gone n facts Halted moment mark has k = tt
+  step_gone n facts (Busy task) moment mark has k =
       let s = (effect mark (asks task.work) moment w.store).store in
-      test (is_due task.work) (work_gone n facts task.call task.work s k.has k.knows)
+      test (is_due task.work) (work_gone n task.work s (subst (λ d. HasDb w d) (sym k.own) has) k.knows)
     where
       test : (b : Bool) → AllCollected v chains' (removed_by (stepped w n facts task moment mark).entry w.store)
           → AllCollected v chains' (removed_by (if b then stepped w n facts task moment mark else noted n w).entry w.store)
@@ -241,7 +240,7 @@ module _ (w : World) (chains : Chains) (v : World) (chains' : Chains) (a : Event
       went (Some p) at h =
           let same : step_state w n p.facts p.state moment mark ≡ d = cc in
           let known = i.parties n p at in
-          subst (λ (r : Transition). AllCollected v chains' (removed_by r.entry w.store)) same (step_gone n p.facts p.state moment mark known.knows)
+          subst (λ (r : Transition). AllCollected v chains' (removed_by r.entry w.store)) same (step_gone n p.facts p.state moment mark known.has known.knows)
   event_gone (Stop n) d i h = went (party_of n w.parties) h
     where
       went : (o : Option Party) → stop_at w n o ≡ Some d → AllCollected v chains' (removed_by d.entry w.store)

@@ -27,11 +27,9 @@ use Rattle.slate_passes.specs.Pass.{pass_asks}
 use Rattle.slate_passes.specs.Rows.{log_of_pass, log_or_manifests}
 use Rattle.slate_passes.specs.declared.pass_phase.PassPhase.{PassPhase}
 use Rattle.slate_passes.specs.declared.pass_phase.PassPhase.TheVariants as passing
-use Rattle.slate_events.specs.declared.call.Call.{Call}
 use Rattle.slate_protocol.specs.Chains.{Link, link_at, top, if_new}
 use Rattle.slate_protocol.specs.Logs.{Author, Held, log_of, Chain, Chains, Phrase, Reads, Commits, Uploads, Collects, put_by, chains_put}
 use Rattle.slate_protocol.specs.World.{tally_of, number_in, tallied, committed, raise_tally, to_manifest, to_record}
-use Rattle.slate_protocol.specs.declared.party.Facts.{Facts}
 use Rattle.slate_protocol.specs.declared.tally.Tally.{Tally}
 use Rattle.slate_laws.proofs.Stores.{IsTidy, tidy_put, tidy_left, put_object, same_name}
 use Rattle.slate_laws.proofs.Links.{at_most, next_number}
@@ -101,25 +99,25 @@ pass_after s c db mark moment small (passing.Deleting (m ∷ left) counts) h =
     delete_after logs.Manifest db s m.location (OwnVersion h.0.number (omega arith) h.0.is) mark
 pass_after s c db mark moment small passing.Over h = absurd h
 
-read_after : (k : LogKind) (db : List ℕ) (s : Store) (chains : Chains) (n : ℕ) (facts : Facts) (call : Call) (mark : Mark) (moment : ℤ) (phase : ReadPhase (Held k)) → PhraseKnows s chains n facts call (Reads k db phase)
+read_after : (k : LogKind) (db : List ℕ) (s : Store) (chains : Chains) (n : ℕ) (mark : Mark) (moment : ℤ) (phase : ReadPhase (Held k)) → PhraseKnows s chains n (Reads k db phase)
     → StoreAfter k db s (effect mark (phrase_asks (Reads k db phase)) moment s).store
-read_after k db s chains n facts call mark moment reading.Listing h = got_after k db s mark _
-read_after k db s chains n facts call mark moment (reading.Getting m) h = got_after k db s mark _
-read_after k db s chains n facts call mark moment (reading.Bounding m v) h = got_after k db s mark _
-read_after k db s chains n facts call mark moment reading.Over h = absurd h
+read_after k db s chains n mark moment reading.Listing h = got_after k db s mark _
+read_after k db s chains n mark moment (reading.Getting m) h = got_after k db s mark _
+read_after k db s chains n mark moment (reading.Bounding m v) h = got_after k db s mark _
+read_after k db s chains n mark moment reading.Over h = absurd h
 
 -- where a log lies
 pub its_kind : (k : LogKind) → (log_of k).kind ≡ k
 its_kind logs.Manifest = refl
 its_kind logs.Compactions = refl
 
-commit_after : (k : LogKind) (db : List ℕ) (s : Store) (chains : Chains) (n : ℕ) (facts : Facts) (call : Call) (mark : Mark) (moment : ℤ) (purpose : _) (now : ℤ) (phase : CommitPhase (Held k)) → PhraseKnows s chains n facts call (Commits k db purpose now phase)
-    → StoreAfter k db s (effect mark (phrase_asks (Commits k db purpose now phase)) moment s).store
-commit_after k db s chains n facts call mark moment purpose now (committing.Putting m bytes v) h =
+commit_after : (k : LogKind) (db : List ℕ) (s : Store) (chains : Chains) (n : ℕ) (mark : Mark) (moment : ℤ) (puts : _) (now : ℤ) (phase : CommitPhase (Held k)) → PhraseKnows s chains n (Commits k db puts now phase)
+    → StoreAfter k db s (effect mark (phrase_asks (Commits k db puts now phase)) moment s).store
+commit_after k db s chains n mark moment puts now (committing.Putting m bytes v) h =
     let p = version_path (log_of k).kind db m in
     put_after k db p bytes moment s (OwnVersion m h.small (ap (λ j. version_path j db m) (its_kind k))) (object_at p s) (taken mark (PutNew p bytes) s)
-commit_after k db s chains n facts call mark moment purpose now (committing.Bounding m v) h = got_after k db s mark _
-commit_after k db s chains n facts call mark moment purpose now committing.Over h = absurd h
+commit_after k db s chains n mark moment puts now (committing.Bounding m v) h = got_after k db s mark _
+commit_after k db s chains n mark moment puts now committing.Over h = absurd h
 
 -- the put of an object that no log has
 else_after : (k : LogKind) (db : List ℕ) (p : ObjectPath) (bytes : List ℕ) (moment : ℤ) (s : Store) → IsNobodys p → (mark : Mark) → StoreAfter k db s (under mark (whole (Put p bytes) moment s) s).store
@@ -127,13 +125,13 @@ else_after k db p bytes moment s other Good = WroteElse p bytes moment other ref
 else_after k db p bytes moment s other Fail = Same refl
 else_after k db p bytes moment s other Lost = WroteElse p bytes moment other refl
 
-pub store_after : (s : Store) (chains : Chains) (n : ℕ) (facts : Facts) (call : Call) (mark : Mark) (moment : ℤ) (phrase : Phrase) → is_db_path (db_in phrase) ≡ true → IsSound (log_of (log_in phrase)) (db_in phrase) s (chains (log_in phrase) (db_in phrase)) → PhraseKnows s chains n facts call phrase
+pub store_after : (s : Store) (chains : Chains) (n : ℕ) (mark : Mark) (moment : ℤ) (phrase : Phrase) → is_db_path (db_in phrase) ≡ true → IsSound (log_of (log_in phrase)) (db_in phrase) s (chains (log_in phrase) (db_in phrase)) → PhraseKnows s chains n phrase
     → StoreAfter (log_in phrase) (db_in phrase) s (effect mark (phrase_asks phrase) moment s).store
-store_after s chains n facts call mark moment (Reads k db phase) named i h = read_after k db s chains n facts call mark moment phase h
-store_after s chains n facts call mark moment (Commits k db purpose now phase) named i h = commit_after k db s chains n facts call mark moment purpose now phase h
-store_after s chains n facts call mark moment (Uploads db table bytes) named i h =
+store_after s chains n mark moment (Reads k db phase) named i h = read_after k db s chains n mark moment phase h
+store_after s chains n mark moment (Commits k db puts now phase) named i h = commit_after k db s chains n mark moment puts now phase h
+store_after s chains n mark moment (Uploads db table bytes) named i h =
     else_after logs.Manifest db (paths.Table db table) bytes moment s (table_nobodys db table named h) (taken mark (Put (paths.Table db table) bytes) s)
-store_after s chains n facts call mark moment (Collects db pass phase) named i h =
+store_after s chains n mark moment (Collects db pass phase) named i h =
     subst (λ (p : GcMessage). StoreAfter logs.Manifest db s (effect mark (pass_asks db p phase) moment s).store) (sym h.0) (pass_after s (chains logs.Manifest db) db mark moment i.small phase h.1)
 
 pub tidy_after : (k : LogKind) (db : List ℕ) (s s' : Store) → is_db_path db ≡ true → StoreAfter k db s s' → IsTidy s.objects → IsTidy s'.objects
@@ -266,15 +264,15 @@ module _ (s : Store) (chains : Chains) (tallies : Tallies) (told : (k : LogKind)
   pass_tallies db pass (passing.Deleting (m ∷ left) counts) b h = refl
   pass_tallies db pass passing.Over b h = absurd h
 
-  pub tallies_after : (n : ℕ) (facts : Facts) (call : Call) (phrase : Phrase) (b : Bool) → IsSound (log_of (log_in phrase)) (db_in phrase) s (chains (log_in phrase) (db_in phrase)) → PhraseKnows s chains n facts call phrase
-      → TalliesAfter tallies (tallied (phrase_asks phrase) b tallies) (chains_put b (put_by n facts call phrase) chains)
-  tallies_after n facts call (Reads k db reading.Listing) b i h = tallies_same tallies chains _ told (none_put b chains)
-  tallies_after n facts call (Reads k db (reading.Getting m)) b i h = tallies_same tallies chains _ told (none_put b chains)
-  tallies_after n facts call (Reads k db (reading.Bounding m v)) b i h = tallies_same tallies chains _ told (none_put b chains)
-  tallies_after n facts call (Reads k db reading.Over) b i h = absurd h
-  tallies_after n facts call (Commits k db purpose now (committing.Putting m bytes v)) b i h = puts_tallies k db i (author_of n facts call purpose now) m bytes v h b
-  tallies_after n facts call (Commits k db purpose now (committing.Bounding m v)) b i h = tallies_same tallies chains _ told (none_put b chains)
-  tallies_after n facts call (Commits k db purpose now committing.Over) b i h = absurd h
-  tallies_after n facts call (Uploads db table bytes) b i h = tallies_same tallies chains _ told (none_put b chains)
-  tallies_after n facts call (Collects db pass phase) b i h =
+  pub tallies_after : (n : ℕ) (phrase : Phrase) (b : Bool) → IsSound (log_of (log_in phrase)) (db_in phrase) s (chains (log_in phrase) (db_in phrase)) → PhraseKnows s chains n phrase
+      → TalliesAfter tallies (tallied (phrase_asks phrase) b tallies) (chains_put b (put_by n phrase) chains)
+  tallies_after n (Reads k db reading.Listing) b i h = tallies_same tallies chains _ told (none_put b chains)
+  tallies_after n (Reads k db (reading.Getting m)) b i h = tallies_same tallies chains _ told (none_put b chains)
+  tallies_after n (Reads k db (reading.Bounding m v)) b i h = tallies_same tallies chains _ told (none_put b chains)
+  tallies_after n (Reads k db reading.Over) b i h = absurd h
+  tallies_after n (Commits k db puts now (committing.Putting m bytes v)) b i h = puts_tallies k db i (author_of n puts now) m bytes v h b
+  tallies_after n (Commits k db puts now (committing.Bounding m v)) b i h = tallies_same tallies chains _ told (none_put b chains)
+  tallies_after n (Commits k db puts now committing.Over) b i h = absurd h
+  tallies_after n (Uploads db table bytes) b i h = tallies_same tallies chains _ told (none_put b chains)
+  tallies_after n (Collects db pass phase) b i h =
       subst (λ (ts : Tallies). TalliesAfter tallies ts (chains_put b None chains)) (sym (pass_tallies db pass phase b h.1)) (tallies_same tallies chains (chains_put b None chains) told (none_put b chains))

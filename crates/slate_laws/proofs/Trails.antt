@@ -3,6 +3,7 @@ use Rattle.std.proofs.Common.{◌≡◌, ℕ, ℤ, ◌+◌, ◌==◌, Bool, true
 use Rattle.std.specs.Prelude.{if◌then◌else◌, ◌&&◌, bytes_eq}
 use Rattle.slate_store.specs.Store.{Store, effect}
 use Rattle.slate_store.specs.declared.mark.Mark.{Mark}
+use Rattle.slate_store.specs.declared.store_call.StoreCall.{StoreCall}
 use Rattle.slate_store.specs.declared.store_call.StoreCall.TheVariants.{PutNew}
 use Rattle.slate_events.specs.declared.call.Call.{Call}
 use Rattle.slate_events.specs.declared.entry.Entry.{Entry}
@@ -23,8 +24,6 @@ use Rattle.slate_log.specs.declared.read_phase.ReadPhase.TheVariants as reading
 use Rattle.slate_ids.specs.declared.gc_message.GcMessage.{GcMessage}
 use Rattle.slate_passes.specs.Pass.{pass_asks}
 use Rattle.slate_passes.specs.Rows.{log_of_pass, log_or_manifests}
-use Rattle.slate_changes.specs.declared.log_work.LogWork.TheVariants as removal
-use Rattle.slate_passes.specs.declared.gc_phase.GcPhase.TheVariants as removing
 use Rattle.slate_passes.specs.declared.pass_phase.PassPhase.{PassPhase}
 use Rattle.slate_passes.specs.declared.pass_phase.PassPhase.TheVariants as passing
 use Rattle.slate_referenced.specs.Referenced.{referenced_asks}
@@ -32,7 +31,7 @@ use Rattle.slate_referenced.specs.declared.referenced_phase.ReferencedPhase.{Ref
 use Rattle.slate_referenced.specs.declared.referenced_phase.ReferencedPhase.TheVariants as fetching
 use Rattle.slate_protocol.specs.ByRows.{AllTold, all_told_after, entry_store, trail_by}
 use Rattle.slate_protocol.specs.Chains.{Link, link_at, if_new, with_link}
-use Rattle.slate_protocol.specs.Logs.{Author, Chains, Held, log_of, phrase_of, put_in, put_by, chain_with, chains_put, chains_stepped, chains_state, chains_at, chains_after, chains_of}
+use Rattle.slate_protocol.specs.Logs.{Author, Chains, Held, Phrase, Reads, Commits, Uploads, Collects, log_of, phrase_of, put_in, put_by, chain_with, chains_put, chains_stepped, chains_state, chains_at, chains_after, chains_of}
 use Rattle.slate_protocol.specs.Runs.{Course, Ran, going_on, run}
 use Rattle.slate_protocol.specs.Trails.{Firsts, has_number, first_put, same_log, call_told, entry_told, store_of, told, numbered}
 use Rattle.slate_protocol.specs.Works.{asks, is_due}
@@ -42,9 +41,8 @@ use Rattle.slate_protocol.specs.declared.party.Party.{Party}
 use Rattle.slate_protocol.specs.declared.party.State.{State}
 use Rattle.slate_protocol.specs.declared.party.State.TheVariants.{Resting, Busy, Halted}
 use Rattle.slate_protocol.specs.declared.tally.Tally.{Tally}
-use Rattle.slate_protocol.specs.declared.work.Purpose.TheVariants.{Once}
 use Rattle.slate_protocol.specs.declared.work.Work.{Work}
-use Rattle.slate_protocol.specs.declared.work.Work.TheVariants as work
+use Rattle.slate_laws.proofs.Steps.{author_of, phrase_asks, work_asks}
 use Rattle.slate_laws.proofs.Rows.{AllMatch, ended, event_brings, all_after}
 
 -- the numbers and bytes of chains
@@ -126,28 +124,28 @@ module _ (firsts : Firsts) (chains : Chains) (h : Tells firsts chains) where
   pass_told db pass (passing.Deleting (m ∷ left) counts) = h
   pass_told db pass passing.Over = h
 
-  work_told : (n : ℕ) (facts : Facts) (call : Call) (at : Work) (b : Bool) → Tells (call_told b (asks at) firsts) (chains_put b (put_by n facts call (phrase_of at)) chains)
-  work_told n facts call at false = h
-  work_told n facts call (work.ReadManifest purpose db phase) true = read_told logs.Manifest db phase
-  work_told n facts call (work.CommitManifest purpose now db phase) true = commit_told logs.Manifest db (record { party = n; facts = facts; call = call; purpose = purpose; now = now }) phase
-  work_told n facts call (work.ReadRecord purpose db phase) true = read_told logs.Compactions db phase
-  work_told n facts call (work.CommitRecord purpose now db phase) true = commit_told logs.Compactions db (record { party = n; facts = facts; call = call; purpose = purpose; now = now }) phase
-  work_told n facts call (work.PutTable db upload bytes) true = h
-  work_told n facts call (work.Pass db settings filter (removing.Removing (removal.Reading phase))) true = read_told logs.Manifest db phase
-  work_told n facts call (work.Pass db settings filter (removing.Removing (removal.Committing now phase))) true = commit_told logs.Manifest db (record { party = n; facts = facts; call = call; purpose = Once; now = now }) phase
-  work_told n facts call (work.Pass db settings filter (removing.Collecting at phase)) true = pass_told db settings.pass phase
+  phrase_told : (n : ℕ) (phrase : Phrase) (b : Bool) → Tells (call_told b (phrase_asks phrase) firsts) (chains_put b (put_by n phrase) chains)
+  phrase_told n phrase false = h
+  phrase_told n (Reads k db phase) true = read_told (log_of k).kind db phase
+  phrase_told n (Commits logs.Manifest db puts now phase) true = commit_told logs.Manifest db (author_of n puts now) phase
+  phrase_told n (Commits logs.Compactions db puts now phase) true = commit_told logs.Compactions db (author_of n puts now) phase
+  phrase_told n (Uploads db table bytes) true = h
+  phrase_told n (Collects db pass phase) true = pass_told db pass phase
+
+  work_told : (n : ℕ) (at : Work) (b : Bool) → Tells (call_told b (asks at) firsts) (chains_put b (put_by n (phrase_of at)) chains)
+  work_told n at b = subst (λ (call : StoreCall). Tells (call_told b call firsts) (chains_put b (put_by n (phrase_of at)) chains)) (sym (work_asks at)) (phrase_told n (phrase_of at) b)
 
 -- ---- an event
 
 step_told : (w : World) (n : ℕ) (facts : Facts) (state : State) (moment : ℤ) (mark : Mark) (firsts : Firsts) (chains : Chains) → Tells firsts chains
-    → Tells (entry_told (step_state w n facts state moment mark).entry w.store firsts) (chains_state w n facts state moment mark chains)
+    → Tells (entry_told (step_state w n facts state moment mark).entry w.store firsts) (chains_state w n state moment mark chains)
 step_told w n facts Resting moment mark firsts chains h = h
 step_told w n facts Halted moment mark firsts chains h = h
 step_told w n facts (Busy task) moment mark firsts chains h =
-    test (is_due task.work) (work_told firsts chains h n facts task.call task.work (wrote w.store (effect mark (asks task.work) moment w.store).store))
+    test (is_due task.work) (work_told firsts chains h n task.work (wrote w.store (effect mark (asks task.work) moment w.store).store))
   where
-    test : (b : Bool) → Tells (entry_told (stepped w n facts task moment mark).entry w.store firsts) (chains_stepped w n facts task moment mark chains)
-        → Tells (entry_told (if b then stepped w n facts task moment mark else noted n w).entry w.store firsts) (if b then chains_stepped w n facts task moment mark chains else chains)
+    test : (b : Bool) → Tells (entry_told (stepped w n facts task moment mark).entry w.store firsts) (chains_stepped w n task moment mark chains)
+        → Tells (entry_told (if b then stepped w n facts task moment mark else noted n w).entry w.store firsts) (if b then chains_stepped w n task moment mark chains else chains)
     test true k = k
     test false k = h
 
@@ -183,7 +181,7 @@ event_told w (Step n moment mark) d firsts chains h is = went (party_of n w.part
     went None is = absurd cc
     went (Some p) is =
         let same : step_state w n p.facts p.state moment mark ≡ d = cc in
-        subst (λ (r : Transition). Tells (entry_told r.entry w.store firsts) (chains_state w n p.facts p.state moment mark chains)) same (step_told w n p.facts p.state moment mark firsts chains h)
+        subst (λ (r : Transition). Tells (entry_told r.entry w.store firsts) (chains_state w n p.state moment mark chains)) same (step_told w n p.facts p.state moment mark firsts chains h)
 event_told w (Stop n) d firsts chains h is = went (party_of n w.parties) is
   where
     went : (o : Option Party) → stop_at w n o ≡ Some d → Tells (entry_told d.entry w.store firsts) chains

@@ -271,8 +271,8 @@ module _ (facts : Facts) (call : Call) (db : List ℕ) (named : is_db_path db �
     Passes : MakesNone x → all_told_after e x all n ≡ Some (in_call answers) → EventIs e all x s phase answers
     Halts : MakesNone x → all_told_after e x all n ≡ Some stopped → EventIs e all x s phase answers
     Steps : (k : ℕ) (moment : ℤ) (mark : Mark) (o : Option Reply) → x ≡ Called k (gc_asks db of.Manifest phase) moment mark (outcome phase moment mark s).answer o
-        → stands_after facts call (answers ++ ((outcome phase moment mark s).answer, moment) ∷ []) ≡ next_of facts call db options word moment (gone_on phase moment (outcome phase moment mark s))
-        → o ≡ reply_then (next_of facts call db options word moment (gone_on phase moment (outcome phase moment mark s)))
+        → stands_after facts call (answers ++ ((outcome phase moment mark s).answer, moment) ∷ []) ≡ next_of facts call db options word (gone_on phase moment (outcome phase moment mark s))
+        → o ≡ reply_then (next_of facts call db options word (gone_on phase moment (outcome phase moment mark s)))
         → all_told_after e x all n ≡ Some (told_call facts call (answers ++ ((outcome phase moment mark s).answer, moment) ∷ []) o) → EventIs e all x s phase answers
 
   number_is : (a b : ℕ) → (a == b) ≡ true → a ≡ b
@@ -353,18 +353,18 @@ module _ (facts : Facts) (call : Call) (db : List ℕ) (named : is_db_path db �
       all n ≡ Some stopped → (between : List Entry) (last : Entry) (r : Reply) → trail_by es all s ≡ between ++ last ∷ [] → list_all (is_quiet n) (between ++ last ∷ []) ≡ true → reply_at last ≡ Some r → ⊥
 
   -- the end of the pass
-  end_of : (P : List Answered → Reply → Store → Type 0) (s : Store) (moment : ℤ) (g : GcGoes) (r : Reply) → Brings facts call db options word s P g → reply_then (next_of facts call db options word moment g) ≡ Some r → P [] r s
-  end_of P s moment (Stay phase) r b h = absurd cc
-  end_of P s moment (End phase (Ok counts)) r b h = let same : reply.Pass counts.picked counts.deleted counts.failed ≡ r = cc in subst (λ (x : Reply). P [] x s) same b
-  end_of P s moment (End phase (Err e)) r b h = let same : Refused e ≡ r = cc in subst (λ (x : Reply). P [] x s) same b
+  end_of : (P : List Answered → Reply → Store → Type 0) (s : Store) (g : GcGoes) (r : Reply) → Brings facts call db options word s P g → reply_then (next_of facts call db options word g) ≡ Some r → P [] r s
+  end_of P s (Stay phase) r b h = absurd cc
+  end_of P s (End phase (Ok counts)) r b h = let same : reply.Pass counts.picked counts.deleted counts.failed ≡ r = cc in subst (λ (x : Reply). P [] x s) same b
+  end_of P s (End phase (Err e)) r b h = let same : Refused e ≡ r = cc in subst (λ (x : Reply). P [] x s) same b
 
   -- it goes on
-  more_of : (P : List Answered → Reply → Store → Type 0) (s t : Store) (moment : ℤ) (g : GcGoes) (answers later : List Answered) (r : Reply) → Brings facts call db options word s P g
-      → is_none (reply_then (next_of facts call db options word moment g)) ≡ true
+  more_of : (P : List Answered → Reply → Store → Type 0) (s t : Store) (g : GcGoes) (answers later : List Answered) (r : Reply) → Brings facts call db options word s P g
+      → is_none (reply_then (next_of facts call db options word g)) ≡ true
       → ((phase : GcPhase) → g ≡ Stay phase → Knows db s phase → Ends facts call db options word phase s later r t) → P later r t
-  more_of P s t moment (Stay phase) answers later r b h f = b.1 later r t (f phase refl b.0)
-  more_of P s t moment (End phase (Ok counts)) answers later r b h f = absurd cc
-  more_of P s t moment (End phase (Err e)) answers later r b h f = absurd cc
+  more_of P s t (Stay phase) answers later r b h f = b.1 later r t (f phase refl b.0)
+  more_of P s t (End phase (Ok counts)) answers later r b h f = absurd cc
+  more_of P s t (End phase (Err e)) answers later r b h f = absurd cc
 
   none_is : (o : Option Reply) → is_none o ≡ true → o ≡ None
   none_is None h = refl
@@ -398,7 +398,7 @@ module _ (facts : Facts) (call : Call) (db : List ℕ) (named : is_db_path db �
     ends_with phase answers k r (Steps j moment mark o is next follows told) quiet replied last =
         let s' = (outcome phase moment mark w.store).store in
         let store : t ≡ s' = last ∙ (b.store ∙ ap (λ (x : Entry). entry_store x w.store) is) in
-        let ended = end_of (λ later r u. Ends facts call db options word phase w.store (((outcome phase moment mark w.store).answer, moment) ∷ later) r u) s' moment (gone_on phase moment (outcome phase moment mark w.store)) r
+        let ended = end_of (λ later r u. Ends facts call db options word phase w.store (((outcome phase moment mark w.store).answer, moment) ∷ later) r u) s' (gone_on phase moment (outcome phase moment mark w.store)) r
         (brings_then phase moment mark k (answers_well j (gc_asks db of.Manifest phase) moment mark (outcome phase moment mark w.store).answer o is quiet)) (sym follows ∙ (sym (ap reply_at is) ∙ replied)) in
         subst (λ (x : Entry). Ends facts call db options word phase w.store (answers_in (x ∷ [])) r t) (sym is)
         (subst (λ (u : Store). Ends facts call db options word phase w.store (((outcome phase moment mark w.store).answer, moment) ∷ []) r u) (sym store) ended)
@@ -419,11 +419,11 @@ module _ (facts : Facts) (call : Call) (db : List ℕ) (named : is_db_path db �
         let g = gone_on phase moment (outcome phase moment mark w.store) in
         let store : d.world.store ≡ s' = b.store ∙ ap (λ (x : Entry). entry_store x w.store) is in
         let none : o ≡ None = none_is o (sym (ap (λ (x : Entry). is_none (reply_at x)) is) ∙ goes) in
-        let more = more_of (λ later r u. Ends facts call db options word phase w.store (((outcome phase moment mark w.store).answer, moment) ∷ later) r u) s' t moment g answers (answers_in (between ++ last ∷ [])) r
+        let more = more_of (λ later r u. Ends facts call db options word phase w.store (((outcome phase moment mark w.store).answer, moment) ∷ later) r u) s' t g answers (answers_in (between ++ last ∷ [])) r
         (brings_then phase moment mark k (answers_well j (gc_asks db of.Manifest phase) moment mark (outcome phase moment mark w.store).answer o is quiet)) (ap is_none (sym follows ∙ none))
         (λ phase' stay known.
         subst (λ (s : Store). Ends facts call db options word phase' s (answers_in (between ++ last ∷ [])) r t) store
-        (walks phase' (answers ++ a ∷ []) (told ∙ ap (λ (x : Option Reply). Some (told_call facts call (answers ++ a ∷ []) x)) none) (next ∙ ap (next_of facts call db options word moment) stay)
+        (walks phase' (answers ++ a ∷ []) (told ∙ ap (λ (x : Option Reply). Some (told_call facts call (answers ++ a ∷ []) x)) none) (next ∙ ap (next_of facts call db options word) stay)
         (subst (λ (s : Store). Knows db s phase') (sym store) known) between last r rest quiets go ends)) in
         subst (λ (x : Entry). Ends facts call db options word phase w.store (answers_in (x ∷ between ++ last ∷ [])) r t) (sym is) more
 

@@ -1,5 +1,5 @@
 -- No version has the number 0: no step writes there.
-use Rattle.std.proofs.Common.{◌≡◌, ◌≢◌, ℕ, ℤ, ◌<◌, ◌^◌, Bool, true, false, List, [], ◌∷◌, Option, Some, None, refl, sym, ap, ◌∙◌, cond, arith}
+use Rattle.std.proofs.Common.{◌≡◌, ◌≢◌, ℕ, ℤ, ◌<◌, ◌^◌, Bool, true, false, List, [], ◌∷◌, Option, Some, None, refl, sym, ap, ◌∙◌, cond, arith, subst}
 use Rattle.std.specs.BTreeMap.{is_at}
 use Rattle.std.specs.Map.{lookup, remove_entry}
 use Rattle.slate_ids.specs.FinePath.{IsFine}
@@ -30,25 +30,20 @@ use Rattle.slate_log.specs.declared.read_phase.ReadPhase.TheVariants as reading
 use Rattle.slate_ids.specs.declared.gc_message.GcMessage.{GcMessage}
 use Rattle.slate_passes.specs.Pass.{pass_asks}
 use Rattle.slate_passes.specs.Rows.{log_of_pass, log_or_manifests}
-use Rattle.slate_changes.specs.declared.log_work.LogWork.TheVariants as removal
-use Rattle.slate_passes.specs.declared.gc_phase.GcPhase.TheVariants as gc
 use Rattle.slate_passes.specs.declared.pass_phase.PassPhase.{PassPhase}
 use Rattle.slate_passes.specs.declared.pass_phase.PassPhase.TheVariants as passing
-use Rattle.slate_events.specs.declared.call.Call.{Call}
 use Rattle.slate_protocol.specs.Chains.{Link, Log}
-use Rattle.slate_protocol.specs.Logs.{Chains, Author, Held, log_of, phrase_of}
+use Rattle.slate_protocol.specs.Logs.{Chains, Author, Held, Phrase, Reads, Commits, Uploads, Collects, log_of, phrase_of}
 use Rattle.slate_protocol.specs.Owners.{owner_of}
 use Rattle.slate_protocol.specs.Owners.Owner.{Version, Boundary, Table}
 use Rattle.slate_protocol.specs.Works.{asks, db_of}
 use Rattle.slate_protocol.specs.World.{World, HasDb}
-use Rattle.slate_protocol.specs.declared.party.Facts.{Facts}
 use Rattle.slate_protocol.specs.declared.work.Work.{Work}
-use Rattle.slate_protocol.specs.declared.work.Work.TheVariants.{ReadManifest, CommitManifest, ReadRecord, CommitRecord, PutTable, Pass}
 use Rattle.slate_laws.proofs.Facts.{IsMade, CommitKnows}
 use Rattle.slate_laws.proofs.Facts.IsMade.{OfVersion, OfNone}
 use Rattle.slate_laws.proofs.Paths.{version_fine, boundary_fine, version_owner, boundary_owner, table_nobodys}
 use Rattle.slate_laws.proofs.Passes.{PassKnows}
-use Rattle.slate_laws.proofs.Steps.{PhraseKnows}
+use Rattle.slate_laws.proofs.Steps.{PhraseKnows, author_of, db_in, phrase_asks, work_asks, work_db}
 use Rattle.slate_laws.proofs.Stores.{at_else}
 
 -- nothing stands at the number 0 of a log
@@ -142,8 +137,8 @@ module _ (k : LogKind) (d : List ℕ) (named : is_db_path d ≡ true) where
   read_else db j (reading.Bounding n v) = tt
   read_else db j reading.Over = tt
 
-  commit_else : (s : Store) (chains : Chains) (db : List ℕ) (j : LogKind) (author : Author) (phase : CommitPhase (Held j)) → is_db_path db ≡ true → CommitKnows (log_of j) db s (chains j db) author phase → WritesElse zero_path (commit_asks db j phase)
-  commit_else s chains db j author (committing.Putting n bytes v) own h = version_else j db n own (positive (log_of j) (chains j db) author n v h.made) h.small
+  commit_else : (s : Store) (chains : Chains) (db : List ℕ) (j : LogKind) (author : Author) (phase : CommitPhase (Held j)) → is_db_path db ≡ true → CommitKnows (log_of j) db s (chains j db) author phase → WritesElse zero_path (commit_asks db (log_of j).kind phase)
+  commit_else s chains db j author (committing.Putting n bytes v) own h = version_else (log_of j).kind db n own (positive (log_of j) (chains j db) author n v h.made) h.small
   commit_else s chains db j author (committing.Bounding n v) own h = tt
   commit_else s chains db j author committing.Over own h = tt
 
@@ -165,17 +160,17 @@ module _ (k : LogKind) (d : List ℕ) (named : is_db_path d ≡ true) where
   collect_else s chains db pass (passing.Deleting (m ∷ left) counts) own h = tt
   collect_else s chains db pass passing.Over own h = tt
 
-  work_else : (s : Store) (chains : Chains) (n : ℕ) (facts : Facts) (call : Call) (work : Work) → is_db_path (db_of work) ≡ true → PhraseKnows s chains n facts call (phrase_of work) → WritesElse zero_path (asks work)
-  work_else s chains n facts call (ReadManifest purpose db phase) own h = read_else db logs.Manifest phase
-  work_else s chains n facts call (CommitManifest purpose now db phase) own h = commit_else s chains db logs.Manifest _ phase own h
-  work_else s chains n facts call (ReadRecord purpose db phase) own h = read_else db logs.Compactions phase
-  work_else s chains n facts call (CommitRecord purpose now db phase) own h = commit_else s chains db logs.Compactions _ phase own h
-  work_else s chains n facts call (PutTable db upload bytes) own h = table_else db upload.table own h
-  work_else s chains n facts call (Pass db settings filter (gc.Removing (removal.Reading phase))) own h = read_else db logs.Manifest phase
-  work_else s chains n facts call (Pass db settings filter (gc.Removing (removal.Committing now phase))) own h = commit_else s chains db logs.Manifest _ phase own h
-  work_else s chains n facts call (Pass db settings filter (gc.Collecting at phase)) own h = collect_else s chains db settings.pass phase own h.1
+  phrase_else : (s : Store) (chains : Chains) (n : ℕ) (phrase : Phrase) → is_db_path (db_in phrase) ≡ true → PhraseKnows s chains n phrase → WritesElse zero_path (phrase_asks phrase)
+  phrase_else s chains n (Reads k db phase) own h = read_else db (log_of k).kind phase
+  phrase_else s chains n (Commits k db puts now phase) own h = commit_else s chains db k (author_of n puts now) phase own h
+  phrase_else s chains n (Uploads db table bytes) own h = table_else db table own h
+  phrase_else s chains n (Collects db pass phase) own h = collect_else s chains db pass phase own h.1
+
+  work_else : (s : Store) (chains : Chains) (n : ℕ) (work : Work) → is_db_path (db_of work) ≡ true → PhraseKnows s chains n (phrase_of work) → WritesElse zero_path (asks work)
+  work_else s chains n work own h =
+      subst (WritesElse zero_path) (sym (work_asks work)) (phrase_else s chains n (phrase_of work) (subst (λ d. is_db_path d ≡ true) (sym (work_db work)) own) h)
 
   -- nothing stands there after a step where nothing stood there before
-  pub zero_stays : (s : Store) (chains : Chains) (n : ℕ) (facts : Facts) (call : Call) (work : Work) (moment : ℤ) (mark : Mark) → is_db_path (db_of work) ≡ true → PhraseKnows s chains n facts call (phrase_of work) → object_at zero_path s ≡ None
+  pub zero_stays : (s : Store) (chains : Chains) (n : ℕ) (work : Work) (moment : ℤ) (mark : Mark) → is_db_path (db_of work) ≡ true → PhraseKnows s chains n (phrase_of work) → object_at zero_path s ≡ None
       → object_at zero_path (effect mark (asks work) moment s).store ≡ None
-  zero_stays s chains n facts call work moment mark own h none = still_none zero_path s none (asks work) moment mark (work_else s chains n facts call work own h)
+  zero_stays s chains n work moment mark own h none = still_none zero_path s none (asks work) moment mark (work_else s chains n work own h)

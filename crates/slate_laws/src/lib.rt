@@ -17,6 +17,6 @@ pub use exact_passes::{dry_run, exact_pass, manifest_picks};
 pub use needs::needed_versions;
 pub use passes_alone::undisturbed_pass;
 pub use safe_parties::{
-    above_boundary, commits_hold, due_bounded, epochs_stand, late_put_is_refused, picks_spare,
-    reads_answer,
+    above_boundary, changes_fit, commits_hold, due_bounded, epochs_stand, late_put_is_refused,
+    picks_spare, reads_answer,
 };

@@ -15,18 +15,17 @@ ghost use Rattle.slate_log.specs.declared.log_kind.LogKind.{LogKind};
 ghost use Rattle.slate_log.specs.declared.log_kind.LogKind.TheVariants as logs;
 ghost use Rattle.slate_log.specs.declared.read_phase.ReadPhase.{ReadPhase};
 ghost use Rattle.slate_protocol.specs.Chains.{bound_in, AgreesAt};
-ghost use Rattle.slate_protocol.specs.Holding.{IsVersion, IsMadeOf, Each, EpochsStand, IsManifestThat, IsRefused, picks_in, due_in};
+ghost use Rattle.slate_protocol.specs.Holding.{IsVersion, IsMadeOf, Each, EpochsStand, Fits, IsManifestThat, IsRefused, picks_in, due_in};
 ghost use Rattle.slate_protocol.specs.Lawful.{IsAccepted, AreGood, chains_at_end, gone_after, world_at_end};
-ghost use Rattle.slate_protocol.specs.Logs.{Held, log_of, manifests, phrase_of};
+ghost use Rattle.slate_protocol.specs.Logs.{Held, Puts, log_of, manifests, phrase_of};
 ghost use Rattle.slate_protocol.specs.Logs.Phrase.{Reads, Commits, Collects};
 ghost use Rattle.slate_protocol.specs.Reach.{IsSpare};
-ghost use Rattle.slate_protocol.specs.Rows.{follow};
-ghost use Rattle.slate_protocol.specs.Works.{asks, goes};
+ghost use Rattle.slate_protocol.specs.Rows.{moved};
+ghost use Rattle.slate_protocol.specs.Works.{asks};
 ghost use Rattle.slate_protocol.specs.World.{HasDb, party_of};
 ghost use Rattle.slate_protocol.specs.declared.party.Party.{Party};
 ghost use Rattle.slate_protocol.specs.declared.party.State.TheVariants.{Busy};
 ghost use Rattle.slate_protocol.specs.declared.party.Task.{Task};
-ghost use Rattle.slate_protocol.specs.declared.work.Purpose.{Purpose};
 
 /// An object that stands above the boundary has the bytes that were committed at its number, and no other stands there.
 pub fn above_boundary()
@@ -37,14 +36,21 @@ pub fn above_boundary()
         → AgreesAt (log_of k) db (world_at_end specs events).store (chains_at_end specs events k db) number }
 {}
 
-/// A party that is about to commit a version holds what it makes of the committed version before, for the purpose of its commit.
+/// A party that is about to commit a version holds what it makes of the committed version before, by what it puts.
 pub fn commits_hold()
     ensures { (specs : List DbSpec) (events : List Event) (n : ℕ) (p : Party) (task : Task)
-        (k : LogKind) (db : List ℕ) (purpose : Purpose) (now : ℤ) (number : ℕ) (bytes : List ℕ) (v : Held k)
+        (k : LogKind) (db : List ℕ) (puts : Puts) (now : ℤ) (number : ℕ) (bytes : List ℕ) (v : Held k)
         → IsAccepted specs → party_of n (world_at_end specs events).parties ≡ Some p → p.state ≡ Busy task
-        → phrase_of task.work ≡ Commits k db purpose now (Putting number bytes v)
-        → IsMadeOf k (chains_at_end specs events k db)
-        (record { party = n; facts = p.facts; call = task.call; purpose = purpose; now = now }) number v }
+        → phrase_of task.work ≡ Commits k db puts now (Putting number bytes v)
+        → IsMadeOf k (chains_at_end specs events k db) (record { party = n; puts = puts; now = now }) number v }
+{}
+
+/// What a party in a call puts is what its facts and its call say: the change of the call, and of a compactor that of the step, with its epoch
+/// and what it holds.
+pub fn changes_fit()
+    ensures { (specs : List DbSpec) (events : List Event) (n : ℕ) (p : Party) (task : Task)
+        → IsAccepted specs → party_of n (world_at_end specs events).parties ≡ Some p → p.state ≡ Busy task
+        → Fits p.facts task.call task.work }
 {}
 
 /// A version that the end of a read answers is a committed one, whatever its party's step was marked.
@@ -84,21 +90,21 @@ pub fn due_bounded()
 /// refusal, whatever the mark: no call whose put was collected is answered as committed.
 pub fn late_put_is_refused()
     ensures { (specs : List DbSpec) (events : List Event) (n : ℕ) (p : Party) (task : Task)
-        (k : LogKind) (db : List ℕ) (purpose : Purpose) (now : ℤ) (number : ℕ) (v : Held k)
+        (k : LogKind) (db : List ℕ) (puts : Puts) (now : ℤ) (number : ℕ) (v : Held k)
         (front back : List ObjectPath) (mark : Mark) (moment : ℤ)
         → IsAccepted specs → AreGood specs events
         → party_of n (world_at_end specs events).parties ≡ Some p → p.state ≡ Busy task
-        → phrase_of task.work ≡ Commits k db purpose now (Bounding number v)
+        → phrase_of task.work ≡ Commits k db puts now (Bounding number v)
         → gone_after specs events ≡ front ++ version_path k db number ∷ back
-        → IsRefused (follow p.facts task.call moment
-        (goes task.work moment (effect mark (asks task.work) moment (world_at_end specs events).store).answer)).next }
+        → IsRefused (moved p.facts task.call task.work moment
+        (effect mark (asks task.work) moment (world_at_end specs events).store).answer).next }
 {}
 
 /// The epochs that a party holds stand: what an open of a compactor has raised is at most the compactor epoch of the greatest manifest
-/// of its database, and where a compactor is open, its epoch is at most that one and the epoch of the greatest record; these versions
-/// are there.
+/// of its database, and at most the epoch of the greatest record once it was given to that, before its reset ended; where a compactor is
+/// open, its epoch is at most both; these versions are there.
 pub fn epochs_stand()
     ensures { (specs : List DbSpec) (events : List Event) (n : ℕ) (p : Party)
         → IsAccepted specs → party_of n (world_at_end specs events).parties ≡ Some p
-        → EpochsStand (chains_at_end specs events) p.facts }
+        → EpochsStand (chains_at_end specs events) p }
 {}

@@ -10,7 +10,7 @@ use Rattle.slate_model.specs.declared.manifest.Manifest.{Manifest}
 use Rattle.slate_updates.specs.Changes.{made, floored, with_floor}
 use Rattle.slate_updates.specs.Checkpoints.{written, replaced, refreshed, pushed, version_to_name, checkpoint_at, has_checkpoint, with_checkpoints, without_checkpoint, new_checkpoint, expiring, expiry}
 use Rattle.slate_updates.specs.declared.manifest_change.ManifestChange.{ManifestChange}
-use Rattle.slate_updates.specs.declared.manifest_change.ManifestChange.TheVariants.{RaiseWriter, Flush, WriteCheckpoint, ReplaceCheckpoint, RefreshCheckpoint, DeleteCheckpoint, DropExpired}
+use Rattle.slate_updates.specs.declared.manifest_change.ManifestChange.TheVariants.{RaiseWriter, Flush, WriteCheckpoint, ReplaceCheckpoint, RefreshCheckpoint, DeleteCheckpoint, DropExpired, RaiseCompactor, KeepTrees, MergeTrees}
 use Rattle.slate_manifests.specs.AboutCheckpoints.{checkpoint_of}
 
 -- ---- lists of checkpoints
@@ -95,6 +95,9 @@ stands_in_new RaiseWriter now n m new id which h = absurd cc
 stands_in_new (Flush writer batch) now n m new id which h = absurd cc
 stands_in_new (DeleteCheckpoint own) now n m new id which h = absurd cc
 stands_in_new DropExpired now n m new id which h = absurd cc
+stands_in_new RaiseCompactor now n m new id which h = absurd cc
+stands_in_new (KeepTrees compactor checkpoint) now n m new id which h = absurd cc
+stands_in_new (MergeTrees compactor trees outputs) now n m new id which h = absurd cc
 
 -- in what was read, where nothing was made
 pub stands_in_old : (change : ManifestChange) (now : ℤ) (n : ℕ) (m : Manifest) (id : List ℕ) → checkpoint_of change ≡ Some id → made change now n m ≡ Ok None → has_checkpoint id m ≡ true
@@ -107,3 +110,6 @@ stands_in_old RaiseWriter now n m id which h = absurd cc
 stands_in_old (Flush writer batch) now n m id which h = absurd cc
 stands_in_old (DeleteCheckpoint own) now n m id which h = absurd cc
 stands_in_old DropExpired now n m id which h = absurd cc
+stands_in_old RaiseCompactor now n m id which h = absurd cc
+stands_in_old (KeepTrees compactor checkpoint) now n m id which h = absurd cc
+stands_in_old (MergeTrees compactor trees outputs) now n m id which h = absurd cc

@@ -4,6 +4,7 @@ use Rattle.slate_ids.specs.Answers.{Gives}
 use Rattle.slate_ids.specs.declared.error.SlateDBError.{SlateDBError}
 use Rattle.slate_ids.specs.declared.error.SlateDBError.TheVariants.{CheckpointMissing}
 use Rattle.slate_layout.specs.declared.codec.ManifestCodec.{ManifestCodec}
+use Rattle.slate_log.specs.declared.right.Right.TheVariants.{Plain}
 use Rattle.slate_log.specs.declared.log_kind.LogKind.TheVariants as logs
 use Rattle.slate_log.specs.declared.right.Right.{Right}
 use Rattle.slate_log.specs.declared.sequenced.Sequenced.{Sequenced}
@@ -21,7 +22,7 @@ use Rattle.slate_txn.specs.Creating.{Creates}
 use Rattle.slate_txn.specs.Fence.{FencedBy, raising}
 use Rattle.slate_txn.specs.Loading.{LoadRan, loaded, try_loaded}
 use Rattle.slate_txn.specs.Holder.{Holder}
-use Rattle.slate_updates.specs.Changes.{made, right_of}
+use Rattle.slate_updates.specs.Changes.{made}
 use Rattle.slate_updates.specs.Checkpoints.{checkpoint_at}
 use Rattle.slate_updates.specs.Rules.{manifest_refusal}
 use Rattle.slate_updates.specs.Writers.{epoch_of, with_epoch}
@@ -46,9 +47,9 @@ manifest_rules rules id old new right = manifest_refusal id old new right
 abbrev pub manifest_ways : Making Manifest → Right → Ways Manifest ManifestCodec ManifestRules
 manifest_ways changed right = ways_of manifest_decoded manifest_encoded manifest_rules changed right
 
--- a change that was handed in was committed at a moment, with so many tries
+-- a change that was handed in was committed at a moment, under the plain right, with so many tries
 abbrev pub Changed : ManifestChange → ℤ → ℕ → Told → Told → ManifestHolder → ManifestHolder → Result (Unit {0}) SlateDBError → Type 0
-Changed change moment tries old new from to result = Applies (manifest_ways (made change moment) (right_of change)) moment tries old new from to result
+Changed change moment tries old new from to result = Applies (manifest_ways (made change moment) Plain) moment tries old new from to result
 
 -- the checkpoint of an id that stands in a manifest
 abbrev pub standing : List ℕ → Manifest → Result Checkpoint SlateDBError
@@ -68,7 +69,7 @@ pub record Checkpointed (id : List ℕ) (change : ManifestChange) (moment : ℤ)
 -- the same of a fenced holder: a version whose epoch of its kind is above the own one refuses
 abbrev pub FencedChanged : ManifestChange → ℤ → ℕ → Told → Told → FencedManifest → FencedManifest → Result (Unit {0}) SlateDBError → Type 0
 FencedChanged change moment tries old new from to result =
-    Applies (manifest_ways (fenced_made epoch_of from.epochs from.epoch (made change moment)) (right_of change)) moment tries old new from.holder to.holder result
+    Applies (manifest_ways (fenced_made epoch_of from.epochs from.epoch (made change moment)) Plain) moment tries old new from.holder to.holder result
 
 -- and of its answer
 pub record FencedCheckpointed (id : List ℕ) (change : ManifestChange) (moment : ℤ) (tries : ℕ) (old new : Told) (from to : FencedManifest) (result : Result Checkpoint SlateDBError) : Type 0 where

@@ -8,7 +8,7 @@ use Rattle.slate_log.specs.declared.right.Right.TheVariants.{Plain}
 use Rattle.slate_model.specs.declared.manifest.Manifest.{Manifest}
 use Rattle.slate_txn.specs.Changing.{Making}
 use Rattle.slate_txn.specs.FencedApplying.{fenced_made}
-use Rattle.slate_updates.specs.Changes.{made, right_of}
+use Rattle.slate_updates.specs.Changes.{made}
 use Rattle.slate_updates.specs.Writers.{epoch_of, with_epoch}
 use Rattle.slate_updates.specs.declared.epochs.ManifestEpochs.{ManifestEpochs}
 use Rattle.slate_updates.specs.declared.manifest_change.ManifestChange.{ManifestChange}
@@ -45,13 +45,13 @@ change_inside : (change : ManifestChange) (moment : ℤ) (n : ℕ) (m : Manifest
 change_inside change moment n m = told (made change moment n m) (change_so change moment n m)
 
 pub changes_inside : (change : ManifestChange) (moment : ℤ) → WaysInside (change_ways change moment)
-changes_inside change moment = ways_inside (made change moment) (right_of change) (change_inside change moment)
+changes_inside change moment = ways_inside (made change moment) Plain (change_inside change moment)
 
 pub fences_inside : (kind : ManifestEpochs) (own : ℕ) (changed : Making Manifest) (right : Right) → ((n : ℕ) (m : Manifest) → NotOutside (changed n m)) → WaysInside (may_of (manifest_ways (fenced_made epoch_of kind own changed) right))
 fences_inside kind own changed right inside = plain.fences_inside manifest_decoded manifest_encoded manifest_rules manifests_plain epoch_of kind own changed right inside
 
 pub all_fenced_inside : (kind : ManifestEpochs) (own : ℕ) (change : ManifestChange) (moment : ℤ) → WaysInside (fenced_ways kind own change moment)
-all_fenced_inside kind own change moment = fences_inside kind own (made change moment) (right_of change) (change_inside change moment)
+all_fenced_inside kind own change moment = fences_inside kind own (made change moment) Plain (change_inside change moment)
 
 pub raises_inside : (kind : ManifestEpochs) → WaysInside (raise_ways kind)
 raises_inside kind = plain.raises_inside manifest_decoded manifest_encoded manifest_rules manifests_plain (epoch_of kind) (with_epoch kind) Plain

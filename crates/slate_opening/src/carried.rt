@@ -1,14 +1,12 @@
 //! The ids that events and opening values carried.
 ghost use Rattle.std.specs.Prelude.{◌≡◌, IfOk, OnOk, OnErr};
-ghost use Rattle.slate_protocol.specs.Calls as calls;
 ghost use Rattle.slate_protocol.specs.Ids as ids;
 ghost use Rattle.slate_ids.specs.Ulids.{id_cmp as ulid_cmp};
 ghost use Rattle.slate_opening.specs.Pools.{without};
 
-use crate::call_ids::{fresh_checkpoints, fresh_ulids, named_checkpoints, named_ulids};
 use crate::pools::{Pool, add_ids, is_stale_among, take_back};
-use slate_events::Call;
 use slate_ids::{CheckpointId, OutOfMemory, Ulid};
+use slate_protocol::CallIds;
 use std::alloc::Global;
 use std::marker::Model;
 
@@ -27,56 +25,36 @@ impl Model for Carried {
     ghost view = { λ a. record { checkpoints = a.checkpoints.entries; ulids = a.ulids.entries } };
 }
 
-// Whether a fresh id of a checkpoint was carried before, or comes twice in the call itself.
+// Whether a fresh id of a checkpoint was carried before, or comes twice.
 fn is_checkpoint_stale(
     alloc: Global,
     pool: &Pool<CheckpointId>,
-    call: &Call,
+    own: &CallIds,
 ) -> Result<bool, OutOfMemory>
     ensures { IfOk result (λ b. b ≡ ids.is_stale_among ids.checkpoint_cmp
-        (calls.fresh_checkpoints call.now) (calls.named_checkpoints call.now) pool.now.entries) }
+        own.now.fresh_checkpoints own.now.named_checkpoints pool.now.entries) }
 {
-    let fresh = fresh_checkpoints(alloc, call)?;
-    let named = named_checkpoints(alloc, call)?;
-    is_stale_among(alloc, pool, fresh.as_slice(), named.as_slice())
+    let fresh = own.fresh_checkpoints.as_slice();
+    is_stale_among(alloc, pool, fresh, own.named_checkpoints.as_slice())
 }
 
-// Whether a fresh id of a table, view or compaction was carried before, or comes twice in the call itself.
-fn is_ulid_stale(alloc: Global, pool: &Pool<Ulid>, call: &Call) -> Result<bool, OutOfMemory>
+// Whether a fresh id of a table, view or compaction was carried before, or comes twice.
+fn is_ulid_stale(alloc: Global, pool: &Pool<Ulid>, own: &CallIds) -> Result<bool, OutOfMemory>
     ensures { IfOk result (λ b. b ≡ ids.is_stale_among ulid_cmp
-        (calls.fresh_ulids call.now) (calls.named_ulids call.now) pool.now.entries) }
+        own.now.fresh_ulids own.now.named_ulids pool.now.entries) }
 {
-    let fresh = fresh_ulids(alloc, call)?;
-    let named = named_ulids(alloc, call)?;
-    is_stale_among(alloc, pool, fresh.as_slice(), named.as_slice())
+    let fresh = own.fresh_ulids.as_slice();
+    is_stale_among(alloc, pool, fresh, own.named_ulids.as_slice())
 }
 
-/// Whether a fresh id of a call was carried before, or comes twice in the call itself. A call without ids takes no
-/// memory.
-pub fn is_stale(alloc: Global, carried: &Carried, call: &Call) -> Result<bool, OutOfMemory>
-    ensures { IfOk result (λ b. b ≡ ids.is_stale carried.now call.now) }
+/// Whether a fresh one of these ids was carried before, or comes twice among them. Where there are none it takes no memory.
+pub fn are_stale(alloc: Global, carried: &Carried, own: &CallIds) -> Result<bool, OutOfMemory>
+    ensures { IfOk result (λ b. b ≡ ids.are_stale carried.now own.now) }
 {
-    if is_checkpoint_stale(alloc, &carried.checkpoints, call)? {
+    if is_checkpoint_stale(alloc, &carried.checkpoints, own)? {
         return Ok(true);
     }
-    is_ulid_stale(alloc, &carried.ulids, call)
-}
-
-// Notes the ids of checkpoints that a call of a party carries, or none of them. Gives the new ones.
-fn carry_checkpoints(
-    alloc: Global,
-    pool: &mut Pool<CheckpointId>,
-    number: u32,
-    call: &Call,
-) -> Result<Vec<CheckpointId>, OutOfMemory>
-    ensures ok { OnOk result (pool.new.entries ≡ ids.with_ids ids.checkpoint_cmp
-        (ids.ids_of number (calls.fresh_checkpoints call.now) (calls.named_checkpoints call.now)) pool.old.entries) }
-    ensures back { IfOk result (λ added. without ids.checkpoint_cmp added.items pool.new.entries ≡ pool.old.entries) }
-    ensures err { OnErr result (pool.new.entries ≡ pool.old.entries) }
-{
-    let fresh = fresh_checkpoints(alloc, call)?;
-    let named = named_checkpoints(alloc, call)?;
-    add_ids(alloc, pool, number, fresh.as_slice(), named.as_slice())
+    is_ulid_stale(alloc, &carried.ulids, own)
 }
 
 // Notes the ids of tables, views and compactions that a call of a party carries, or none of them.
@@ -84,15 +62,14 @@ fn carry_ulids(
     alloc: Global,
     pool: &mut Pool<Ulid>,
     number: u32,
-    call: &Call,
+    own: &CallIds,
 ) -> Result<(), OutOfMemory>
     ensures ok { OnOk result (pool.new.entries ≡ ids.with_ids ulid_cmp
-        (ids.ids_of number (calls.fresh_ulids call.now) (calls.named_ulids call.now)) pool.old.entries) }
+        (ids.ids_of number own.now.fresh_ulids own.now.named_ulids) pool.old.entries) }
     ensures err { OnErr result (pool.new.entries ≡ pool.old.entries) }
 {
-    let fresh = fresh_ulids(alloc, call)?;
-    let named = named_ulids(alloc, call)?;
-    let _ = add_ids(alloc, pool, number, fresh.as_slice(), named.as_slice())?;
+    let fresh = own.fresh_ulids.as_slice();
+    let _ = add_ids(alloc, pool, number, fresh, own.named_ulids.as_slice())?;
     Ok(())
 }
 
@@ -101,13 +78,15 @@ pub fn carry(
     alloc: Global,
     carried: &mut Carried,
     number: u32,
-    call: &Call,
+    own: &CallIds,
 ) -> Result<(), OutOfMemory>
-    ensures ok { OnOk result (carried.new ≡ ids.with_call number call.now carried.old) }
+    ensures ok { OnOk result (carried.new ≡ ids.with_call_ids number own.now carried.old) }
     ensures err { OnErr result (carried.new ≡ carried.old) }
 {
-    let added = carry_checkpoints(alloc, &mut carried.checkpoints, number, call)?;
-    match carry_ulids(alloc, &mut carried.ulids, number, call) {
+    let fresh = own.fresh_checkpoints.as_slice();
+    let named = own.named_checkpoints.as_slice();
+    let added = add_ids(alloc, &mut carried.checkpoints, number, fresh, named)?;
+    match carry_ulids(alloc, &mut carried.ulids, number, own) {
         Ok(()) => Ok(()),
         Err(e) => {
             take_back(&mut carried.checkpoints, added);

@@ -2,7 +2,6 @@
 //! and committed numbers from then on.
 #![tactic(auto)]
 
-mod call_ids;
 mod carried;
 mod causes;
 mod ids;
@@ -14,7 +13,7 @@ mod opening_ids;
 mod pools;
 mod tallies;
 
-pub use carried::{Carried, carry, is_stale};
+pub use carried::{Carried, are_stale, carry};
 pub use laws::nothing_comes_twice;
 pub use new_error::NewError;
 pub use opening::{Opening, names, opened};

@@ -1,7 +1,6 @@
 //! The parties of a cluster, and what an event does to its state.
 #![tactic(auto)]
 
-mod kinds;
 mod parties;
 mod state;
 

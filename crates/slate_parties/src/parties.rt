@@ -8,7 +8,7 @@ ghost use Rattle.slate_parties.specs.Moved.{Stops, is_busy, after_reply, StateMo
 use slate_compactor::LocalState;
 use slate_events::{Call, Entry, PartyKind, Reply};
 use slate_ids::{DbPath, Millis, OutOfMemory};
-use slate_protocol::{Facts, Kept, Party, State, Task, Uploads};
+use slate_protocol::{Facts, Party, State, Task, Uploads};
 use slate_steps::{Beginning, Onward, PartyStep, begin, is_due, step_party, take_held};
 use slate_store::{Mark, MemoryStore};
 use std::alloc::Global;
@@ -25,8 +25,7 @@ pub(crate) fn newcomer(alloc: Global, number: u32, kind: PartyKind, db: DbPath) 
             db,
             epoch: None,
             uploads: Uploads::new(alloc),
-            kept: Kept::Nothing,
-            local: None,
+            compactor: None,
         },
         state: State::Resting,
     }

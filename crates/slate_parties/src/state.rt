@@ -1,16 +1,17 @@
 //! The state of a cluster, and what an event does to it.
 ghost use Rattle.std.specs.Prelude.{◌≡◌, IfOk, OnErr, Some};
 ghost use Rattle.slate_events.specs.declared.event.Event.TheVariants as events;
+ghost use Rattle.slate_protocol.specs.Ids.{call_ids as call_ids_of};
 ghost use Rattle.slate_protocol.specs.World.{World, refuses_start as start_refused};
 ghost use Rattle.slate_opening.specs.Opened.{world_of};
 ghost use Rattle.slate_parties.specs.Events.{Happened};
 
-use crate::kinds::has_call;
 use crate::parties::{newcomer, start, step, stop, take_start};
 use slate_events::{Call, Entry, Event, PartyKind};
 use slate_ids::{DbPath, Millis, OutOfMemory};
-use slate_opening::{Carried, Opening, Tallies, carry, count, is_stale, tally};
-use slate_protocol::Party;
+use slate_opening::{Carried, Opening, Tallies, are_stale, carry, count, tally};
+use slate_protocol::{CallIds, Party};
+use slate_steps::{call_ids, has_call};
 use slate_store::{Mark, MemoryStore};
 use std::alloc::Global;
 use std::collections::BTreeMap;
@@ -28,7 +29,8 @@ pub struct ClusterState {
 }
 
 impl Model for ClusterState {
-    ghost use Rattle.slate_protocol.specs.World.{World};
+    ghost use Rattle.slate_protocol.specs.Ids.{call_ids as call_ids_of};
+    ghost use Rattle.slate_protocol.specs.World.{World, refuses_start as start_refused};
 
     ghost Value = { World };
 
@@ -41,17 +43,18 @@ impl Model for ClusterState {
     } };
 }
 
-// Whether a start of a call by a party is bad.
+// Whether a start of a call with these ids by a party is bad.
 fn refuses_start(
     alloc: Global,
     carried: &Carried,
     party: &Party,
     call: &Call,
+    ids: &CallIds,
 ) -> Result<bool, OutOfMemory>
-    ensures { IfOk result (λ b. (w : World) → w.carried ≡ carried.now
+    ensures { IfOk result (λ b. (w : World) → w.carried ≡ carried.now → ids.now ≡ call_ids_of call.now
         → b ≡ start_refused w call.now (Some party.now)) }
 {
-    Ok(!has_call(party.facts.kind, call) || is_stale(alloc, carried, call)?)
+    Ok(!has_call(party.facts.kind, call) || are_stale(alloc, carried, ids)?)
 }
 
 impl ClusterState {
@@ -137,11 +140,12 @@ impl ClusterState {
         let Some(party) = self.parties.get_mut(&number) else {
             return Ok(None);
         };
-        if refuses_start(alloc, &self.carried, party, call)? {
+        let ids = call_ids(alloc, call)?;
+        if refuses_start(alloc, &self.carried, party, call, &ids)? {
             return Ok(None);
         }
         let begun = start(alloc, party, call)?;
-        match carry(alloc, &mut self.carried, number, call) {
+        match carry(alloc, &mut self.carried, number, &ids) {
             Ok(()) => Ok(Some(take_start(number, party, begun))),
             Err(e) => {
                 drop(begun);

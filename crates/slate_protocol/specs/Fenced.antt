@@ -46,9 +46,9 @@ IsFencedBy epoch own (l ∷ c) = NotBelow epoch own l.by l.value c × IsFencedBy
 
 -- no writer and no compactor committed a manifest below its kind's epoch in an earlier one
 pub record IsFenced (c : Chain logs.Manifest) : Type 0 where
-  pub writers : IsFencedBy (epoch_of Writer) (λ author m. writer_in (change_by author) m) c
-  pub compactors : IsFencedBy (epoch_of Compactor) (λ author m. compactor_in (change_by author) m) c
+  pub writers : IsFencedBy (epoch_of Writer) (λ author m. writer_in (change_by author.puts) m) c
+  pub compactors : IsFencedBy (epoch_of Compactor) (λ author m. compactor_in (change_by author.puts) m) c
 
 -- no compactor committed a record below the epoch of an earlier one
 abbrev pub IsRecordFenced : Chain logs.Compactions → Type 0
-IsRecordFenced c = IsFencedBy record_epoch (λ author r. record_epoch_in (record_change_by author)) c
+IsRecordFenced c = IsFencedBy record_epoch (λ author r. record_epoch_in (record_change_by author.puts)) c

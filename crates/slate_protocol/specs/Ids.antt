@@ -10,6 +10,7 @@ use Rattle.std.specs.declared.cmp.Ordering.{Ordering}
 use Rattle.slate_ids.specs.Ulids.{id_cmp as ulid_cmp}
 use Rattle.slate_events.specs.declared.call.Call.{Call}
 use Rattle.slate_protocol.specs.Calls.{fresh_checkpoints, named_checkpoints, fresh_ulids, named_ulids}
+use Rattle.slate_protocol.specs.declared.call_ids.CallIds.{CallIds}
 use Rattle.slate_protocol.specs.declared.carrier.Carrier.{Carrier}
 
 -- a pool of ids: those that were carried, ascending, each with what is known of it
@@ -38,11 +39,19 @@ abbrev pub is_stale_among : {K : Type 0} → (K → K → Ordering) → List K �
 is_stale_among cmp [] named pool = false
 is_stale_among cmp (id ∷ ids) named pool = is_carried cmp id pool || list_any (is_at (cmp id)) (ids ++ named) || is_stale_among cmp ids named pool
 
+-- the ids that a call carries
+abbrev pub call_ids : Call → CallIds
+call_ids call = record { fresh_checkpoints = fresh_checkpoints call; named_checkpoints = named_checkpoints call; fresh_ulids = fresh_ulids call; named_ulids = named_ulids call }
+
+-- whether a fresh one of these ids was carried before, or comes twice among them
+abbrev pub are_stale : Carried → CallIds → Bool
+are_stale carried ids =
+    is_stale_among checkpoint_cmp ids.fresh_checkpoints ids.named_checkpoints carried.checkpoints
+    || is_stale_among ulid_cmp ids.fresh_ulids ids.named_ulids carried.ulids
+
 -- whether a fresh id of a call was carried before, or comes twice in the call itself
 abbrev pub is_stale : Carried → Call → Bool
-is_stale carried call =
-    is_stale_among checkpoint_cmp (fresh_checkpoints call) (named_checkpoints call) carried.checkpoints
-    || is_stale_among ulid_cmp (fresh_ulids call) (named_ulids call) carried.ulids
+is_stale carried call = are_stale carried (call_ids call)
 
 -- ---- what is carried
 
@@ -75,9 +84,13 @@ abbrev pub with_ids : {K : Type 0} → (K → K → Ordering) → List (K × Car
 with_ids cmp [] pool = pool
 with_ids cmp (id ∷ ids) pool = with_ids cmp ids (with_id cmp id pool)
 
+-- the ids after a start of a call with these ids
+abbrev pub with_call_ids : ℕ → CallIds → Carried → Carried
+with_call_ids n ids carried = record {
+  checkpoints = with_ids checkpoint_cmp (ids_of n ids.fresh_checkpoints ids.named_checkpoints) carried.checkpoints;
+  ulids = with_ids ulid_cmp (ids_of n ids.fresh_ulids ids.named_ulids) carried.ulids;
+}
+
 -- the ids after a start
 abbrev pub with_call : ℕ → Call → Carried → Carried
-with_call n call carried = record {
-  checkpoints = with_ids checkpoint_cmp (ids_of n (fresh_checkpoints call) (named_checkpoints call)) carried.checkpoints;
-  ulids = with_ids ulid_cmp (ids_of n (fresh_ulids call) (named_ulids call)) carried.ulids;
-}
+with_call n call carried = with_call_ids n (call_ids call) carried

@@ -1,7 +1,6 @@
 pub mod Uploaded
 pub mod Works
 pub mod Calls
-pub mod PartyChanges
 pub mod Rows
 pub mod Ids
 pub mod World

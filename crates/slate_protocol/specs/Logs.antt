@@ -5,6 +5,7 @@ use Rattle.slate_model.specs.declared.manifest.Manifest.{Manifest}
 use Rattle.slate_records.specs.Records.{Record}
 use Rattle.slate_updates.specs.Checkpoints.{is_named}
 use Rattle.slate_updates.specs.Rules.{manifest_refusal}
+use Rattle.slate_record_updates.specs.RecordEpochs.{first_record}
 use Rattle.slate_record_updates.specs.RecordChanges.{made as record_made, right_of as record_right_of, fence_of as record_fence_of}
 use Rattle.slate_record_updates.specs.RecordRules.{record_refusal_of}
 use Rattle.slate_record_updates.specs.declared.record_change.RecordChange.{RecordChange}
@@ -21,52 +22,72 @@ use Rattle.slate_log.specs.declared.commit_phase.CommitPhase.TheVariants.{Puttin
 use Rattle.slate_log.specs.declared.log_kind.LogKind.{LogKind}
 use Rattle.slate_log.specs.declared.log_kind.LogKind.TheVariants as logs
 use Rattle.slate_log.specs.declared.read_phase.ReadPhase.{ReadPhase}
-use Rattle.slate_changes.specs.declared.log_work.LogWork.TheVariants as removal
-use Rattle.slate_passes.specs.declared.gc_phase.GcPhase.TheVariants as passing
+use Rattle.slate_log.specs.declared.read_phase.ReadPhase.TheVariants.{Listing}
+use Rattle.slate_changes.specs.declared.log_work.LogWork.{LogWork}
+use Rattle.slate_changes.specs.declared.log_work.LogWork.TheVariants.{Reading, Committing}
+use Rattle.slate_compactor_calls.specs.Commits.{ManifestChanging, RecordChanging}
+use Rattle.slate_compactor_calls.specs.declared.open_phase.OpenPhase.{OpenPhase}
+use Rattle.slate_compactor_calls.specs.declared.open_phase.OpenPhase.TheVariants as opening
+use Rattle.slate_compactor_calls.specs.declared.state_phase.StatePhase.{StatePhase}
+use Rattle.slate_compactor_calls.specs.declared.state_phase.StatePhase.TheVariants as compacting
+use Rattle.slate_passes.specs.declared.gc_phase.GcPhase.{GcPhase}
+use Rattle.slate_passes.specs.declared.gc_phase.GcPhase.TheVariants.{Removing, Collecting}
 use Rattle.slate_passes.specs.declared.pass_phase.PassPhase.{PassPhase}
-use Rattle.slate_events.specs.declared.call.Call.{Call}
 use Rattle.slate_events.specs.declared.db_spec.DbSpec.{DbSpec}
 use Rattle.slate_events.specs.declared.event.Event.{Event}
 use Rattle.slate_events.specs.declared.event.Event.TheVariants.{Open, Start, Step, Stop}
-use Rattle.slate_protocol.specs.Calls.{change_of, record_change_of, first_of}
 use Rattle.slate_changes.specs.Changes.{made_by, right_by, fence_by}
 use Rattle.slate_updates.specs.Changes.{made as manifest_made, right_of as manifest_right_of, fence_of as manifest_fence_of}
 use Rattle.slate_updates.specs.declared.manifest_change.ManifestChange.{ManifestChange}
+use Rattle.slate_updates.specs.declared.manifest_change.ManifestChange.TheVariants.{DropExpired}
 use Rattle.slate_protocol.specs.Chains.{Link, Log, with_link}
 use Rattle.slate_protocol.specs.Specs.{first_bytes, record_bytes, listed_or_none}
 use Rattle.slate_protocol.specs.Works.{asks, is_due}
 use Rattle.slate_protocol.specs.World.{World, party_of, wrote, happens}
-use Rattle.slate_protocol.specs.declared.party.Facts.{Facts}
 use Rattle.slate_protocol.specs.declared.party.Party.{Party}
 use Rattle.slate_protocol.specs.declared.party.State.{State}
 use Rattle.slate_protocol.specs.declared.party.State.TheVariants.{Resting, Busy, Halted}
 use Rattle.slate_protocol.specs.declared.party.Task.{Task}
-use Rattle.slate_protocol.specs.declared.work.Purpose.{Purpose}
-use Rattle.slate_protocol.specs.declared.work.Purpose.TheVariants.{Once}
 use Rattle.slate_protocol.specs.declared.work.Work.{Work}
-use Rattle.slate_protocol.specs.declared.work.Work.TheVariants.{ReadManifest, CommitManifest, ReadRecord, CommitRecord, PutTable, Pass}
+use Rattle.slate_protocol.specs.declared.work.Work.TheVariants.{Manifests, Records, PutTable, Pass, Opening, Compacting}
 
 -- ---- authors
 
--- who put a version: a party, with its facts at that time, in this call, for a purpose; it made the version at this moment
+-- what is put: a change of a manifest, a change of a record, or the first record
+pub data Puts : Type 0 where
+  OfManifest : ManifestChange → Puts
+  OfRecord : RecordChange → Puts
+  First : Puts
+
+-- who put a version, what, and when it was made
 pub record Author : Type 0 where
   pub party : ℕ
-  pub facts : Facts
-  pub call : Call
-  pub purpose : Purpose
+  pub puts : Puts
   pub now : ℤ
 
--- what an author puts to the log of manifests, where it puts a change there
-abbrev pub change_by : Author → Option ManifestChange
-change_by a = change_of a.facts a.call a.purpose
+-- the change of a manifest that is put, where it is one
+abbrev pub change_by : Puts → Option ManifestChange
+change_by (OfManifest change) = Some change
+change_by _ = None
 
--- what an author puts to the log of records
-abbrev pub record_change_by : Author → Option RecordChange
-record_change_by a = record_change_of a.facts a.call a.purpose
+-- the change of a record that is put, where it is one
+abbrev pub record_change_by : Puts → Option RecordChange
+record_change_by (OfRecord change) = Some change
+record_change_by _ = None
 
--- the record that an author puts where there is none
-abbrev pub first_by : Author → Option Record
-first_by a = first_of a.call a.purpose
+-- the record that is put where there is none
+abbrev pub first_by : Puts → Option Record
+first_by First = Some first_record
+first_by _ = None
+
+-- what a change under way puts; without a change it is the first version of its log
+abbrev pub manifest_puts : Option ManifestChange → Puts
+manifest_puts None = First
+manifest_puts (Some change) = OfManifest change
+
+abbrev pub record_puts : Option RecordChange → Puts
+record_puts None = First
+record_puts (Some change) = OfRecord change
 
 -- ---- the logs
 
@@ -80,9 +101,9 @@ manifests = record {
   refusal = manifest_refusal;
   names = λ m n. is_named n m.core.checkpoints;
   first = λ a. Ok None;
-  makes = λ a n m. made_by manifest_made (change_by a) a.now n m;
-  right = λ a. right_by manifest_right_of (change_by a);
-  fence = λ a m. fence_by manifest_fence_of (change_by a) m;
+  makes = λ a n m. made_by manifest_made (change_by a.puts) a.now n m;
+  right = λ a. right_by manifest_right_of (change_by a.puts);
+  fence = λ a m. fence_by manifest_fence_of (change_by a.puts) m;
 }
 
 -- the log of records
@@ -94,10 +115,10 @@ records = record {
   normal = normal_record;
   refusal = record_refusal_of;
   names = λ r n. false;
-  first = λ a. Ok (first_by a);
-  makes = λ a n r. made_by record_made (record_change_by a) a.now n r;
-  right = λ a. right_by record_right_of (record_change_by a);
-  fence = λ a r. fence_by record_fence_of (record_change_by a) r;
+  first = λ a. Ok (first_by a.puts);
+  makes = λ a n r. made_by record_made (record_change_by a.puts) a.now n r;
+  right = λ a. right_by record_right_of (record_change_by a.puts);
+  fence = λ a r. fence_by record_fence_of (record_change_by a.puts) r;
 }
 
 -- the values of a log
@@ -123,22 +144,47 @@ Chains = (k : LogKind) → List ℕ → Chain k
 pub data Phrase : Type 0 where
   -- the latest version of a log of a database is read
   Reads : (k : LogKind) → List ℕ → ReadPhase (Held k) → Phrase
-  -- a version of a log of a database is committed, which was made for a purpose at a moment
-  Commits : (k : LogKind) → List ℕ → Purpose → ℤ → CommitPhase (Held k) → Phrase
+  -- a version of a log of a database is committed, which what is put made at a moment
+  Commits : (k : LogKind) → List ℕ → Puts → ℤ → CommitPhase (Held k) → Phrase
   -- the object of a table is put at a database
   Uploads : List ℕ → ℕ × ℕ → List ℕ → Phrase
   -- a pass collects at a database
   Collects : List ℕ → GcMessage → PassPhase → Phrase
 
+-- of a change of a log, by what it puts
+abbrev pub change_phrase : (k : LogKind) → List ℕ → Puts → LogWork (Held k) → Phrase
+change_phrase k db puts (Reading phase) = Reads k db phase
+change_phrase k db puts (Committing now phase) = Commits k db puts now phase
+
+abbrev pub manifest_phrase : List ℕ → ManifestChanging → Phrase
+manifest_phrase db p = change_phrase logs.Manifest db (manifest_puts p.change) p.work
+
+abbrev pub record_phrase : List ℕ → RecordChanging → Phrase
+record_phrase db p = change_phrase logs.Compactions db (record_puts p.change) p.work
+
+-- of a pass
+abbrev pub pass_phrase : List ℕ → GcMessage → GcPhase → Phrase
+pass_phrase db pass (Removing work) = change_phrase logs.Manifest db (OfManifest DropExpired) work
+pass_phrase db pass (Collecting at phase) = Collects db pass phase
+
+-- of an open of a compactor, and of its calls on its state
+abbrev pub open_phrase : List ℕ → OpenPhase → Phrase
+open_phrase db (opening.Raising p) = manifest_phrase db p
+open_phrase db (opening.OnRecord step m p) = record_phrase db p
+open_phrase db opening.Over = Reads logs.Manifest db Listing
+
+abbrev pub state_phrase : List ℕ → StatePhase → Phrase
+state_phrase db (compacting.OnRecord step p) = record_phrase db p
+state_phrase db (compacting.OnManifest step p) = manifest_phrase db p
+state_phrase db compacting.Over = Reads logs.Compactions db Listing
+
 abbrev pub phrase_of : Work → Phrase
-phrase_of (ReadManifest purpose db phase) = Reads logs.Manifest db phase
-phrase_of (CommitManifest purpose now db phase) = Commits logs.Manifest db purpose now phase
-phrase_of (ReadRecord purpose db phase) = Reads logs.Compactions db phase
-phrase_of (CommitRecord purpose now db phase) = Commits logs.Compactions db purpose now phase
+phrase_of (Manifests db p) = manifest_phrase db p
+phrase_of (Records db p) = record_phrase db p
 phrase_of (PutTable db upload bytes) = Uploads db upload.table bytes
-phrase_of (Pass db settings filter (passing.Removing (removal.Reading phase))) = Reads logs.Manifest db phase
-phrase_of (Pass db settings filter (passing.Removing (removal.Committing now phase))) = Commits logs.Manifest db Once now phase
-phrase_of (Pass db settings filter (passing.Collecting at phase)) = Collects db settings.pass phase
+phrase_of (Pass db settings filter phase) = pass_phrase db settings.pass phase
+phrase_of (Opening db phase) = open_phrase db phase
+phrase_of (Compacting db phase) = state_phrase db phase
 
 -- ---- what is put
 
@@ -153,10 +199,10 @@ abbrev pub put_in : (k : LogKind) → List ℕ → Author → CommitPhase (Held 
 put_in k db author (Putting n bytes v) = Some (record { log = k; db = db; link = record { number = n; bytes = bytes; value = (log_of k).normal v; by = Some author } })
 put_in k db author _ = None
 
--- what the phrase puts, of a party in a call
-abbrev pub put_by : ℕ → Facts → Call → Phrase → Option Put
-put_by n facts call (Commits k db purpose now phase) = put_in k db (record { party = n; facts = facts; call = call; purpose = purpose; now = now }) phase
-put_by n facts call _ = None
+-- what the phrase of a party puts
+abbrev pub put_by : ℕ → Phrase → Option Put
+put_by n (Commits k db puts now phase) = put_in k db (record { party = n; puts = puts; now = now }) phase
+put_by n _ = None
 
 -- a chain of a log after a put to a log
 abbrev pub chain_with : (k j : LogKind) → Link (Held j) Author → Chain k → Chain k
@@ -173,20 +219,20 @@ chains_put _ _ chains = chains
 -- ---- event by event
 
 -- the chains after the store call of a step
-abbrev pub chains_stepped : World → ℕ → Facts → Task → ℤ → Mark → Chains → Chains
-chains_stepped w n facts task moment mark chains =
-    chains_put (wrote w.store (effect mark (asks task.work) moment w.store).store) (put_by n facts task.call (phrase_of task.work)) chains
+abbrev pub chains_stepped : World → ℕ → Task → ℤ → Mark → Chains → Chains
+chains_stepped w n task moment mark chains =
+    chains_put (wrote w.store (effect mark (asks task.work) moment w.store).store) (put_by n (phrase_of task.work)) chains
 
 -- the chains after a step of a party in this state
-abbrev pub chains_state : World → ℕ → Facts → State → ℤ → Mark → Chains → Chains
-chains_state w n facts Resting moment mark chains = chains
-chains_state w n facts (Busy task) moment mark chains = if is_due task.work then chains_stepped w n facts task moment mark chains else chains
-chains_state w n facts Halted moment mark chains = chains
+abbrev pub chains_state : World → ℕ → State → ℤ → Mark → Chains → Chains
+chains_state w n Resting moment mark chains = chains
+chains_state w n (Busy task) moment mark chains = if is_due task.work then chains_stepped w n task moment mark chains else chains
+chains_state w n Halted moment mark chains = chains
 
 -- the chains after a step of the party that is there
 abbrev pub chains_at : World → ℕ → Option Party → ℤ → Mark → Chains → Chains
 chains_at w n None moment mark chains = chains
-chains_at w n (Some party) moment mark chains = chains_state w n party.facts party.state moment mark chains
+chains_at w n (Some party) moment mark chains = chains_state w n party.state moment mark chains
 
 -- the chains after an event: a step alone puts
 abbrev pub chains_after : World → Event → Chains → Chains

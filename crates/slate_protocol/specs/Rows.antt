@@ -1,31 +1,38 @@
 -- The row of a call, read off the table: how it begins, how it goes on, and so the next store call or the reply after the answers so far.
 use Rattle.std.specs.Prelude.{ℕ, ℤ, List, [], ◌∷◌, Option, Some, None, Result, Ok, Err}
-use Rattle.slate_ids.specs.declared.error.SlateDBError.{SlateDBError}
-use Rattle.slate_ids.specs.declared.error.SlateDBError.TheVariants.{LatestTransactionalObjectVersionMissing}
-use Rattle.slate_model.specs.declared.manifest.Manifest.{Manifest}
-use Rattle.slate_records.specs.Records.{Record}
-use Rattle.slate_layout.specs.RecordCodec.{record_encoded}
-use Rattle.slate_encodable.specs.Normal.{normal_manifest}
-use Rattle.slate_record_bytes.specs.RecordNormal.{normal_record}
-use Rattle.slate_log.specs.CommitPhase.{encoded_commit}
-use Rattle.slate_log.specs.declared.commit_phase.CommitPhase.{CommitPhase}
-use Rattle.slate_store.specs.Machines.{Stay, End}
-use Rattle.slate_store.specs.declared.store_answer.StoreAnswer.{StoreAnswer}
-use Rattle.slate_store.specs.declared.store_call.StoreCall.{StoreCall}
+use Rattle.slate_changes.specs.LogWorks.{WorkGoes, work_goes}
+use Rattle.slate_compactor_calls.specs.Commits.{ManifestChanging, RecordChanging, manifest_put, record_put}
+use Rattle.slate_compactor_calls.specs.Opening.{OpenGoes, open_goes}
+use Rattle.slate_compactor_calls.specs.StateSteps.{StateGoes, state_goes}
+use Rattle.slate_compactor_calls.specs.declared.compactor.Compactor.{Compactor}
+use Rattle.slate_compactor_calls.specs.declared.state_phase.StatePhase.{StatePhase}
 use Rattle.slate_events.specs.declared.call.Call.{Call}
 use Rattle.slate_events.specs.declared.call.Call.TheVariants.{Finish as FinishCall, Fail}
+use Rattle.slate_events.specs.declared.filter_word.FilterWord.{FilterWord}
 use Rattle.slate_events.specs.declared.reply.Reply.{Reply}
-use Rattle.slate_events.specs.declared.reply.Reply.TheVariants.{Done, Refused}
+use Rattle.slate_events.specs.declared.reply.Reply.TheVariants.{Done, Epoch, Refused}
 use Rattle.slate_events.specs.declared.reply.Reply.TheVariants as reply
-use Rattle.slate_protocol.specs.Calls.{refusal_at_start, facts_at_start, first_work, change_of, again, done, record_change_of, record_again, record_done, first_of, facts_after, Next, Go, Finish}
-use Rattle.slate_protocol.specs.PartyChanges.{manifest_commit, record_commit}
-use Rattle.slate_protocol.specs.Works.{WorkGoes, asks, goes}
+use Rattle.slate_ids.specs.declared.error.SlateDBError.{SlateDBError}
+use Rattle.slate_ids.specs.declared.error.SlateDBError.TheVariants.{InvalidDBState, StoreFault}
+use Rattle.slate_ids.specs.declared.error.StateCause.TheVariants.{NotOpen}
+use Rattle.slate_log.specs.declared.log_kind.LogKind.TheVariants.{Manifest as ManifestLog, Compactions as RecordLog}
+use Rattle.slate_manifest_parts.specs.Decoding.{decoded_manifest}
+use Rattle.slate_model.specs.declared.manifest.Manifest.{Manifest}
+use Rattle.slate_passes.specs.GcPhase.{GcGoes, gc_goes}
+use Rattle.slate_passes.specs.declared.pass_settings.PassSettings.{PassSettings}
+use Rattle.slate_protocol.specs.Calls.{facts_after, facts_at_start, first_work, manifest_reply, record_reply, refusal_at_start, with_compactor, Next, Go, Finish}
+use Rattle.slate_protocol.specs.Uploaded.{with_upload}
+use Rattle.slate_protocol.specs.Works.{asks, pass_ways}
 use Rattle.slate_protocol.specs.declared.party.Facts.{Facts}
-use Rattle.slate_protocol.specs.declared.work.Ended.{Ended}
-use Rattle.slate_protocol.specs.declared.work.Ended.TheVariants.{NoManifest, ManifestRead, ManifestCommitted, NoRecord, RecordRead, RecordCommitted, TablePut, Passed}
-use Rattle.slate_protocol.specs.declared.work.Purpose.{Purpose}
-use Rattle.slate_protocol.specs.declared.work.Purpose.TheVariants.{First}
-use Rattle.slate_protocol.specs.declared.work.Work.TheVariants.{CommitManifest, CommitRecord}
+use Rattle.slate_protocol.specs.declared.uploads.Upload.{Upload}
+use Rattle.slate_protocol.specs.declared.work.Work.{Work}
+use Rattle.slate_protocol.specs.declared.work.Work.TheVariants.{Manifests, Records, PutTable, Pass, Opening, Compacting}
+use Rattle.slate_record_bytes.specs.Records.{decoded_record}
+use Rattle.slate_records.specs.Records.{Record}
+use Rattle.slate_store.specs.Machines.{Stay, End}
+use Rattle.slate_store.specs.declared.store_answer.StoreAnswer.{StoreAnswer}
+use Rattle.slate_store.specs.declared.store_answer.StoreAnswer.TheVariants.{Written}
+use Rattle.slate_store.specs.declared.store_call.StoreCall.{StoreCall}
 
 -- where a call stands: what is known of its party, and how the call goes on
 pub record Standing : Type 0 where
@@ -49,82 +56,66 @@ begin_unless None facts call = first_next facts call
 abbrev pub begin : Facts → Call → Standing
 begin facts call = record { facts = facts_at_start facts call; next = begin_unless (refusal_at_start facts call) facts call }
 
--- ---- how it goes on, of manifests
+-- ---- how it goes on
 
--- the commit of what a call makes, at a moment, of a version for a purpose
-abbrev pub commit_for : Facts → Call → Purpose → ℤ → ℕ → Manifest → Result (Option (CommitPhase Manifest)) SlateDBError
-commit_for facts call purpose now n m = manifest_commit (change_of facts call purpose) now n m
+-- with more work, or to its end with a reply or a refusal
+abbrev pub goes_to : Facts → Work → Standing
+goes_to facts work = record { facts = facts; next = Go work }
 
--- the last commit of a call: it is put, or what follows where it isn't needed, or the refusal
-abbrev pub last_next : Facts → Call → Purpose → List ℕ → ℤ → Manifest → Result (Option (CommitPhase Manifest)) SlateDBError → Next
-last_next facts call purpose db now m (Ok (Some commit)) = Go (CommitManifest purpose now db commit)
-last_next facts call purpose db now m (Ok None) = done facts call purpose m
-last_next facts call purpose db now m (Err e) = Finish (Refused e)
+abbrev pub replies : Facts → Reply → Standing
+replies facts reply = record { facts = facts; next = Finish reply }
 
--- after a purpose: the commit that follows at once, of this committed version, where there is one
-abbrev pub then_next : Option Purpose → Facts → Call → Purpose → List ℕ → ℤ → ℕ → Manifest → Manifest → Next
-then_next None facts call purpose db now n m committed = done facts call purpose m
-then_next (Some next) facts call purpose db now n m committed = last_next facts call next db now committed (commit_for facts call next now n committed)
+abbrev pub refused : Facts → SlateDBError → Standing
+refused facts e = replies facts (Refused e)
 
--- after a read at a database: the commit there, or what follows where nothing is to be committed, or the refusal
-abbrev pub commit_next : Facts → Call → Purpose → List ℕ → ℤ → ℕ → Manifest → Result (Option (CommitPhase Manifest)) SlateDBError → Next
-commit_next facts call purpose db now n m (Ok (Some commit)) = Go (CommitManifest purpose now db commit)
-commit_next facts call purpose db now n m (Ok None) = then_next (again call purpose) facts call purpose db now n m m
-commit_next facts call purpose db now n m (Err e) = Finish (Refused e)
+-- after a step of a change of the manifest
+abbrev pub manifest_on : Facts → Call → List ℕ → ManifestChanging → WorkGoes Manifest → Standing
+manifest_on facts call db p (Stay work) = goes_to facts (Manifests db (record p { work = work }))
+manifest_on facts call db p (End work (Ok end)) = replies (facts_after call end facts) (manifest_reply call end)
+manifest_on facts call db p (End work (Err e)) = refused facts e
 
--- ---- and of records
+-- of the record
+abbrev pub record_on : Facts → List ℕ → RecordChanging → WorkGoes Record → Standing
+record_on facts db p (Stay work) = goes_to facts (Records db (record p { work = work }))
+record_on facts db p (End work (Ok end)) = replies facts (record_reply end)
+record_on facts db p (End work (Err e)) = refused facts e
 
--- the commit of what a call makes, at a moment, of a version for a purpose
-abbrev pub record_commit_for : Facts → Call → Purpose → ℤ → ℕ → Record → Result (Option (CommitPhase Record)) SlateDBError
-record_commit_for facts call purpose now n r = record_commit (record_change_of facts call purpose) now n r
+-- after the put of a table: it was put where the store gave its tag
+abbrev pub put_on : Facts → Upload → StoreAnswer → Standing
+put_on facts upload (Written tag) = replies (record facts { uploads = with_upload upload facts.uploads }) Done
+put_on facts upload _ = refused facts StoreFault
 
--- a commit is put, or what follows where it isn't needed, or the refusal
-abbrev pub record_next : Facts → Call → Purpose → List ℕ → ℤ → Record → Result (Option (CommitPhase Record)) SlateDBError → Next
-record_next facts call purpose db now r (Ok (Some commit)) = Go (CommitRecord purpose now db commit)
-record_next facts call purpose db now r (Ok None) = record_done facts call purpose r
-record_next facts call purpose db now r (Err e) = Finish (Refused e)
+-- after a step of a pass
+abbrev pub pass_on : Facts → List ℕ → PassSettings → FilterWord → GcGoes → Standing
+pass_on facts db settings filter (Stay phase) = goes_to facts (Pass db settings filter phase)
+pass_on facts db settings filter (End phase (Ok counts)) = replies facts (reply.Pass counts.picked counts.deleted counts.failed)
+pass_on facts db settings filter (End phase (Err e)) = refused facts e
 
--- after a commit: the one that follows at once, of this committed version, where there is one
-abbrev pub record_then : Option Purpose → Facts → Call → Purpose → List ℕ → ℤ → ℕ → Record → Record → Next
-record_then None facts call purpose db now n r committed = record_done facts call purpose r
-record_then (Some next) facts call purpose db now n r committed = record_next facts call next db now committed (record_commit_for facts call next now n committed)
+-- after a step of an open of a compactor: with its end the party holds what was opened
+abbrev pub open_on : Facts → List ℕ → OpenGoes → Standing
+open_on facts db (Stay phase) = goes_to facts (Opening db phase)
+open_on facts db (End phase (Ok compactor)) = replies (with_compactor compactor facts) (Epoch compactor.epoch)
+open_on facts db (End phase (Err e)) = refused facts e
 
--- the commit of the first record
-abbrev pub first_commit : Record → Result (CommitPhase Record) SlateDBError
-first_commit r = encoded_commit 1 r (record_encoded r)
+-- after a step of a compactor's call on its state, which may change what the party holds
+abbrev pub state_on : Facts → List ℕ → StateGoes → Standing
+state_on facts db (Stay at) = goes_to (with_compactor at.1 facts) (Compacting db at.0)
+state_on facts db (End at (Ok u)) = replies (with_compactor at.1 facts) Done
+state_on facts db (End at (Err e)) = refused (with_compactor at.1 facts) e
 
--- it is put, or refused
-abbrev pub first_put : List ℕ → ℤ → Result (CommitPhase Record) SlateDBError → Next
-first_put db now (Ok commit) = Go (CommitRecord First now db commit)
-first_put db now (Err e) = Finish (Refused e)
+-- such a step by what the party holds; without a compactor there is none
+abbrev pub compactor_on : Facts → List ℕ → ℤ → StatePhase → StoreAnswer → Option Compactor → Standing
+compactor_on facts db now phase answer None = refused facts (InvalidDBState NotOpen)
+compactor_on facts db now phase answer (Some compactor) = state_on facts db (state_goes now (phase, compactor) answer)
 
--- where there is no record: an open puts the first one, and any other call is refused
-abbrev pub no_record : Option Record → List ℕ → ℤ → Next
-no_record None db now = Finish (Refused LatestTransactionalObjectVersionMissing)
-no_record (Some r) db now = first_put db now (first_commit r)
-
--- ---- after each phrase
-
--- what follows the end of a phrase, which came at a moment. What was committed is what is read back of what was put
-abbrev pub after : Facts → Call → ℤ → Ended → Next
-after facts call now (NoManifest purpose) = Finish (Refused LatestTransactionalObjectVersionMissing)
-after facts call now (ManifestRead purpose db n m) = commit_next facts call purpose db now n m (commit_for facts call purpose now n m)
-after facts call now (ManifestCommitted purpose db n m) = then_next (again call purpose) facts call purpose db now n m (normal_manifest m)
-after facts call now (NoRecord purpose) = no_record (first_of call First) facts.db now
-after facts call now (RecordRead purpose db n r) = record_next facts call purpose db now r (record_commit_for facts call purpose now n r)
-after facts call now (RecordCommitted purpose db n r) = record_then (record_again call purpose) facts call purpose db now n r (normal_record r)
-after facts call now (TablePut upload) = Finish Done
-after facts call now (Passed counts) = Finish (reply.Pass counts.picked counts.deleted counts.failed)
-
--- where a call stands once its phrase has ended
-abbrev pub ended : Facts → Call → ℤ → Ended → Standing
-ended facts call now end = record { facts = facts_after facts call end; next = after facts call now end }
-
--- where a call stands once its work has gone on, at a moment: facts change at the end of a phrase alone
-abbrev pub follow : Facts → Call → ℤ → WorkGoes → Standing
-follow facts call now (Stay work) = record { facts = facts; next = Go work }
-follow facts call now (End work (Ok end)) = ended facts call now end
-follow facts call now (End work (Err e)) = record { facts = facts; next = Finish (Refused e) }
+-- where a call stands after a step of its work, by the answer at a moment
+abbrev pub moved : Facts → Call → Work → ℤ → StoreAnswer → Standing
+moved facts call (Manifests db p) now answer = manifest_on facts call db p (work_goes ManifestLog decoded_manifest (manifest_put p.change) now p.work answer)
+moved facts call (Records db p) now answer = record_on facts db p (work_goes RecordLog decoded_record (record_put p.change) now p.work answer)
+moved facts call (PutTable db upload bytes) now answer = put_on facts upload answer
+moved facts call (Pass db settings filter phase) now answer = pass_on facts db settings filter (gc_goes (pass_ways filter) settings now phase answer)
+moved facts call (Opening db phase) now answer = open_on facts db (open_goes now phase answer)
+moved facts call (Compacting db phase) now answer = compactor_on facts db now phase answer facts.compactor
 
 -- ---- the row
 
@@ -134,7 +125,7 @@ Answered = StoreAnswer × ℤ
 
 -- where a call stands after one answer more
 abbrev pub answered : Call → Facts → Next → Answered → Standing
-answered call facts (Go work) a = follow facts call a.1 (goes work a.1 a.0)
+answered call facts (Go work) a = moved facts call work a.1 a.0
 answered call facts (Finish reply) a = record { facts = facts; next = Finish reply }
 
 -- where a call stands after these answers more

@@ -23,10 +23,9 @@ use Rattle.slate_log.specs.declared.log_kind.LogKind.{LogKind}
 use Rattle.slate_log.specs.declared.log_kind.LogKind.TheVariants as logs
 use Rattle.slate_protocol.specs.Calls.{has_call, Next, Go, Finish}
 use Rattle.slate_protocol.specs.Ids.{Carried, is_stale, with_call}
-use Rattle.slate_protocol.specs.Rows.{Standing, begin, follow}
-use Rattle.slate_protocol.specs.Works.{asks, goes, is_due}
+use Rattle.slate_protocol.specs.Rows.{Standing, begin, moved}
+use Rattle.slate_protocol.specs.Works.{asks, is_due}
 use Rattle.slate_protocol.specs.declared.party.Facts.{Facts}
-use Rattle.slate_protocol.specs.declared.party.Kept.TheVariants.{Nothing}
 use Rattle.slate_protocol.specs.declared.party.Party.{Party}
 use Rattle.slate_protocol.specs.declared.party.State.{State}
 use Rattle.slate_protocol.specs.declared.party.State.TheVariants.{Resting, Busy, Halted}
@@ -133,7 +132,7 @@ reply_of (Finish reply) = Some reply
 
 -- what is known of a party that comes
 abbrev pub first_facts : ℕ → PartyKind → List ℕ → Facts
-first_facts n kind db = record { number = n; kind = kind; db = db; epoch = None; uploads = []; kept = Nothing; local = None }
+first_facts n kind db = record { number = n; kind = kind; db = db; epoch = None; uploads = []; compactor = None }
 
 -- a party that comes
 abbrev pub newcomer : ℕ → PartyKind → List ℕ → Party
@@ -144,7 +143,7 @@ abbrev pub stepped : World → ℕ → Facts → Task → ℤ → Mark → Trans
 stepped w n facts task moment mark =
     let asked = asks task.work in
     let outcome = effect mark asked moment w.store in
-    let standing = follow facts task.call moment (goes task.work moment outcome.answer) in
+    let standing = moved facts task.call task.work moment outcome.answer in
     record {
       entry = Called n asked moment mark outcome.answer (reply_of standing.next);
       world = record {

@@ -2,6 +2,7 @@
 //! the types of a cluster's state that they speak of.
 #![tactic(auto)]
 
+mod call_ids;
 mod carrier;
 mod laws;
 mod party;
@@ -9,9 +10,10 @@ mod tally;
 mod uploads;
 mod work;
 
+pub use call_ids::CallIds;
 pub use carrier::Carrier;
 pub use laws::bad_events;
-pub use party::{Facts, Kept, Party, State, Task};
+pub use party::{Facts, Party, State, Task};
 pub use tally::Tally;
 pub use uploads::{Upload, Uploads};
-pub use work::{Ended, Purpose, Work};
+pub use work::Work;

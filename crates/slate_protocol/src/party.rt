@@ -2,41 +2,27 @@
 
 use crate::uploads::Uploads;
 use crate::work::Work;
-use slate_compactor::LocalState;
+use slate_compactor_calls::Compactor;
 use slate_events::{Call, PartyKind};
 use slate_ids::DbPath;
-use slate_merges::LocalTrees;
-use slate_model::Compactions;
-
-/// What a call of a compactor keeps of its earlier phrases.
-#[derive(Debug, Drop)]
-pub enum Kept {
-    Nothing,
-    /// The epoch that the raise of an open put, and the trees of that manifest.
-    Raised(u64, LocalTrees),
-    /// The record that a refresh read.
-    Followed(Compactions),
-}
 
 /// What is known of a party between its calls. It changes at the end of phrases, and at the start of a call that makes no store call.
-#[derive(Debug, Drop)]
+#[derive(Drop)]
 pub struct Facts {
     /// Its number among the parties.
     pub number: u32,
     pub kind: PartyKind,
     pub db: DbPath,
-    /// The epoch of its last open that succeeded.
+    /// The epoch of its last open that succeeded, of a writer.
     pub epoch: Option<u64>,
     /// The tables that it put.
     pub uploads: Uploads,
-    /// What its call under way keeps, of a compactor.
-    pub kept: Kept,
-    /// What it holds between its calls, of a compactor whose open succeeded.
-    pub local: Option<LocalState>,
+    /// What it holds, of a compactor whose open succeeded.
+    pub compactor: Option<Compactor>,
 }
 
 /// A call under way.
-#[derive(Debug, Drop)]
+#[derive(Drop)]
 pub struct Task {
     pub call: Call,
     /// What it is at.
@@ -44,7 +30,7 @@ pub struct Task {
 }
 
 /// What a party does.
-#[derive(Debug, Drop)]
+#[derive(Drop)]
 pub enum State {
     /// It has no call.
     Resting,
@@ -55,7 +41,7 @@ pub enum State {
 }
 
 /// A party.
-#[derive(Debug, Drop)]
+#[derive(Drop)]
 pub struct Party {
     pub facts: Facts,
     pub state: State,

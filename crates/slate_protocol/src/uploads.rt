@@ -11,14 +11,14 @@ use std::collections::BTreeMap;
 use std::marker::Model;
 
 /// A table that a party puts, and what is known of it.
-#[derive(Debug, Drop)]
+#[derive(Drop)]
 pub struct Upload {
     pub table: Ulid,
     pub info: SsTableInfo,
 }
 
 /// The tables that a party uploaded, by their ids, each with what is known of it.
-#[derive(Debug, Drop)]
+#[derive(Drop)]
 pub struct Uploads {
     infos: BTreeMap<Ulid, SsTableInfo>,
 }

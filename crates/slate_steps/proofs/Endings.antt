@@ -1,6 +1,7 @@
 -- How the end of a compaction begins, and what its party holds then.
 use Rattle.std.proofs.Common.{◌≡◌, true, false, true≢false, Option, Some, Result, Ok, Err, IfOk, sym, ap, ◌∙◌, inl, inr}
 use Rattle.slate_compactor.specs.declared.local_state.LocalState.{LocalState}
+use Rattle.slate_compactor_calls.specs.declared.compactor.Compactor.{Compactor}
 use Rattle.slate_events.specs.declared.call.Call.{Call}
 use Rattle.slate_events.specs.declared.reply.Reply.TheVariants.{Done}
 use Rattle.slate_ids.specs.Answers.{Gives}
@@ -10,7 +11,7 @@ use Rattle.slate_protocol.specs.Calls.{Next, Finish, with_held, end_of, made_or_
 use Rattle.slate_protocol.specs.Rows.{Standing, begin_unless, first_next}
 use Rattle.slate_protocol.specs.declared.party.Facts.{Facts}
 use Rattle.slate_steps.specs.Onward.{next_of, EndBegins}
-use Rattle.slate_steps.specs.declared.calls.Beginning.{Beginning}
+use Rattle.slate_steps.specs.declared.begins.Beginning.{Beginning}
 
 abbrev at : Facts → Next → Standing
 at facts next = record { facts = facts; next = next }
@@ -29,10 +30,10 @@ module _ (facts : Facts) (call : Call) (last : first_next facts call ≡ Finish 
   by_made made (Err e) next now (inr out) b = absurd (true≢false (sym out ∙ b.2))
 
   -- the end of a compaction of a party that holds something
-  pub end_begins : (step : LocalState → Result LocalState SlateDBError) (local : LocalState) (held : Result LocalState SlateDBError) (b : Result Beginning OutOfMemory)
-      → facts.local ≡ Some local → Gives held (step local) → IfOk b (λ x. EndBegins held (next_of x.next) x.held)
-      → IfOk b (λ x. at (with_held (end_of step facts.local) facts) (begin_unless (refusal_of_end step facts.local) facts call) ≡ at (with_held x.held facts) (next_of x.next))
-  end_begins step local held (Err e) there gives begins = tt
-  end_begins step local held (Ok b) there gives begins =
-      ap (λ (o : Option LocalState). at (with_held (end_of step o) facts) (begin_unless (refusal_of_end step o) facts call)) there
-      ∙ by_made (step local) held (next_of b.next) b.held gives begins
+  pub end_begins : (step : LocalState → Result LocalState SlateDBError) (compactor : Compactor) (held : Result LocalState SlateDBError) (b : Result Beginning OutOfMemory)
+      → facts.compactor ≡ Some compactor → Gives held (step compactor.local) → IfOk b (λ x. EndBegins held (next_of x.next) x.held)
+      → IfOk b (λ x. at (with_held (end_of step facts.compactor) facts) (begin_unless (refusal_of_end step facts.compactor) facts call) ≡ at (with_held x.held facts) (next_of x.next))
+  end_begins step compactor held (Err e) there gives begins = tt
+  end_begins step compactor held (Ok b) there gives begins =
+      ap (λ (o : Option Compactor). at (with_held (end_of step o) facts) (begin_unless (refusal_of_end step o) facts call)) there
+      ∙ by_made (step compactor.local) held (next_of b.next) b.held gives begins

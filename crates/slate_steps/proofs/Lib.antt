@@ -1,9 +1,4 @@
-mod Around
-mod Rewinding
-mod Follows
-mod Ends
-mod NoUploads
-mod NoRecords
+mod Goings
 mod Endings
 mod PutSteps
 mod ReadsKeep

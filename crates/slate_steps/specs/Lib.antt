@@ -1,5 +1,4 @@
 pub mod Onward
-pub mod Learning
-pub mod WorkSteps
+pub mod Works
 pub mod Followed
 pub mod PartySteps

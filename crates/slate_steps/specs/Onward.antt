@@ -8,8 +8,8 @@ use Rattle.slate_ids.specs.Answers.{is_memory}
 use Rattle.slate_ids.specs.declared.error.SlateDBError.{SlateDBError}
 use Rattle.slate_protocol.specs.Calls.{Next}
 use Rattle.slate_protocol.specs.Calls as calls
-use Rattle.slate_steps.specs.declared.calls.Onward.{Onward}
-use Rattle.slate_steps.specs.declared.calls.Onward.TheVariants.{Go, Finish}
+use Rattle.slate_steps.specs.declared.begins.Onward.{Onward}
+use Rattle.slate_steps.specs.declared.begins.Onward.TheVariants.{Go, Finish}
 
 -- the same in the protocol's words
 abbrev pub next_of : Onward → Next

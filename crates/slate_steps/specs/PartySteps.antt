@@ -3,8 +3,8 @@ use Rattle.std.specs.Prelude.{◌≡◌, ℤ}
 use Rattle.slate_store.specs.Store.{Store, effect}
 use Rattle.slate_store.specs.declared.mark.Mark.{Mark}
 use Rattle.slate_store.specs.declared.made.Made.{Made}
-use Rattle.slate_protocol.specs.Works.{asks, goes}
-use Rattle.slate_protocol.specs.Rows.{Standing, follow}
+use Rattle.slate_protocol.specs.Works.{asks}
+use Rattle.slate_protocol.specs.Rows.{Standing, moved}
 use Rattle.slate_protocol.specs.declared.party.Facts.{Facts}
 use Rattle.slate_protocol.specs.declared.party.Task.{Task}
 
@@ -13,4 +13,4 @@ pub record IsPartyStep (known : Facts) (task : Task) (moment : ℤ) (mark : Mark
   pub call : made.call ≡ asks task.work
   pub answer : made.answer ≡ (effect mark (asks task.work) moment old).answer
   pub store : new ≡ (effect mark (asks task.work) moment old).store
-  pub stands : follow known task.call moment (goes task.work moment (effect mark (asks task.work) moment old).answer) ≡ to
+  pub stands : moved known task.call task.work moment (effect mark (asks task.work) moment old).answer ≡ to

@@ -1,332 +1,177 @@
 //! One step of a call.
-ghost use Rattle.std.specs.Prelude.{◌≡◌, true, false, IfOk, OnErr};
-ghost use Rattle.slate_encodable.specs.Normal.{normal_manifest};
-ghost use Rattle.slate_ids.specs.Answers.{Gives};
-ghost use Rattle.slate_protocol.specs.Calls as calls;
+ghost use Rattle.std.specs.Prelude.{◌≡◌, false, IfOk, OnErr};
+ghost use Rattle.slate_changes.specs.LogWorks.{work_asks, work_goes};
+ghost use Rattle.slate_compactor_calls.specs.Commits.{manifest_put, record_put};
+ghost use Rattle.slate_compactor_calls.specs.Opening.{open_asks, open_goes};
+ghost use Rattle.slate_compactor_calls.specs.StateSteps.{state_asks};
+ghost use Rattle.slate_log.specs.declared.log_kind.LogKind.TheVariants as logs;
+ghost use Rattle.slate_manifest_parts.specs.Decoding.{decoded_manifest};
+ghost use Rattle.slate_passes.specs.GcPhase.{gc_asks, gc_goes};
 ghost use Rattle.slate_protocol.specs.Rows as rows;
-ghost use Rattle.slate_protocol.specs.Rows.{after as after_end};
-ghost use Rattle.slate_record_bytes.specs.RecordNormal.{normal_record};
-ghost use Rattle.slate_steps.specs.Followed.{standing, next_by, Follows, Kept, Ends};
-ghost use Rattle.slate_steps.specs.Learning.{taught};
-ghost use Rattle.slate_steps.specs.Onward.{next_of};
-ghost use Rattle.slate_steps.specs.WorkSteps.{can_rewind, is_table_put, is_upload};
+ghost use Rattle.slate_protocol.specs.Rows.{moved};
+ghost use Rattle.slate_protocol.specs.Works.{pass_ways};
+ghost use Rattle.slate_protocol.specs.declared.work.Work.TheVariants as work;
+ghost use Rattle.slate_record_bytes.specs.Records.{decoded_record};
+ghost use Rattle.slate_steps.specs.Followed.{at_work, standing, Ends, Kept, StillAt};
+ghost use Rattle.slate_steps.specs.Works.{is_upload};
 
-use crate::calls::{Onward, refuse};
-use crate::changes::{
-    again, change_of, commit_manifest, commit_record, first_for, record_again, record_change_of,
-};
-use crate::followings::{done, record_done};
-use crate::learning::{Lesson, learn, lesson_of};
-use crate::works::{goes_on, rewind};
-use slate_events::{Call, Reply};
-use slate_ids::{ByteList, DbPath, Millis, ObjectCodec, OutOfMemory, SlateDBError};
-use slate_layout::{CompactionsCodec, normal_form_compactions, normal_form_manifest};
-use slate_log::CommitPhase;
+use crate::begins::refuse;
+use crate::table::{learn, manifest_reply, record_reply};
+use crate::works::{manifests, records};
+use slate_changes::Changing;
+use slate_compactor_calls::{Compactor, OpenPhase, StatePhase};
+use slate_events::{Call, FilterWord, Reply};
+use slate_ids::{DbPath, Millis, OutOfMemory, SlateDBError, StateCause};
+use slate_layout::{CompactionsCodec, ManifestCodec};
 use slate_model::{Compactions, Manifest};
-use slate_protocol::{Ended, Facts, Purpose, Task, Work};
+use slate_passes::{GcPhase, Logs, PassSettings};
+use slate_picks::PlainWalGc;
+use slate_protocol::{Facts, Task, Work};
+use slate_record_updates::{CompactionsRules, RecordChange};
 use slate_store::{Step, StoreAnswer};
+use slate_updates::{ManifestChange, ManifestRules};
 use std::alloc::Global;
 use std::mem;
 
-// ---- manifests
-
-// The commit of what a call makes, at a moment, of version `n` for a purpose.
-fn commit_for(
-    alloc: Global,
-    facts: &Facts,
-    call: &Call,
-    purpose: Purpose,
-    now: Millis,
-    n: u64,
-    manifest: &Manifest,
-) -> Result<Option<CommitPhase<Manifest>>, SlateDBError>
-    ensures { Gives result (rows.commit_for facts.now call.now purpose now n manifest.now) }
+// A refusal ends the call, unless memory ran out.
+fn refused(refusal: SlateDBError) -> Result<Option<Reply>, OutOfMemory>
+    ensures { Ends refusal result }
 {
-    let change = change_of(alloc, facts, call, purpose)?;
-    commit_manifest(alloc, change, now, n, manifest)
+    Ok(Some(refuse(refusal)?))
 }
 
-// The last commit of a call, at a database, of a version that is committed.
-fn last_next(
+// A change of the manifest goes on.
+fn manifest_on(
     alloc: Global,
-    facts: &Facts,
+    facts: &mut Facts,
     call: &Call,
-    purpose: Purpose,
-    now: Millis,
     db: DbPath,
-    n: u64,
-    manifest: &Manifest,
-) -> Result<Onward, OutOfMemory>
-    ensures { IfOk result (λ next. next_of next ≡ rows.last_next facts.now call.now purpose db now manifest.now
-        (rows.commit_for facts.now call.now purpose now n manifest.now)) }
-{
-    match commit_for(alloc, facts, call, purpose, now, n, manifest) {
-        Ok(Some(commit)) => Ok(Onward::Go(Work::CommitManifest(purpose, now, db, commit))),
-        Ok(None) => done(alloc, facts, call, purpose, manifest),
-        Err(e) => Ok(Onward::Finish(refuse(e)?)),
-    }
-}
-
-// What follows a read at a database that needed no commit.
-fn after_none(
-    alloc: Global,
-    facts: &Facts,
-    call: &Call,
-    purpose: Purpose,
+    changing: &mut Changing<Option<ManifestChange>, Manifest>,
     now: Millis,
-    db: DbPath,
-    n: u64,
-    manifest: &Manifest,
-) -> Result<Onward, OutOfMemory>
-    ensures { IfOk result (λ next. next_of next ≡ rows.then_next (calls.again call.now purpose) facts.now call.now purpose
-        db now n manifest.now manifest.now) }
+    answer: &StoreAnswer,
+) -> Result<Option<Reply>, OutOfMemory>
+    ensures ok { IfOk result (λ reply. rows.manifest_on facts.old call.now db changing.old
+        (work_goes logs.Manifest decoded_manifest (manifest_put changing.old.change) now changing.old.work answer.now)
+        ≡ at_work facts.new (work.Manifests db changing.new) reply) }
+    ensures facts { OnErr result (facts.new ≡ facts.old) }
+    ensures err { OnErr result (StillAt changing.old changing.new (work_asks db logs.Manifest changing.old.work)) }
 {
-    match again(call, purpose) {
-        None => done(alloc, facts, call, purpose, manifest),
-        Some(next) => last_next(alloc, facts, call, next, now, db, n, manifest),
-    }
-}
-
-// What follows a read at a database that found version `n` of the manifest, which ended at a moment.
-fn after_read(
-    alloc: Global,
-    facts: &Facts,
-    call: &Call,
-    purpose: Purpose,
-    now: Millis,
-    db: DbPath,
-    n: u64,
-    manifest: &Manifest,
-) -> Result<Onward, OutOfMemory>
-    ensures { IfOk result (λ next. next_of next ≡ rows.commit_next facts.now call.now purpose db now n manifest.now
-        (rows.commit_for facts.now call.now purpose now n manifest.now)) }
-{
-    match commit_for(alloc, facts, call, purpose, now, n, manifest) {
-        Ok(Some(commit)) => Ok(Onward::Go(Work::CommitManifest(purpose, now, db, commit))),
-        Ok(None) => after_none(alloc, facts, call, purpose, now, db, n, manifest),
-        Err(e) => Ok(Onward::Finish(refuse(e)?)),
-    }
-}
-
-// What follows a commit at a database that put version `n` of the manifest, which ended at a moment.
-fn after_commit(
-    alloc: Global,
-    facts: &Facts,
-    call: &Call,
-    purpose: Purpose,
-    now: Millis,
-    db: DbPath,
-    n: u64,
-    manifest: &Manifest,
-) -> Result<Onward, OutOfMemory>
-    ensures { IfOk result (λ next. next_of next ≡ rows.then_next (calls.again call.now purpose) facts.now call.now purpose
-        db now n manifest.now (normal_manifest manifest.now)) }
-{
-    match again(call, purpose) {
-        None => done(alloc, facts, call, purpose, manifest),
-        Some(next) => {
-            let committed = normal_form_manifest(alloc, manifest)?;
-            let next = last_next(alloc, facts, call, next, now, db, n, &committed);
-            drop(committed);
-            next
+    match changing.goes_on(alloc, &manifests(db), &ManifestRules, now, answer) {
+        Step::Again => Ok(None),
+        Step::Done(Err(e)) => refused(e),
+        Step::Done(Ok(end)) => {
+            learn(facts, call, &end);
+            let reply = manifest_reply(call, &end);
+            drop(end);
+            Ok(Some(reply))
         }
     }
 }
 
-// ---- records
-
-// The commit of what a call makes, at a moment, of version `n` for a purpose.
-fn record_commit_for(
+// A change of the record goes on.
+fn record_on(
     alloc: Global,
     facts: &Facts,
-    call: &Call,
-    purpose: Purpose,
-    now: Millis,
-    n: u64,
-    compactions: &Compactions,
-) -> Result<Option<CommitPhase<Compactions>>, SlateDBError>
-    ensures { Gives result (rows.record_commit_for facts.now call.now purpose now n compactions.now) }
-{
-    let change = record_change_of(alloc, facts, call, purpose)?;
-    commit_record(alloc, change, now, n, compactions)
-}
-
-// What follows at a database of version `n` of the record, for a purpose.
-fn record_next(
-    alloc: Global,
-    facts: &Facts,
-    call: &Call,
-    purpose: Purpose,
-    now: Millis,
     db: DbPath,
-    n: u64,
-    compactions: &Compactions,
-) -> Result<Onward, OutOfMemory>
-    ensures { IfOk result (λ next. next_of next ≡ rows.record_next facts.now call.now purpose db now compactions.now
-        (rows.record_commit_for facts.now call.now purpose now n compactions.now)) }
-{
-    match record_commit_for(alloc, facts, call, purpose, now, n, compactions) {
-        Ok(Some(commit)) => Ok(Onward::Go(Work::CommitRecord(purpose, now, db, commit))),
-        Ok(None) => Ok(record_done(facts, call, purpose, compactions)),
-        Err(e) => Ok(Onward::Finish(refuse(e)?)),
-    }
-}
-
-// What follows a commit at a database that put version `n` of the record, which ended at a moment.
-fn after_record_commit(
-    alloc: Global,
-    facts: &Facts,
-    call: &Call,
-    purpose: Purpose,
+    changing: &mut Changing<Option<RecordChange>, Compactions>,
     now: Millis,
-    db: DbPath,
-    n: u64,
-    compactions: &Compactions,
-) -> Result<Onward, OutOfMemory>
-    ensures { IfOk result (λ next. next_of next ≡ rows.record_then (calls.record_again call.now purpose) facts.now call.now purpose
-        db now n compactions.now (normal_record compactions.now)) }
+    answer: &StoreAnswer,
+) -> Result<Option<Reply>, OutOfMemory>
+    ensures ok { IfOk result (λ reply. rows.record_on facts.now db changing.old
+        (work_goes logs.Compactions decoded_record (record_put changing.old.change) now changing.old.work answer.now)
+        ≡ at_work facts.now (work.Records db changing.new) reply) }
+    ensures err { OnErr result (StillAt changing.old changing.new (work_asks db logs.Compactions changing.old.work)) }
 {
-    match record_again(call, purpose) {
-        None => Ok(record_done(facts, call, purpose, compactions)),
-        Some(next) => {
-            let committed = normal_form_compactions(alloc, compactions)?;
-            record_next(alloc, facts, call, next, now, db, n, &committed)
+    match changing.goes_on(alloc, &records(db), &CompactionsRules, now, answer) {
+        Step::Again => Ok(None),
+        Step::Done(Err(e)) => refused(e),
+        Step::Done(Ok(end)) => {
+            let reply = record_reply(&end);
+            drop(end);
+            Ok(Some(reply))
         }
     }
 }
 
-// The commit of the first record.
-fn first_commit(alloc: Global, first: Compactions) -> Result<CommitPhase<Compactions>, SlateDBError>
-    ensures { Gives result (rows.first_commit first) }
-{
-    let bytes = CompactionsCodec.encode(alloc, &first)?;
-    Ok(CommitPhase::Putting(1, ByteList::new(bytes), first))
-}
-
-// What follows a read that found no record, which ended at a moment.
-fn after_no_record(
+// A pass goes on.
+fn pass_on(
     alloc: Global,
     facts: &Facts,
-    call: &Call,
+    db: DbPath,
+    settings: &PassSettings,
+    filter: &FilterWord,
+    phase: &mut GcPhase,
     now: Millis,
-) -> Result<Onward, OutOfMemory>
-    ensures { IfOk result (λ next. next_of next ≡ rows.no_record (calls.first_for call.now) facts.now.db now) }
+    answer: &StoreAnswer,
+) -> Result<Option<Reply>, OutOfMemory>
+    ensures ok { IfOk result (λ reply. rows.pass_on facts.now db settings.now filter.now
+        (gc_goes (pass_ways filter.now) settings.now now phase.old answer.now)
+        ≡ at_work facts.now (work.Pass db settings.now filter.now phase.new) reply) }
+    ensures err { OnErr result (StillAt phase.old phase.new (gc_asks db settings.now.pass phase.old)) }
 {
-    let Some(first) = first_for(alloc, call) else {
-        return Ok(Onward::Finish(Reply::Refused(
-            SlateDBError::LatestTransactionalObjectVersionMissing,
-        )));
+    let logs = Logs {
+        db,
+        manifests: ManifestCodec,
+        records: CompactionsCodec,
     };
-    match first_commit(alloc, first) {
-        Ok(commit) => Ok(Onward::Go(Work::CommitRecord(Purpose::First, now, facts.db, commit))),
-        Err(e) => Ok(Onward::Finish(refuse(e)?)),
-    }
-}
-
-// ---- after each phrase
-
-// What follows the end of a phrase, which came at a moment. Memory runs out only where the phrase can be put back.
-fn after(
-    alloc: Global,
-    facts: &Facts,
-    call: &Call,
-    now: Millis,
-    ended: &Ended,
-) -> Result<Onward, OutOfMemory>
-    ensures ok { IfOk result (λ next. next_of next ≡ after_end facts.now call.now now ended.now) }
-    ensures err { OnErr result (can_rewind ended.now ≡ true) }
-{
-    match ended {
-        Ended::NoManifest(_) => Ok(Onward::Finish(Reply::Refused(
-            SlateDBError::LatestTransactionalObjectVersionMissing,
-        ))),
-        Ended::ManifestRead(purpose, db, n, manifest) => {
-            after_read(alloc, facts, call, *purpose, now, *db, *n, manifest)
-        }
-        Ended::ManifestCommitted(purpose, db, n, manifest) => {
-            after_commit(alloc, facts, call, *purpose, now, *db, *n, manifest)
-        }
-        Ended::NoRecord(_) => after_no_record(alloc, facts, call, now),
-        Ended::RecordRead(purpose, db, n, compactions) => {
-            record_next(alloc, facts, call, *purpose, now, *db, *n, compactions)
-        }
-        Ended::RecordCommitted(purpose, db, n, compactions) => {
-            after_record_commit(alloc, facts, call, *purpose, now, *db, *n, compactions)
-        }
-        Ended::TablePut(_) => Ok(Onward::Finish(Reply::Done)),
-        Ended::Passed(counts) => Ok(Onward::Finish(Reply::Pass {
+    let wal: Option<&PlainWalGc> = None;
+    match phase.goes_on(alloc, &logs, Some(filter), wal, settings, now, answer) {
+        Step::Again => Ok(None),
+        Step::Done(Ok(counts)) => Ok(Some(Reply::Pass {
             picked: counts.picked,
             deleted: counts.deleted,
             failed: counts.failed,
         })),
+        Step::Done(Err(e)) => refused(e),
     }
 }
 
-/// What the end of a phrase brings.
-#[derive(Drop)]
-struct Sequel {
-    next: Onward,
-    lesson: Lesson,
-}
-
-// What follows the end of a phrase, and what it tells of the party.
-fn sequel_of(
-    alloc: Global,
-    facts: &Facts,
-    call: &Call,
-    now: Millis,
-    ended: &Ended,
-) -> Result<Sequel, OutOfMemory>
-    requires { is_table_put ended.now ≡ false }
-    ensures next { IfOk result (λ o. next_of o.next ≡ after_end facts.now call.now now ended.now) }
-    ensures lesson { IfOk result (λ o. taught o.lesson facts.now ≡ calls.facts_after facts.now call.now ended.now) }
-    ensures err { OnErr result (can_rewind ended.now ≡ true) }
-{
-    let next = after(alloc, facts, call, now, ended)?;
-    match lesson_of(alloc, facts, call, ended) {
-        Ok(lesson) => Ok(Sequel { next, lesson }),
-        Err(e) => {
-            drop(next);
-            Err(e)
-        }
-    }
-}
-
-// The call goes on with its next work, or ends with the reply.
-fn go_on(task: &mut Task, next: Onward) -> Option<Reply>
-    ensures next { next_of next ≡ next_by task.new.work result }
-    ensures call { task.new.call ≡ task.old.call }
-{
-    match next {
-        Onward::Go(work) => {
-            drop(mem::replace(&mut task.work, work));
-            None
-        }
-        Onward::Finish(reply) => Some(reply),
-    }
-}
-
-// The phrase under way has ended. Running out of memory puts it back to its last phase.
-fn end_phrase(
+// An open of a compactor goes on: with its end the party holds what was opened.
+fn open_on(
     alloc: Global,
     facts: &mut Facts,
-    task: &mut Task,
+    db: DbPath,
+    phase: &mut OpenPhase,
     now: Millis,
-    ended: Ended,
+    answer: &StoreAnswer,
 ) -> Result<Option<Reply>, OutOfMemory>
-    requires { is_table_put ended ≡ false }
-    ensures { Ends facts.old task.old now ended facts.new task.new result }
+    ensures ok { IfOk result (λ reply. rows.open_on facts.old db (open_goes now phase.old answer.now)
+        ≡ at_work facts.new (work.Opening db phase.new) reply) }
+    ensures facts { OnErr result (facts.new ≡ facts.old) }
+    ensures err { OnErr result (StillAt phase.old phase.new (open_asks db phase.old)) }
 {
-    match sequel_of(alloc, facts, &task.call, now, &ended) {
-        Ok(sequel) => {
-            drop(ended);
-            learn(facts, sequel.lesson);
-            Ok(go_on(task, sequel.next))
+    match phase.goes_on(alloc, db, now, answer) {
+        Step::Again => Ok(None),
+        Step::Done(Err(e)) => refused(e),
+        Step::Done(Ok(compactor)) => {
+            let epoch = compactor.epoch;
+            drop(mem::replace(&mut facts.compactor, Some(compactor)));
+            Ok(Some(Reply::Epoch(epoch)))
         }
-        Err(e) => {
-            rewind(&mut task.work, ended);
-            Err(e)
-        }
+    }
+}
+
+// A call of a compactor on its state goes on; what the party holds may change.
+fn state_on(
+    alloc: Global,
+    facts: &mut Facts,
+    db: DbPath,
+    phase: &mut StatePhase,
+    now: Millis,
+    answer: &StoreAnswer,
+) -> Result<Option<Reply>, OutOfMemory>
+    ensures ok { IfOk result (λ reply. rows.compactor_on facts.old db now phase.old answer.now facts.old.compactor
+        ≡ at_work facts.new (work.Compacting db phase.new) reply) }
+    ensures facts { OnErr result (facts.new ≡ facts.old) }
+    ensures err { OnErr result (StillAt phase.old phase.new (state_asks db phase.old)) }
+{
+    let Some(compactor) = &mut facts.compactor else {
+        return Ok(Some(Reply::Refused(SlateDBError::InvalidDBState(StateCause::NotOpen))));
+    };
+    match phase.goes_on(alloc, db, compactor, now, answer) {
+        Step::Again => Ok(None),
+        Step::Done(Ok(())) => Ok(Some(Reply::Done)),
+        Step::Done(Err(e)) => refused(e),
     }
 }
 
@@ -340,19 +185,21 @@ pub(crate) fn follow(
     answer: &StoreAnswer,
 ) -> Result<Option<Reply>, OutOfMemory>
     requires { is_upload task.old.work ≡ false }
-    ensures ok { IfOk result (λ reply. Follows facts.old task.old moment answer.now
-        task.new.call (standing facts.new task.new reply)) }
+    ensures ok { IfOk result (λ reply. moved facts.old task.old.call task.old.work moment answer.now
+        ≡ standing facts.new task.new reply) }
+    ensures call { task.new.call ≡ task.old.call }
     ensures err { OnErr result (Kept facts.old task.old facts.new task.new) }
 {
-    match goes_on(alloc, &mut task.work, moment, answer) {
-        Step::Again => Ok(None),
-        Step::Done(Ok(ended)) => end_phrase(alloc, facts, task, moment, ended),
-        Step::Done(Err(e)) => {
-            if e.is_memory() {
-                Err(OutOfMemory)
-            } else {
-                Ok(Some(Reply::Refused(e)))
-            }
+    match &mut task.work {
+        Work::Manifests(db, changing) => {
+            manifest_on(alloc, facts, &task.call, *db, changing, moment, answer)
         }
+        Work::Records(db, changing) => record_on(alloc, facts, *db, changing, moment, answer),
+        Work::PutTable(_, _, _) => unreachable!(),
+        Work::Pass(db, settings, filter, phase) => {
+            pass_on(alloc, facts, *db, settings, filter, phase, moment, answer)
+        }
+        Work::Opening(db, phase) => open_on(alloc, facts, *db, phase, moment, answer),
+        Work::Compacting(db, phase) => state_on(alloc, facts, *db, phase, moment, answer),
     }
 }

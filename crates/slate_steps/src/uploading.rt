@@ -1,18 +1,15 @@
 //! The one step of an upload. The upload is noted before its put, and taken back where that fails, since nothing may fail once the put had
 //! its effect.
-ghost use Rattle.std.specs.Prelude.{◌≡◌, ℤ, true, IfOk, OnErr};
-ghost use Rattle.slate_store.specs.Machines.{End};
+ghost use Rattle.std.specs.Prelude.{◌≡◌, true, IfOk, OnErr};
 ghost use Rattle.slate_events.specs.declared.call.Call.{Call as AnyCall};
 ghost use Rattle.slate_protocol.specs.Calls.{Finish};
-ghost use Rattle.slate_protocol.specs.Rows.{follow};
+ghost use Rattle.slate_protocol.specs.Rows.{put_on};
 ghost use Rattle.slate_protocol.specs.Uploaded.{info_of, with_upload};
-ghost use Rattle.slate_protocol.specs.Works.{put_end};
 ghost use Rattle.slate_protocol.specs.declared.party.Facts.{Facts as AnyFacts};
-ghost use Rattle.slate_protocol.specs.declared.work.Work.{Work as AnyWork};
 ghost use Rattle.slate_protocol.specs.declared.work.Work.TheVariants as work;
 ghost use Rattle.slate_steps.specs.Followed.{standing};
 ghost use Rattle.slate_steps.specs.PartySteps.{IsPartyStep};
-ghost use Rattle.slate_steps.specs.WorkSteps.{is_upload};
+ghost use Rattle.slate_steps.specs.Works.{is_upload};
 
 use crate::party_steps::{PartyStep, perform_under};
 use crate::works::put_call;
@@ -40,11 +37,9 @@ fn reply_to(
     before: Option<SsTableInfo>,
     answer: &StoreAnswer,
 ) -> Reply
-    ensures { (known : AnyFacts) (call : AnyCall) (at : AnyWork) (now : ℤ)
-        → facts.old ≡ record known { uploads = with_upload upload.now known.uploads }
+    ensures { (known : AnyFacts) → facts.old ≡ record known { uploads = with_upload upload.now known.uploads }
         → before ≡ info_of upload.now.table known.uploads
-        → follow known call now (End at (put_end upload.now answer.now))
-        ≡ record { facts = facts.new; next = Finish result } }
+        → put_on known upload.now answer.now ≡ record { facts = facts.new; next = Finish result } }
 {
     match answer {
         StoreAnswer::Written(_) => Reply::Done,

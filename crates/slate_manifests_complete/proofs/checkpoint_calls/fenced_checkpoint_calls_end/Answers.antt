@@ -1,5 +1,6 @@
+use Rattle.slate_log.specs.declared.right.Right.TheVariants.{Plain}
 use Rattle.slate_txn.specs.FencedApplying.{fenced_made}
-use Rattle.slate_updates.specs.Changes.{made, right_of}
+use Rattle.slate_updates.specs.Changes.{made}
 use Rattle.slate_updates.specs.Writers.{epoch_of}
 use Rattle.slate_complete.proofs.ApplyWalks.{apply_ends, apply_latest}
 use Rattle.slate_manifests.specs.Holding.{manifest_ways}
@@ -9,12 +10,12 @@ use Rattle.slate_manifests_complete.proofs.checkpoint_calls.fenced_checkpoint_ca
 
 pub returns-clause-answers : goal.returns-clause-answers
 returns-clause-answers c = λ id change moment tries old new s from to result call two named small serves ready.
-    answers_by (manifest_ways (fenced_made epoch_of from.epochs from.epoch (made change moment)) (right_of change)) id s new from.holder to.holder result call.reply (apply_ends (manifest_ways (fenced_made epoch_of from.epochs from.epoch (made change moment)) (right_of change)) moment tries old new s from.holder to.holder call.reply call.changed two named small serves ready) call.answers
+    answers_by (manifest_ways (fenced_made epoch_of from.epochs from.epoch (made change moment)) Plain) id s new from.holder to.holder result call.reply (apply_ends (manifest_ways (fenced_made epoch_of from.epochs from.epoch (made change moment)) Plain) moment tries old new s from.holder to.holder call.reply call.changed two named small serves ready) call.answers
 
 pub returns-clause-latest : goal.returns-clause-latest
 returns-clause-latest c = λ id change moment tries old new s from to result call some named small serves ready top.
-    answers_by (manifest_ways (fenced_made epoch_of from.epochs from.epoch (made change moment)) (right_of change)) id s new from.holder to.holder result call.reply (apply_latest (manifest_ways (fenced_made epoch_of from.epochs from.epoch (made change moment)) (right_of change)) moment tries old new s from.holder to.holder call.reply call.changed some named small serves ready top) call.answers
+    answers_by (manifest_ways (fenced_made epoch_of from.epochs from.epoch (made change moment)) Plain) id s new from.holder to.holder result call.reply (apply_latest (manifest_ways (fenced_made epoch_of from.epochs from.epoch (made change moment)) Plain) moment tries old new s from.holder to.holder call.reply call.changed some named small serves ready top) call.answers
 
 pub returns-clause-inside : goal.returns-clause-inside
 returns-clause-inside c = λ id change moment tries old new s from to result call two named small serves ready.
-    gives_inside id to.holder.object call.reply result (commit_inside (manifest_ways (fenced_made epoch_of from.epochs from.epoch (made change moment)) (right_of change)) (all_fenced_inside from.epochs from.epoch change moment) moment tries old new s from.holder to.holder call.reply call.changed two named small serves ready) call.answers
+    gives_inside id to.holder.object call.reply result (commit_inside (manifest_ways (fenced_made epoch_of from.epochs from.epoch (made change moment)) Plain) (all_fenced_inside from.epochs from.epoch change moment) moment tries old new s from.holder to.holder call.reply call.changed two named small serves ready) call.answers

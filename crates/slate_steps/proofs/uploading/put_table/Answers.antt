@@ -4,7 +4,6 @@ use Rattle.slate_tables.specs.declared.ss_table_info.SsTableInfo.{SsTableInfo}
 use Rattle.slate_protocol.specs.Uploaded.{info_of, with_upload}
 use Rattle.slate_protocol.specs.declared.party.Facts.{Facts}
 use Rattle.slate_protocol.specs.declared.uploads.Upload.{Upload}
-use Rattle.slate_protocol.specs.declared.work.Work.TheVariants.{PutTable}
 use Rattle.slate_steps.proofs.PutSteps.{put_step}
 use Rattle.slate_steps.proofs.uploading.put_table.Goals as goal
 
@@ -18,4 +17,4 @@ returns-in-Ok-clause-ok c =
     c.in_ok-call.ensures
     (rw (to_z-of_z w64 c.args.moment c.ranges.moment) at c.in-Ok.ensures.answer)
     (rw (to_z-of_z w64 c.args.moment c.ranges.moment) at c.in-Ok.ensures.store)
-    (c.reply_to.ensures facts call (PutTable c.args.db c.args.upload.now c.args.bytes.now) c.args.moment (ap (λ (us : List ((ℕ × ℕ) × SsTableInfo)). record facts { uploads = us }) noted) known)
+    (c.reply_to.ensures facts (ap (λ (us : List ((ℕ × ℕ) × SsTableInfo)). record facts { uploads = us }) noted) known)
