@@ -1,5 +1,5 @@
 -- Which event is bad, and which ids were carried, is what the databases and the events done say.
-use Rattle.std.proofs.Common.{◌≡◌, ◌≢◌, ℕ, ℤ, ◌+◌, ◌==◌, Bool, true, false, not, List, [], ◌∷◌, ◌++◌, Option, Some, None, is_some, is_none, Ok, Err, ◌⊎◌, inl, inr, refl, sym, ap, ◌∙◌, subst, arith}
+use Rattle.std.proofs.Common.{◌≡◌, ◌≢◌, ℕ, ℤ, ◌+◌, ◌==◌, Bool, true, false, not, List, [], ◌∷◌, ◌++◌, Option, Some, None, is_some, is_none, ◌⊎◌, inl, inr, refl, sym, ap, ◌∙◌, subst, arith}
 use Rattle.std.proofs.Math.Bool.{or_assoc}
 use Rattle.std.proofs.lemmas.Bool.Decides.{nat_tests}
 use Rattle.std.proofs.lemmas.Map.Text.{is_eq-slice_cmp}
@@ -13,7 +13,6 @@ use Rattle.std.specs.declared.cmp.Ordering.{Ordering}
 use Rattle.slate_ids.specs.Ulids.{same_id, id_cmp as ulid_cmp}
 use Rattle.slate_ids.specs.declared.object_path.ObjectPath.{ObjectPath}
 use Rattle.slate_ids.specs.declared.object_path.ObjectPath.TheVariants as paths
-use Rattle.slate_store.specs.Machines.{Stay, End}
 use Rattle.slate_store.specs.Store.{effect}
 use Rattle.slate_store.specs.declared.mark.Mark.{Mark}
 use Rattle.slate_store.specs.declared.store_call.StoreCall.{StoreCall}
@@ -30,9 +29,8 @@ use Rattle.slate_protocol.specs.Lawful.{IsAccepted, AreGood, course_after, world
 use Rattle.slate_protocol.specs.Rows.{begin, moved}
 use Rattle.slate_protocol.specs.Runs.{Course, Ran, going_on, opening, run}
 use Rattle.slate_protocol.specs.Specs.{opening_world}
-use Rattle.slate_protocol.specs.Works.{asks, is_due}
-use Rattle.slate_protocol.specs.World.{World, Transition, db_cmp, party_of, with_party, tally_of, raise_tally, to_manifest, to_record, committed, wrote, tallied, noted, newcomer, settled, stepped, step_state, start_state, halted, stop_state, carrying, may_start, open_at, start_at, step_at, stop_at, happens, refuses_start, is_bad}
-use Rattle.slate_protocol.specs.declared.party.Facts.{Facts}
+use Rattle.slate_protocol.specs.Works.{asks}
+use Rattle.slate_protocol.specs.World.{World, Transition, db_cmp, party_of, with_party, tally_of, raise_tally, to_manifest, to_record, committed, wrote, tallied, newcomer, settled, stepped, step_state, start_state, halted, stop_state, carrying, may_start, open_at, start_at, step_at, stop_at, happens, refuses_start, is_bad}
 use Rattle.slate_protocol.specs.declared.party.Party.{Party}
 use Rattle.slate_protocol.specs.declared.party.State.{State}
 use Rattle.slate_protocol.specs.declared.party.State.TheVariants.{Resting, Busy, Halted}
@@ -158,14 +156,10 @@ module _ (n : ℕ) (w : World) (p : Party) (at : party_of n w.parties ≡ Some p
             ulids = λ id. sym (or_false (is_carried ulid_cmp id w.carried.ulids));
           }
 
-      test : (task : Task) (b : Bool) → Does (Step n moment mark) w (if b then stepped w n p.facts task moment mark else noted n w).world
-      test task true = went task
-      test task false = quiet
-
       by_state : (state : State) → Does (Step n moment mark) w (step_state w n p.facts state moment mark).world
       by_state Resting = quiet
       by_state Halted = quiet
-      by_state (Busy task) = test task (is_due task.work)
+      by_state (Busy task) = went task
 
   start_does : (call : Call) (state : State) → Does (Start n call) w (start_state (carrying n call w) n p.facts state call).world
   start_does call state = by_state state

@@ -1,17 +1,14 @@
 -- What a call knows of its work, and what a step of it brings.
-use Rattle.std.proofs.Common.{◌≡◌, ℕ, ℤ, Bool, true, false, List, Option, Some, None, Result, Ok, Err, refl, sym, ap, ◌∙◌, subst}
+use Rattle.std.proofs.Common.{◌≡◌, ℕ, ℤ, Bool, true, false, List, Option, Some, None, Ok, Err, refl, sym, ap, subst}
 use Rattle.slate_changes.specs.LogWorks.{WorkGoes, work_goes}
 use Rattle.slate_changes.specs.declared.log_work.LogEnd.{LogEnd}
 use Rattle.slate_changes.specs.declared.log_work.LogEnd.TheVariants.{Absent, Unchanged, Committed}
-use Rattle.slate_changes.specs.declared.log_work.LogWork.{LogWork}
-use Rattle.slate_changes.specs.declared.log_work.LogWork.TheVariants.{Reading, Committing}
 use Rattle.slate_compactor.specs.Local.{finished, failed}
 use Rattle.slate_compactor.specs.declared.local_state.LocalState.{LocalState}
 use Rattle.slate_compactor_calls.specs.Commits.{ManifestChanging, RecordChanging, manifest_put, record_put}
 use Rattle.slate_compactor_calls.specs.Opening.{OpenGoes, open_goes}
 use Rattle.slate_compactor_calls.specs.StateSteps.{StateGoes, state_goes}
 use Rattle.slate_compactor_calls.specs.declared.compactor.Compactor.{Compactor}
-use Rattle.slate_compactor_calls.specs.declared.open_phase.OpenPhase.{OpenPhase}
 use Rattle.slate_compactor_calls.specs.declared.state_phase.StatePhase.{StatePhase}
 use Rattle.slate_compactor_calls.specs.declared.state_start.StateStart.{StateStart}
 use Rattle.slate_compactor_calls.specs.declared.state_start.StateStart.TheVariants as starts
@@ -45,14 +42,14 @@ use Rattle.slate_updates.specs.declared.manifest_change.ManifestChange.TheVarian
 use Rattle.slate_protocol.specs.Calls.{end_of, facts_after, facts_at_start, facts_with, has_call, local_in, pass_settings, refusal_at_start, state_phase, unless_open, with_held, Next, Go, Finish}
 use Rattle.slate_protocol.specs.Chains.{link_at}
 use Rattle.slate_protocol.specs.Holding.{Fits, FitsState}
-use Rattle.slate_protocol.specs.Logs.{Chains, Puts, OfManifest, log_of, manifest_puts, pass_phrase, phrase_of, record_puts}
+use Rattle.slate_protocol.specs.Logs.{Chains, OfManifest, log_of, pass_phrase, phrase_of}
 use Rattle.slate_protocol.specs.Rows.{Standing, begin, begin_unless, compactor_on, first_next, manifest_on, moved, open_on, pass_on, put_on, record_on, state_on}
 use Rattle.slate_protocol.specs.Works.{db_of, pass_ways}
 use Rattle.slate_protocol.specs.declared.party.Facts.{Facts}
 use Rattle.slate_protocol.specs.declared.uploads.Upload.{Upload}
 use Rattle.slate_protocol.specs.declared.work.Work.{Work}
 use Rattle.slate_protocol.specs.declared.work.Work.TheVariants as works
-use Rattle.slate_laws.proofs.Changing.{ChangeBrings, EndKnows, ManifestBrings, RecordBrings, change_brings, manifest_brings, manifest_makes, record_brings}
+use Rattle.slate_laws.proofs.Changing.{ChangeBrings, ManifestBrings, RecordBrings, change_brings, manifest_brings, manifest_makes, record_brings}
 use Rattle.slate_laws.proofs.Facts.{IsSound}
 use Rattle.slate_laws.proofs.FactsKept.{SameParty, moved_same, starts_same}
 use Rattle.slate_laws.proofs.Opens.{Given, OpenBrings, OpenKnows, Raised, kept_given, kept_open, kept_raised, open_brings}

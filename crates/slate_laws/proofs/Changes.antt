@@ -1,6 +1,5 @@
 -- What an event changes of the chains.
-use Rattle.std.proofs.Common.{◌≡◌, ℕ, ℤ, Bool, true, false, List, Option, Some, None, is_some, refl, ap, ◌∙◌}
-use Rattle.std.specs.Prelude.{if◌then◌else◌}
+use Rattle.std.proofs.Common.{◌≡◌, ℕ, ℤ, true, List, Option, Some, None, is_some, refl, ap, ◌∙◌}
 use Rattle.slate_ids.specs.declared.object_path.ObjectPath.{ObjectPath}
 use Rattle.slate_store.specs.Store.{Store, object_at, stands_at, put_new, under, taken, effect}
 use Rattle.slate_store.specs.declared.mark.Mark.{Mark}
@@ -14,7 +13,6 @@ use Rattle.slate_protocol.specs.Chains.{Changed}
 use Rattle.slate_protocol.specs.Chains.Changed.{Stays, Gets}
 use Rattle.slate_protocol.specs.Logs.{Author, Chain, Chains, phrase_of, chains_stepped, chains_state, chains_at, chains_after}
 use Rattle.slate_log.specs.declared.log_kind.LogKind.{LogKind}
-use Rattle.slate_protocol.specs.Works.{is_due}
 use Rattle.slate_protocol.specs.World.{World, party_of, HasDb}
 use Rattle.slate_protocol.specs.declared.party.Party.{Party}
 use Rattle.slate_protocol.specs.declared.party.State.{State}
@@ -34,12 +32,7 @@ step_changes : (w : World) (chains : Chains) (i : Inv w chains) (n : ℕ) (p : P
     → Changed (By n) (chains k d) (chains_state w n state moment mark chains k d)
 step_changes w chains i n p at moment mark Resting known k d h = Stays refl
 step_changes w chains i n p at moment mark Halted known k d h = Stays refl
-step_changes w chains i n p at moment mark (Busy task) known k d h = test (is_due task.work) (by_party k n _ (chains k d) (chains_stepped w n task moment mark chains k d) (author_party n (phrase_of task.work)) (log_after w chains i n p at task known moment mark k d h).changed)
-  where
-    test : (b : Bool) → Changed (By n) (chains k d) (chains_stepped w n task moment mark chains k d)
-        → Changed (By n) (chains k d) ((if b then chains_stepped w n task moment mark chains else chains) k d)
-    test true c = c
-    test false c = Stays refl
+step_changes w chains i n p at moment mark (Busy task) known k d h = by_party k n _ (chains k d) (chains_stepped w n task moment mark chains k d) (author_party n (phrase_of task.work)) (log_after w chains i n p at task known moment mark k d h).changed
 
 pub event_changes : (w : World) (chains : Chains) (e : Event) → Inv w chains → (k : LogKind) (d : List ℕ) → HasDb w d → Changed (By (party_in e)) (chains k d) (chains_after w e chains k d)
 event_changes w chains (Open n kind db) i k d h = Stays refl

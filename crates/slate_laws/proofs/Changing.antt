@@ -1,5 +1,5 @@
 -- A step of a change of a log under way: what it brings, of any log.
-use Rattle.std.proofs.Common.{◌≡◌, ℕ, ℤ, ◌+◌, ◌<◌, ◌≤◌, ◌^◌, ◌==◌, true, false, List, Option, Some, None, Result, Ok, Err, refl, sym, ap, ◌∙◌, subst, arith}
+use Rattle.std.proofs.Common.{◌≡◌, ℕ, ℤ, ◌+◌, ◌<◌, ◌≤◌, ◌^◌, ◌==◌, false, List, Option, Some, None, Result, Ok, Err, refl, sym, ap, ◌∙◌, subst, arith}
 use Rattle.std.proofs.lemmas.Bool.Decides.{nat_tests}
 use Rattle.slate_changes.specs.Changes.{fence_by, made_by, right_by}
 use Rattle.slate_changes.specs.LogWorks.{WorkGoes, change_goes, commit_on, read_on, work_goes}
@@ -32,7 +32,7 @@ use Rattle.slate_updates.specs.Changes as manifests
 use Rattle.slate_updates.specs.Rules.{manifest_refusal}
 use Rattle.slate_updates.specs.declared.manifest_change.ManifestChange.{ManifestChange}
 use Rattle.slate_protocol.specs.Chains.{Link, Log, link_at, top}
-use Rattle.slate_protocol.specs.Logs.{Author, Chains, Held, Puts, OfManifest, OfRecord, First, manifest_puts, record_puts, log_of, change_phrase, manifest_phrase, record_phrase}
+use Rattle.slate_protocol.specs.Logs.{Chains, Held, Puts, manifest_puts, record_puts, log_of, change_phrase, manifest_phrase, record_phrase}
 use Rattle.slate_laws.proofs.Facts.{IsSound, IsValue, IsNext, ReadBrings, CommitKnows, CommitBrings}
 use Rattle.slate_laws.proofs.Facts.IsMade.{OfVersion}
 use Rattle.slate_laws.proofs.Links.{link_number, at_most}

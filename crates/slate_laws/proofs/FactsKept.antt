@@ -1,5 +1,5 @@
 -- What the facts of a party keep: its number, kind and database stay, whatever its call does.
-use Rattle.std.proofs.Common.{◌≡◌, ℕ, ℤ, List, Option, Some, None, Result, Ok, Err, refl}
+use Rattle.std.proofs.Common.{◌≡◌, ℕ, ℤ, List, Option, Some, None, Ok, Err, refl}
 use Rattle.slate_changes.specs.LogWorks.{WorkGoes, work_goes}
 use Rattle.slate_changes.specs.declared.log_work.LogEnd.{LogEnd}
 use Rattle.slate_changes.specs.declared.log_work.LogEnd.TheVariants.{Absent, Unchanged, Committed}
@@ -19,7 +19,7 @@ use Rattle.slate_model.specs.declared.manifest.Manifest.{Manifest}
 use Rattle.slate_passes.specs.GcPhase.{GcGoes, gc_goes}
 use Rattle.slate_passes.specs.declared.pass_settings.PassSettings.{PassSettings}
 use Rattle.slate_protocol.specs.Calls.{end_of, facts_after, facts_at_start, facts_with, with_held}
-use Rattle.slate_protocol.specs.Rows.{Standing, compactor_on, manifest_on, moved, open_on, pass_on, put_on, record_on, state_on}
+use Rattle.slate_protocol.specs.Rows.{compactor_on, manifest_on, moved, open_on, pass_on, put_on, record_on, state_on}
 use Rattle.slate_protocol.specs.Works.{pass_ways}
 use Rattle.slate_protocol.specs.declared.party.Facts.{Facts}
 use Rattle.slate_protocol.specs.declared.uploads.Upload.{Upload}

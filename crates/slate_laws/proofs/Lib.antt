@@ -23,7 +23,6 @@ mod Calls
 mod Tallies
 mod Epochs
 mod Runs
-mod Due
 mod Rows
 mod Trails
 mod GoingOn

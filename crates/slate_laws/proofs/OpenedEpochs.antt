@@ -1,5 +1,5 @@
 -- The epochs that a compactor has raised, and with which it is open, are at most those of the greatest versions of its database: at each moment of a run.
-use Rattle.std.proofs.Common.{◌≡◌, ℕ, ◌≤◌, List, [], ◌∷◌, Option, Some, None, refl, sym, subst}
+use Rattle.std.proofs.Common.{◌≡◌, ℕ, ◌≤◌, List, [], ◌∷◌, Option, Some, None, subst}
 use Rattle.slate_compactor_calls.specs.declared.compactor.Compactor.{Compactor}
 use Rattle.slate_compactor_calls.specs.declared.open_phase.OpenPhase.{OpenPhase}
 use Rattle.slate_compactor_calls.specs.declared.open_phase.OpenPhase.TheVariants as opening
@@ -17,7 +17,6 @@ use Rattle.slate_protocol.specs.Logs.{Author, Chains, manifests, records, world_
 use Rattle.slate_protocol.specs.Specs.{opening_world}
 use Rattle.slate_protocol.specs.Works.{db_of}
 use Rattle.slate_protocol.specs.World.{World, party_of}
-use Rattle.slate_protocol.specs.declared.party.Facts.{Facts}
 use Rattle.slate_protocol.specs.declared.party.Party.{Party}
 use Rattle.slate_protocol.specs.declared.party.State.{State}
 use Rattle.slate_protocol.specs.declared.party.State.TheVariants.{Resting, Busy, Halted}

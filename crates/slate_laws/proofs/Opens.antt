@@ -1,5 +1,5 @@
 -- An open of a compactor: what is known of the epoch that it raised, and what a step of it brings.
-use Rattle.std.proofs.Common.{◌≡◌, ◌≢◌, ℕ, ℤ, ◌^◌, Bool, true, false, List, Option, Some, None, Result, Ok, Err, refl, sym, ap, ◌∙◌, subst, arith}
+use Rattle.std.proofs.Common.{◌≡◌, ◌≢◌, ℕ, ℤ, Bool, true, false, List, Option, Some, None, Result, Ok, Err, refl, sym, ap, ◌∙◌, subst, arith}
 use Rattle.std.specs.Prelude.{nat_le, if◌then◌else◌}
 use Rattle.slate_changes.specs.Changes.{fence_by, made_by, right_by}
 use Rattle.slate_changes.specs.LogWorks.{WorkGoes, change_goes, commit_on, read_on, work_goes}
@@ -7,7 +7,7 @@ use Rattle.slate_changes.specs.declared.log_work.LogEnd.{LogEnd}
 use Rattle.slate_changes.specs.declared.log_work.LogEnd.TheVariants.{Absent, Unchanged, Committed}
 use Rattle.slate_changes.specs.declared.log_work.LogWork.{LogWork}
 use Rattle.slate_changes.specs.declared.log_work.LogWork.TheVariants.{Reading, Committing}
-use Rattle.slate_compactor_calls.specs.Commits.{ManifestChanging, RecordChanging, committing, first_of, first_put, manifest_in, manifest_put, put_of, record_in, record_put}
+use Rattle.slate_compactor_calls.specs.Commits.{ManifestChanging, RecordChanging, first_of, manifest_in, manifest_put, put_of, record_in, record_put}
 use Rattle.slate_compactor_calls.specs.Opening.{OpenGoes, after_record, on_record, open_goes, puts, raised, raising, with_version, without_version}
 use Rattle.slate_compactor_calls.specs.declared.open_phase.OpenPhase.{OpenPhase}
 use Rattle.slate_compactor_calls.specs.declared.open_phase.OpenPhase.TheVariants.{Raising, OnRecord, Over}
@@ -39,11 +39,10 @@ use Rattle.slate_store.specs.declared.store_answer.StoreAnswer.{StoreAnswer}
 use Rattle.slate_store.specs.declared.store_answer.StoreAnswer.TheVariants.{Created, Got}
 use Rattle.slate_updates.specs.Writers.{epoch_of}
 use Rattle.slate_updates.specs.declared.epochs.ManifestEpochs.TheVariants.{Compactor}
-use Rattle.slate_updates.specs.declared.manifest_change.ManifestChange.{ManifestChange}
 use Rattle.slate_updates.specs.declared.manifest_change.ManifestChange.TheVariants.{RaiseCompactor}
 use Rattle.slate_protocol.specs.Chains.{Link, link_at}
 use Rattle.slate_protocol.specs.Holding.{FitsOpen, open_change}
-use Rattle.slate_protocol.specs.Logs.{Author, Chains, First, log_of, open_phrase, record_puts}
+use Rattle.slate_protocol.specs.Logs.{Author, Chains, log_of, open_phrase, record_puts}
 use Rattle.slate_laws.proofs.Changing.{EndKnows, IsBegun, IsHeld, ManifestBrings, RecordBrings, is_begun, manifest_brings, manifest_held, put_knows, record_brings, record_held, record_makes}
 use Rattle.slate_laws.proofs.Facts.{IsSound, IsValue}
 use Rattle.slate_laws.proofs.Facts.IsMade.{OfNone}

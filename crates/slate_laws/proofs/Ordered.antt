@@ -22,8 +22,8 @@ use Rattle.slate_events.specs.declared.event.Event.{Event}
 use Rattle.slate_events.specs.declared.event.Event.TheVariants.{Open, Start, Step, Stop}
 use Rattle.slate_protocol.specs.Logs.{world_after}
 use Rattle.slate_protocol.specs.Specs.{First, objects_of, listed_or_none, no_objects, store_from, opening_world}
-use Rattle.slate_protocol.specs.Works.{asks, is_due}
-use Rattle.slate_protocol.specs.World.{World, Transition, party_of, tally_of, noted, stepped, step_state, start_state, stop_state, carrying, may_start, open_at, start_at, step_at, stop_at, happens}
+use Rattle.slate_protocol.specs.Works.{asks}
+use Rattle.slate_protocol.specs.World.{World, Transition, party_of, tally_of, step_state, start_state, stop_state, carrying, may_start, open_at, start_at, step_at, stop_at, happens}
 use Rattle.slate_protocol.specs.declared.party.Facts.{Facts}
 use Rattle.slate_protocol.specs.declared.party.Party.{Party}
 use Rattle.slate_protocol.specs.declared.party.State.{State}
@@ -120,11 +120,7 @@ Kept w = IsOrdered w.store.objects
 step_ordered : (w : World) (n : ℕ) (facts : Facts) (moment : ℤ) (mark : Mark) → Kept w → (state : State) → Kept (step_state w n facts state moment mark).world
 step_ordered w n facts moment mark h Resting = h
 step_ordered w n facts moment mark h Halted = h
-step_ordered w n facts moment mark h (Busy task) = test (is_due task.work) (effect_ordered mark (asks task.work) moment w.store h)
-  where
-    test : (b : Bool) → Kept (stepped w n facts task moment mark).world → Kept (if b then stepped w n facts task moment mark else noted n w).world
-    test true k = k
-    test false k = h
+step_ordered w n facts moment mark h (Busy task) = effect_ordered mark (asks task.work) moment w.store h
 
 start_ordered : (w : World) (n : ℕ) (facts : Facts) (call : Call) → Kept w → (state : State) → Kept (start_state w n facts state call).world
 start_ordered w n facts call h Resting = h

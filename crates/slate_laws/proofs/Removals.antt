@@ -27,8 +27,8 @@ use Rattle.slate_protocol.specs.Lawful.{AreGood, course_after, gone_after}
 use Rattle.slate_protocol.specs.Runs.{Course, Ran, going_on, opening, run}
 use Rattle.slate_protocol.specs.Safe.{path_if, took_away, removed_by_call, removed_by, gone}
 use Rattle.slate_protocol.specs.Specs.{opening_world}
-use Rattle.slate_protocol.specs.Works.{asks, is_due}
-use Rattle.slate_protocol.specs.World.{World, Transition, party_of, tally_of, lost_one, counted, noted, stepped, step_state, start_state, stop_state, carrying, may_start, open_at, start_at, step_at, stop_at, happens}
+use Rattle.slate_protocol.specs.Works.{asks}
+use Rattle.slate_protocol.specs.World.{World, Transition, party_of, tally_of, lost_one, counted, noted, step_state, start_state, stop_state, carrying, may_start, open_at, start_at, step_at, stop_at, happens}
 use Rattle.slate_protocol.specs.declared.party.Facts.{Facts}
 use Rattle.slate_protocol.specs.declared.party.Party.{Party}
 use Rattle.slate_protocol.specs.declared.party.State.{State}
@@ -142,11 +142,7 @@ module _ (w : World) (most : w.deleted ≤ last_number) (h : IsOrdered w.store.o
   step_counts : (n : ℕ) (facts : Facts) (moment : ℤ) (mark : Mark) (state : State) → Counts w (step_state w n facts state moment mark)
   step_counts n facts moment mark Resting = quiet (noted n w) refl refl refl refl
   step_counts n facts moment mark Halted = quiet (noted n w) refl refl refl refl
-  step_counts n facts moment mark (Busy task) = test (is_due task.work)
-    where
-      test : (b : Bool) → Counts w (if b then stepped w n facts task moment mark else noted n w)
-      test true = record { store = refl; deleted = call_counts (asks task.work) mark moment w.store w.deleted most h }
-      test false = quiet (noted n w) refl refl refl refl
+  step_counts n facts moment mark (Busy task) = record { store = refl; deleted = call_counts (asks task.work) mark moment w.store w.deleted most h }
 
   start_counts : (n : ℕ) (call : Call) (facts : Facts) (state : State) → Counts w (start_state (carrying n call w) n facts state call)
   start_counts n call facts Resting = quiet (start_state (carrying n call w) n facts Resting call) refl refl refl refl

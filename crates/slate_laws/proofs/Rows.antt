@@ -17,7 +17,7 @@ use Rattle.slate_protocol.specs.ByRows.{Doing, Rests, Answers, Stays, Told, AllT
 use Rattle.slate_protocol.specs.Calls.{Next, Go, Finish}
 use Rattle.slate_protocol.specs.Rows.{Answered, Row, Asks, Standing, begin, moved, answered, after_answers, stands_after, row_of, row}
 use Rattle.slate_protocol.specs.Runs.{Course, Ran, going_on, run}
-use Rattle.slate_protocol.specs.Works.{asks, is_due}
+use Rattle.slate_protocol.specs.Works.{asks}
 use Rattle.slate_protocol.specs.World.{World, Transition, party_of, with_party, tally_of, noted, first_facts, newcomer, settled, reply_of, stepped, step_state, start_state, halted, stop_state, carrying, may_start, open_at, start_at, step_at, stop_at, happens}
 use Rattle.slate_protocol.specs.declared.party.Facts.{Facts}
 use Rattle.slate_protocol.specs.declared.party.Party.{Party}
@@ -25,7 +25,6 @@ use Rattle.slate_protocol.specs.declared.party.State.{State}
 use Rattle.slate_protocol.specs.declared.party.State.TheVariants.{Resting, Busy, Halted}
 use Rattle.slate_protocol.specs.declared.party.Task.{Task}
 use Rattle.slate_protocol.specs.declared.tally.Tally.{Tally}
-use Rattle.slate_laws.proofs.Due.{DueNext, moved_due, begin_due}
 use Rattle.slate_laws.proofs.Maps.{number_order, set_here, set_else, insert_here, insert_else}
 
 -- one answer more
@@ -41,11 +40,11 @@ row_reply (Finish reply) = refl
 
 -- ---- what the trail says of a party is where it stands
 
--- with the facts that the trail tells: a call under way stands after its answers where its party is, with a store call due; and a party
--- at rest has these facts
+-- with the facts that the trail tells: a call under way stands after its answers where its party is, and a party at rest has
+-- these facts
 abbrev pub CallIs : Facts → Doing → Facts → State → Type 0
 CallIs known Rests facts Resting = known ≡ facts
-CallIs known (Answers under answers) facts (Busy task) = (under ≡ task.call) × (stands_after known task.call answers ≡ record { facts = facts; next = Go task.work }) × (is_due task.work ≡ true)
+CallIs known (Answers under answers) facts (Busy task) = (under ≡ task.call) × (stands_after known task.call answers ≡ record { facts = facts; next = Go task.work })
 CallIs known Stays facts Halted = Unit {0}
 CallIs known Rests facts (Busy task) = ⊥
 CallIs known Rests facts Halted = ⊥
@@ -64,10 +63,10 @@ abbrev pub AllMatch : AllTold → World → Type 0
 AllMatch all w = (n : ℕ) → Matches (all n) (party_of n w.parties)
 
 -- after a reply, or none
-settled_matches : (known : Facts) (call : Call) (answers : List Answered) (facts : Facts) (next : Next) → stands_after known call answers ≡ record { facts = facts; next = next } → DueNext next
+settled_matches : (known : Facts) (call : Call) (answers : List Answered) (facts : Facts) (next : Next) → stands_after known call answers ≡ record { facts = facts; next = next }
     → Matches (Some (told_call known call answers (reply_of next))) (Some (settled call (record { facts = facts; next = next })))
-settled_matches known call answers facts (Go at) h due = (refl, h, due)
-settled_matches known call answers facts (Finish reply) h due = ap (λ (s : Standing). s.facts) h
+settled_matches known call answers facts (Go at) h = (refl, h)
+settled_matches known call answers facts (Finish reply) h = ap (λ (s : Standing). s.facts) h
 
 -- what an event brings: the entry of the row, and the store that the entry leaves
 pub record Brought (e : Event) (told : Option Told) (w : World) (d : Transition) : Type 0 where
@@ -102,7 +101,7 @@ module _ (n : ℕ) (w : World) (p : Party) (at : party_of n w.parties ≡ Some p
         entry = ap (λ (r : Option Reply). Started n r) (sym (row_reply standing.next) ∙ sym (ap (λ (f : Facts). reply_in (row f call [])) m)) ∙ sym (ap (λ (x : Doing). start_entry n call s.facts x) is);
         store = refl;
         own = subst (Matches (Some (told_call s.facts call [] (reply_of standing.next)))) (sym (here (settled call standing)))
-            (settled_matches s.facts call [] standing.facts standing.next (ap (λ (f : Facts). begin f call) m) (begin_due p.facts call));
+            (settled_matches s.facts call [] standing.facts standing.next (ap (λ (f : Facts). begin f call) m));
         others = λ k ne. away (settled call standing) k ne;
       }
 
@@ -161,14 +160,9 @@ module _ (n : ℕ) (w : World) (p : Party) (at : party_of n w.parties ≡ Some p
         store = refl;
         own = subst (Matches (Some (told_answer s.facts s.doing (answer, moment) (reply_of standing.next)))) (sym (here (settled task.call standing)))
             (subst (λ (x : Doing). Matches (Some (told_answer s.facts x (answer, moment) (reply_of standing.next))) (Some (settled task.call standing))) (sym is)
-            (settled_matches s.facts task.call (answers ++ (answer, moment) ∷ []) standing.facts standing.next more (moved_due p.facts task.call moment task.work answer)));
+            (settled_matches s.facts task.call (answers ++ (answer, moment) ∷ []) standing.facts standing.next more));
         others = λ k ne. away (settled task.call standing) k ne;
       }
-
-  due_step : (moment : ℤ) (mark : Mark) (task : Task) (b : Bool) → b ≡ true → Brought (Step n moment mark) (Some s) w (stepped w n p.facts task moment mark)
-      → Brought (Step n moment mark) (Some s) w (if b then stepped w n p.facts task moment mark else noted n w)
-  due_step moment mark task true is b = b
-  due_step moment mark task false is b = absurd cc
 
   step_idle : (moment : ℤ) (mark : Mark) (doing : Doing) → s.doing ≡ doing → step_entry n moment mark w.store s.facts doing ≡ Idle n → CallIs s.facts s.doing p.facts p.state → Brought (Step n moment mark) (Some s) w (noted n w)
   step_idle moment mark doing is idle m = as_it_was (Step n moment mark) refl (ap (λ (x : Doing). step_entry n moment mark w.store s.facts x) is ∙ idle) refl m
@@ -184,7 +178,7 @@ module _ (n : ℕ) (w : World) (p : Party) (at : party_of n w.parties ≡ Some p
   step_busy moment mark (Busy task) st Stays is m k = absurd m
   step_busy moment mark (Busy task) st (Answers c answers) is m k =
       let at_call : s.doing ≡ Answers task.call answers = is ∙ ap (λ (x : Call). Answers x answers) m.0 in
-      due_step moment mark task (is_due task.work) m.2 (step_on moment mark task answers at_call m.1)
+      step_on moment mark task answers at_call m.1
 
   step_brings : (moment : ℤ) (mark : Mark) (state : State) → p.state ≡ state → CallIs s.facts s.doing p.facts state → Brought (Step n moment mark) (Some s) w (step_state w n p.facts state moment mark)
   step_brings moment mark state st m = step_busy moment mark state st s.doing refl m (subst (CallIs s.facts s.doing p.facts) (sym st) m)

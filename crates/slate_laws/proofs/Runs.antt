@@ -20,8 +20,8 @@ use Rattle.slate_protocol.specs.Chains.{Changed, link_at}
 use Rattle.slate_protocol.specs.Chains.Changed.{Stays}
 use Rattle.slate_protocol.specs.Logs.{Author, log_of, Chain, Chains, Phrase, Reads, Commits, Uploads, Collects, phrase_of, put_by, chains_put, chains_stepped, chains_state, chains_at, chains_after, world_after, chains_of}
 use Rattle.slate_protocol.specs.Rows.{Standing, begin, moved}
-use Rattle.slate_protocol.specs.Works.{db_of, asks, is_due}
-use Rattle.slate_protocol.specs.World.{World, Transition, party_of, with_party, tally_of, tallied, wrote, noted, newcomer, settled, stepped, step_state, start_state, halted, stop_state, carrying, may_start, open_at, start_at, step_at, stop_at, happens, HasDb}
+use Rattle.slate_protocol.specs.Works.{db_of, asks}
+use Rattle.slate_protocol.specs.World.{World, Transition, party_of, with_party, tally_of, tallied, wrote, newcomer, settled, stepped, step_state, start_state, halted, stop_state, carrying, may_start, open_at, start_at, step_at, stop_at, happens, HasDb}
 use Rattle.slate_protocol.specs.declared.party.Facts.{Facts}
 use Rattle.slate_protocol.specs.declared.party.Party.{Party}
 use Rattle.slate_protocol.specs.declared.party.State.{State}
@@ -339,12 +339,7 @@ step_inv : (w : World) (chains : Chains) (n : ℕ) (p : Party) (moment : ℤ) (m
     → Inv (step_state w n p.facts state moment mark).world (chains_state w n state moment mark chains)
 step_inv w chains n p moment mark i at Resting k = i
 step_inv w chains n p moment mark i at Halted k = i
-step_inv w chains n p moment mark i at (Busy task) k = test (is_due task.work) (stepped_inv w chains i n p at task k moment mark)
-  where
-    test : (b : Bool) → Inv (stepped w n p.facts task moment mark).world (chains_stepped w n task moment mark chains)
-        → Inv (if b then stepped w n p.facts task moment mark else noted n w).world (if b then chains_stepped w n task moment mark chains else chains)
-    test true h = h
-    test false h = i
+step_inv w chains n p moment mark i at (Busy task) k = stepped_inv w chains i n p at task k moment mark
 
 start_inv : (w : World) (chains : Chains) (n : ℕ) (p : Party) (call : Call) → has_call p.facts.kind call ≡ true → Inv w chains → party_of n w.parties ≡ Some p → (state : State) → Inv (start_state w n p.facts state call).world chains
 start_inv w chains n p call may i at Resting =

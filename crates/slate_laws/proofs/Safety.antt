@@ -29,15 +29,15 @@ use Rattle.slate_passes.specs.declared.pass_phase.PassPhase.TheVariants as passi
 use Rattle.slate_protocol.specs.ByRows.{AllTold, all_told_after, entry_store}
 use Rattle.slate_protocol.specs.Chains.{bound_in}
 use Rattle.slate_protocol.specs.Holding.{IsManifestThat}
-use Rattle.slate_protocol.specs.Logs.{Chains, Phrase, Reads, Commits, Uploads, Collects, log_of, manifests, phrase_of, chains_stepped, chains_state, chains_at, chains_after, chains_of}
+use Rattle.slate_protocol.specs.Logs.{Chains, Phrase, Reads, Commits, Uploads, Collects, log_of, manifests, phrase_of, chains_state, chains_at, chains_after, chains_of}
 use Rattle.slate_protocol.specs.Owners.{owner_of}
 use Rattle.slate_protocol.specs.Owners.Owner.{Version}
 use Rattle.slate_protocol.specs.Reach.{IsNeeded, InReach, Reachable, IsSpare}
 use Rattle.slate_protocol.specs.Reach.InReach.{OfVersion}
 use Rattle.slate_protocol.specs.Runs.{Course, Ran, going_on, run}
 use Rattle.slate_protocol.specs.Safe.{took_away, path_if, removed_by_call, removed_by, gone, NoneReachable, IsCollected, AllCollected, IsPresent, IsSafe}
-use Rattle.slate_protocol.specs.Works.{asks, is_due, db_of}
-use Rattle.slate_protocol.specs.World.{World, Transition, HasDb, party_of, tally_of, noted, stepped, step_state, start_state, stop_state, carrying, may_start, open_at, start_at, step_at, stop_at, happens}
+use Rattle.slate_protocol.specs.Works.{asks, db_of}
+use Rattle.slate_protocol.specs.World.{World, Transition, HasDb, party_of, tally_of, step_state, start_state, stop_state, carrying, may_start, open_at, start_at, step_at, stop_at, happens}
 use Rattle.slate_protocol.specs.declared.party.Facts.{Facts}
 use Rattle.slate_protocol.specs.declared.party.Party.{Party}
 use Rattle.slate_protocol.specs.declared.party.State.{State}
@@ -74,18 +74,13 @@ step_after : (w : World) (chains : Chains) (i : Inv w chains) (n : ℕ) (p : Par
     → EventAfter w chains (step_state w n p.facts state moment mark).world (chains_state w n state moment mark chains)
 step_after w chains i n p at moment mark Resting k = leaves_all w w chains refl refl
 step_after w chains i n p at moment mark Halted k = leaves_all w w chains refl refl
-step_after w chains i n p at moment mark (Busy task) k = test (is_due task.work) (record {
+step_after w chains i n p at moment mark (Busy task) k = record {
   same = λ db. same_tallies w chains i n p at task k moment mark db;
   grows = λ log db has. (log_after w chains i n p at task k moment mark log db has).grows;
   zero = λ h log db has.
       let had = sym (same_tallies w chains i n p at task k moment mark db) ∙ has in
       zero_stays log db (i.named db had) w.store chains n task.work moment mark (subst (λ d. is_db_path d ≡ true) (sym k.own) (i.named p.facts.db (i.parties n p at).has)) k.knows (h log db had);
-})
-  where
-    test : (b : Bool) → EventAfter w chains (stepped w n p.facts task moment mark).world (chains_stepped w n task moment mark chains)
-        → EventAfter w chains (if b then stepped w n p.facts task moment mark else noted n w).world (if b then chains_stepped w n task moment mark chains else chains)
-    test true h = h
-    test false h = leaves_all w w chains refl refl
+}
 
 start_after : (w : World) (chains : Chains) (n : ℕ) (facts : Facts) (state : State) (call : Call) → EventAfter w chains (start_state (carrying n call w) n facts state call).world chains
 start_after w chains n facts Resting call = leaves_all w _ chains refl refl
@@ -200,12 +195,7 @@ module _ (w : World) (chains : Chains) (v : World) (chains' : Chains) (a : Event
   step_gone n facts Halted moment mark has k = tt
   step_gone n facts (Busy task) moment mark has k =
       let s = (effect mark (asks task.work) moment w.store).store in
-      test (is_due task.work) (work_gone n task.work s (subst (λ d. HasDb w d) (sym k.own) has) k.knows)
-    where
-      test : (b : Bool) → AllCollected v chains' (removed_by (stepped w n facts task moment mark).entry w.store)
-          → AllCollected v chains' (removed_by (if b then stepped w n facts task moment mark else noted n w).entry w.store)
-      test true h = h
-      test false h = tt
+      work_gone n task.work s (subst (λ d. HasDb w d) (sym k.own) has) k.knows
 
   start_gone : (n : ℕ) (facts : Facts) (state : State) (call : Call) (u : World) → AllCollected v chains' (removed_by (start_state u n facts state call).entry w.store)
   start_gone n facts Resting call u = tt

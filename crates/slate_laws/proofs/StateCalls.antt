@@ -1,5 +1,5 @@
 -- A call of a compactor on its state: what a step of it brings.
-use Rattle.std.proofs.Common.{◌≡◌, ℕ, ℤ, Bool, true, false, List, Option, Some, None, Result, Ok, Err, refl, sym, ap, ◌∙◌, subst}
+use Rattle.std.proofs.Common.{◌≡◌, ℕ, ℤ, Bool, true, false, List, Option, Some, None, Result, Ok, Err, refl, sym, ap}
 use Rattle.slate_changes.specs.LogWorks.{WorkGoes, work_goes}
 use Rattle.slate_changes.specs.declared.log_work.LogEnd.{LogEnd}
 use Rattle.slate_changes.specs.declared.log_work.LogEnd.TheVariants.{Absent, Unchanged, Committed}
@@ -30,7 +30,7 @@ use Rattle.slate_store.specs.Machines.{Stay, End}
 use Rattle.slate_store.specs.Store.{Store}
 use Rattle.slate_store.specs.declared.store_answer.StoreAnswer.{StoreAnswer}
 use Rattle.slate_protocol.specs.Calls.{state_phase, unless_open}
-use Rattle.slate_protocol.specs.Holding.{FitsState, IsManifestStep, IsRecordStep, change_at, record_change_at, schedule_of, write_of}
+use Rattle.slate_protocol.specs.Holding.{FitsState, IsManifestStep, IsRecordStep, schedule_of, write_of}
 use Rattle.slate_protocol.specs.Logs.{Chains, log_of, manifest_puts, record_puts, state_phrase}
 use Rattle.slate_laws.proofs.Changing.{EndKnows, IsHeld, ManifestBrings, RecordBrings, manifest_brings, manifest_held, manifest_makes, put_knows, record_brings, record_held, record_makes}
 use Rattle.slate_laws.proofs.Facts.{IsSound, IsValue}

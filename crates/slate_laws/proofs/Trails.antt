@@ -31,11 +31,11 @@ use Rattle.slate_referenced.specs.declared.referenced_phase.ReferencedPhase.{Ref
 use Rattle.slate_referenced.specs.declared.referenced_phase.ReferencedPhase.TheVariants as fetching
 use Rattle.slate_protocol.specs.ByRows.{AllTold, all_told_after, entry_store, trail_by}
 use Rattle.slate_protocol.specs.Chains.{Link, link_at, if_new, with_link}
-use Rattle.slate_protocol.specs.Logs.{Author, Chains, Held, Phrase, Reads, Commits, Uploads, Collects, log_of, phrase_of, put_in, put_by, chain_with, chains_put, chains_stepped, chains_state, chains_at, chains_after, chains_of}
+use Rattle.slate_protocol.specs.Logs.{Author, Chains, Held, Phrase, Reads, Commits, Uploads, Collects, log_of, phrase_of, put_in, put_by, chain_with, chains_put, chains_state, chains_at, chains_after, chains_of}
 use Rattle.slate_protocol.specs.Runs.{Course, Ran, going_on, run}
 use Rattle.slate_protocol.specs.Trails.{Firsts, has_number, first_put, same_log, call_told, entry_told, store_of, told, numbered}
-use Rattle.slate_protocol.specs.Works.{asks, is_due}
-use Rattle.slate_protocol.specs.World.{World, Transition, party_of, tally_of, wrote, noted, stepped, step_state, start_state, stop_state, carrying, may_start, open_at, start_at, step_at, stop_at, happens}
+use Rattle.slate_protocol.specs.Works.{asks}
+use Rattle.slate_protocol.specs.World.{World, Transition, party_of, tally_of, wrote, step_state, start_state, stop_state, carrying, may_start, open_at, start_at, step_at, stop_at, happens}
 use Rattle.slate_protocol.specs.declared.party.Facts.{Facts}
 use Rattle.slate_protocol.specs.declared.party.Party.{Party}
 use Rattle.slate_protocol.specs.declared.party.State.{State}
@@ -141,13 +141,7 @@ step_told : (w : World) (n : ℕ) (facts : Facts) (state : State) (moment : ℤ)
     → Tells (entry_told (step_state w n facts state moment mark).entry w.store firsts) (chains_state w n state moment mark chains)
 step_told w n facts Resting moment mark firsts chains h = h
 step_told w n facts Halted moment mark firsts chains h = h
-step_told w n facts (Busy task) moment mark firsts chains h =
-    test (is_due task.work) (work_told firsts chains h n task.work (wrote w.store (effect mark (asks task.work) moment w.store).store))
-  where
-    test : (b : Bool) → Tells (entry_told (stepped w n facts task moment mark).entry w.store firsts) (chains_stepped w n task moment mark chains)
-        → Tells (entry_told (if b then stepped w n facts task moment mark else noted n w).entry w.store firsts) (if b then chains_stepped w n task moment mark chains else chains)
-    test true k = k
-    test false k = h
+step_told w n facts (Busy task) moment mark firsts chains h = work_told firsts chains h n task.work (wrote w.store (effect mark (asks task.work) moment w.store).store)
 
 start_told : (w : World) (n : ℕ) (facts : Facts) (state : State) (call : Call) (firsts : Firsts) (chains : Chains) → Tells firsts chains → Tells (entry_told (start_state w n facts state call).entry w.store firsts) chains
 start_told w n facts Resting call firsts chains h = h

@@ -2,7 +2,6 @@
 ghost use Rattle.std.specs.Prelude.{◌≡◌, IfOk, OnOk, OnErr};
 ghost use Rattle.slate_protocol.specs.Ids as ids;
 ghost use Rattle.slate_ids.specs.Ulids.{id_cmp as ulid_cmp};
-ghost use Rattle.slate_opening.specs.Pools.{without};
 
 use crate::pools::{Pool, add_ids, is_stale_among, take_back};
 use slate_ids::{CheckpointId, OutOfMemory, Ulid};

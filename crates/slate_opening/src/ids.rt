@@ -1,5 +1,5 @@
 //! The ids of tables, compactions, views and runs as a run begins: none comes twice, and those of runs fall.
-ghost use Rattle.std.specs.Prelude.{◌≡◌, ◌++◌, [], Some, None, map, IfOk, OnOk, if◌then◌else◌};
+ghost use Rattle.std.specs.Prelude.{◌≡◌, ◌++◌, Some, None, map, IfOk, OnOk, if◌then◌else◌};
 ghost use Rattle.std.specs.List.{list_all, flat_map};
 ghost use Rattle.slate_protocol.specs.Specs as opens;
 

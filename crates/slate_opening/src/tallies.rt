@@ -1,5 +1,5 @@
 //! The greatest committed numbers, and the count of deletes.
-ghost use Rattle.std.specs.Prelude.{◌≡◌, ℕ, List};
+ghost use Rattle.std.specs.Prelude.{◌≡◌};
 ghost use Rattle.slate_protocol.specs.World.{raise_tally, tally_of, to_manifest, to_record, committed as committed_by, tallied, counted};
 
 use slate_ids::{DbPath, ObjectPath};

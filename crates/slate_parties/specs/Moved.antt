@@ -9,7 +9,6 @@ use Rattle.slate_events.specs.declared.entry.Entry.TheVariants.{Started, Idle}
 use Rattle.slate_events.specs.declared.reply.Reply.{Reply}
 use Rattle.slate_protocol.specs.Calls.{Next, with_held}
 use Rattle.slate_protocol.specs.Rows.{Standing, begin}
-use Rattle.slate_protocol.specs.Works.{is_due}
 use Rattle.slate_protocol.specs.World.{settled, state_after, reply_of, halted}
 use Rattle.slate_protocol.specs.declared.party.Facts.{Facts}
 use Rattle.slate_protocol.specs.declared.party.Party.{Party}
@@ -68,18 +67,18 @@ pub record Moves (facts : Facts) (task : Task) (moment : ℤ) (mark : Mark) (old
   pub replied : reply ≡ reply_of to.next
   pub stands : party ≡ settled task.call to
 
--- a step of a party: none where no store call is due
+-- a step of a party that has a call
 abbrev pub StateMoves : Facts → State → ℤ → Mark → Store → Store → PartyStep → Party → Type 0
-StateMoves facts (Busy task) moment mark old new s party = (is_due task.work ≡ true) × Moves facts task moment mark old new s.made s.reply party
+StateMoves facts (Busy task) moment mark old new s party = Moves facts task moment mark old new s.made s.reply party
 StateMoves facts _ moment mark old new s party = ⊥
 
--- whether a store call is due in a party's call
+-- whether a party has a call
 abbrev pub is_busy : State → Bool
 is_busy Resting = false
-is_busy (Busy task) = is_due task.work
+is_busy (Busy task) = true
 is_busy Halted = false
 
--- a step of a party: it moves, or nothing is due and nothing changes
+-- a step of a party: it moves, or it has no call and nothing changes
 abbrev pub StateStepped : Party → ℤ → Mark → Store → Store → Option PartyStep → Party → Type 0
 StateStepped old moment mark before now None new = (is_busy old.state ≡ false) × (new ≡ old) × (now ≡ before)
 StateStepped old moment mark before now (Some s) new = StateMoves old.facts old.state moment mark before now s new

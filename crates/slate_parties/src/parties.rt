@@ -9,7 +9,7 @@ use slate_compactor::LocalState;
 use slate_events::{Call, Entry, PartyKind, Reply};
 use slate_ids::{DbPath, Millis, OutOfMemory};
 use slate_protocol::{Facts, Party, State, Task, Uploads};
-use slate_steps::{Beginning, Onward, PartyStep, begin, is_due, step_party, take_held};
+use slate_steps::{Beginning, Onward, PartyStep, begin, step_party, take_held};
 use slate_store::{Mark, MemoryStore};
 use std::alloc::Global;
 use std::mem;
@@ -120,14 +120,11 @@ pub(crate) fn stop(party: &mut Party) -> bool
     }
 }
 
-// Whether a party has a call in which a store call is due.
-fn has_due_call(state: &State) -> bool
+// Whether a party has a call.
+fn has_call(state: &State) -> bool
     ensures { result ≡ is_busy state.now }
 {
-    match state {
-        State::Resting | State::Halted => false,
-        State::Busy(task) => is_due(&task.work),
-    }
+    matches!(state, State::Busy(_))
 }
 
 // A reply ends the party's call.
@@ -139,7 +136,7 @@ fn settle(party: &mut Party, reply: &Option<Reply>)
     }
 }
 
-// Makes the store call that is due, and goes on with the party's call or ends it. Running out of memory changes nothing.
+// Makes the store call that the party's call asks, and goes on with the call or ends it. Running out of memory changes nothing.
 fn step_busy(
     alloc: Global,
     party: &mut Party,
@@ -163,7 +160,7 @@ fn step_busy(
     }
 }
 
-/// Makes the store call that is due in the call of a party, and goes on with the call or ends it. None where no call is due. Running
+/// Makes the store call that the call of a party asks, and goes on with the call or ends it. None where the party has no call. Running
 /// out of memory changes nothing.
 pub(crate) fn step(
     alloc: Global,
@@ -177,7 +174,7 @@ pub(crate) fn step(
     ensures kept_party { OnErr result (party.new ≡ party.old) }
     ensures kept_store { OnErr result (store.new.store ≡ store.old.store) }
 {
-    if !has_due_call(&party.state) {
+    if !has_call(&party.state) {
         return Ok(None);
     }
     Ok(Some(step_busy(alloc, party, store, moment, mark)?))

@@ -2,7 +2,6 @@
 -- tells of its party, and which ids it carries. All else reads this table.
 use Rattle.std.specs.Prelude.{ℕ, ℤ, List, [], ◌∷◌, map, Option, Some, None, is_some, is_none, Result, Ok, Err, Bool, true, false}
 use Rattle.std.specs.List.{find}
-use Rattle.slate_changes.specs.declared.changing.Changing.{Changing}
 use Rattle.slate_changes.specs.declared.log_work.LogEnd.{LogEnd}
 use Rattle.slate_changes.specs.declared.log_work.LogEnd.TheVariants.{Absent, Unchanged, Committed}
 use Rattle.slate_compactor.specs.Local.{finished, failed}

@@ -1,5 +1,5 @@
 -- What a party holds while it is in a call.
-use Rattle.std.specs.Prelude.{◌≡◌, ℕ, ◌+◌, ◌≤◌, List, [], ◌∷◌, Bool, true, false, Option, Some, None, Ok}
+use Rattle.std.specs.Prelude.{◌≡◌, ℕ, ◌+◌, ◌≤◌, List, [], ◌∷◌, true, false, Option, Some, None, Ok}
 use Rattle.slate_compactor_calls.specs.Commits.{merge_of, statuses_of}
 use Rattle.slate_compactor_calls.specs.declared.compactor.Compactor.{Compactor}
 use Rattle.slate_compactor_calls.specs.declared.open_phase.OpenPhase.{OpenPhase}

@@ -42,7 +42,7 @@ use Rattle.slate_updates.specs.declared.manifest_change.ManifestChange.{Manifest
 use Rattle.slate_updates.specs.declared.manifest_change.ManifestChange.TheVariants.{DropExpired}
 use Rattle.slate_protocol.specs.Chains.{Link, Log, with_link}
 use Rattle.slate_protocol.specs.Specs.{first_bytes, record_bytes, listed_or_none}
-use Rattle.slate_protocol.specs.Works.{asks, is_due}
+use Rattle.slate_protocol.specs.Works.{asks}
 use Rattle.slate_protocol.specs.World.{World, party_of, wrote, happens}
 use Rattle.slate_protocol.specs.declared.party.Party.{Party}
 use Rattle.slate_protocol.specs.declared.party.State.{State}
@@ -226,7 +226,7 @@ chains_stepped w n task moment mark chains =
 -- the chains after a step of a party in this state
 abbrev pub chains_state : World → ℕ → State → ℤ → Mark → Chains → Chains
 chains_state w n Resting moment mark chains = chains
-chains_state w n (Busy task) moment mark chains = if is_due task.work then chains_stepped w n task moment mark chains else chains
+chains_state w n (Busy task) moment mark chains = chains_stepped w n task moment mark chains
 chains_state w n Halted moment mark chains = chains
 
 -- the chains after a step of the party that is there

@@ -1,5 +1,5 @@
 -- The row of a call, read off the table: how it begins, how it goes on, and so the next store call or the reply after the answers so far.
-use Rattle.std.specs.Prelude.{ℕ, ℤ, List, [], ◌∷◌, Option, Some, None, Result, Ok, Err}
+use Rattle.std.specs.Prelude.{ℕ, ℤ, List, [], ◌∷◌, Option, Some, None, Ok, Err}
 use Rattle.slate_changes.specs.LogWorks.{WorkGoes, work_goes}
 use Rattle.slate_compactor_calls.specs.Commits.{ManifestChanging, RecordChanging, manifest_put, record_put}
 use Rattle.slate_compactor_calls.specs.Opening.{OpenGoes, open_goes}

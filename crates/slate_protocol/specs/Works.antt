@@ -1,15 +1,15 @@
--- The work under way: at which database, and which store call is due.
-use Rattle.std.specs.Prelude.{ℕ, Bool, true, List, Some}
-use Rattle.slate_changes.specs.LogWorks.{work_asks, work_due}
-use Rattle.slate_compactor_calls.specs.Opening.{open_asks, open_due}
-use Rattle.slate_compactor_calls.specs.StateSteps.{state_asks, state_due}
+-- The work under way: at which database, and the store call that it asks.
+use Rattle.std.specs.Prelude.{ℕ, List, Some}
+use Rattle.slate_changes.specs.LogWorks.{work_asks}
+use Rattle.slate_compactor_calls.specs.Opening.{open_asks}
+use Rattle.slate_compactor_calls.specs.StateSteps.{state_asks}
 use Rattle.slate_events.specs.Filter.{returned_by}
 use Rattle.slate_events.specs.declared.filter_word.FilterWord.{FilterWord}
 use Rattle.slate_ids.specs.declared.object_path.ObjectPath.TheVariants as paths
 use Rattle.slate_layout.specs.Codec.{encoded}
 use Rattle.slate_log.specs.declared.log_kind.LogKind.TheVariants.{Manifest as ManifestLog, Compactions as RecordLog}
 use Rattle.slate_manifest_parts.specs.Decoding.{decoded_manifest}
-use Rattle.slate_passes.specs.GcPhase.{gc_asks, gc_due}
+use Rattle.slate_passes.specs.GcPhase.{gc_asks}
 use Rattle.slate_passes.specs.Ways.{Ways, ways}
 use Rattle.slate_picks.specs.Filter.{allowed}
 use Rattle.slate_picks.specs.WalFiles.{collected}
@@ -29,7 +29,7 @@ db_of (Pass db settings filter phase) = db
 db_of (Opening db phase) = db
 db_of (Compacting db phase) = db
 
--- the store call that is due
+-- the one store call that it asks
 abbrev pub asks : Work → StoreCall
 asks (Manifests db p) = work_asks db ManifestLog p.work
 asks (Records db p) = work_asks db RecordLog p.work
@@ -37,15 +37,6 @@ asks (PutTable db upload bytes) = store.Put (paths.Table db upload.table) bytes
 asks (Pass db settings filter phase) = gc_asks db settings.pass phase
 asks (Opening db phase) = open_asks db phase
 asks (Compacting db phase) = state_asks db phase
-
--- whether a call is due
-abbrev pub is_due : Work → Bool
-is_due (Manifests db p) = work_due p.work
-is_due (Records db p) = work_due p.work
-is_due (PutTable db upload bytes) = true
-is_due (Pass db settings filter phase) = gc_due phase
-is_due (Opening db phase) = open_due phase
-is_due (Compacting db phase) = state_due phase
 
 -- what a pass with a filter goes by
 abbrev pub pass_ways : FilterWord → Ways

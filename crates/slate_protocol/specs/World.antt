@@ -24,7 +24,7 @@ use Rattle.slate_log.specs.declared.log_kind.LogKind.TheVariants as logs
 use Rattle.slate_protocol.specs.Calls.{has_call, Next, Go, Finish}
 use Rattle.slate_protocol.specs.Ids.{Carried, is_stale, with_call}
 use Rattle.slate_protocol.specs.Rows.{Standing, begin, moved}
-use Rattle.slate_protocol.specs.Works.{asks, is_due}
+use Rattle.slate_protocol.specs.Works.{asks}
 use Rattle.slate_protocol.specs.declared.party.Facts.{Facts}
 use Rattle.slate_protocol.specs.declared.party.Party.{Party}
 use Rattle.slate_protocol.specs.declared.party.State.{State}
@@ -155,10 +155,10 @@ stepped w n facts task moment mark =
       };
     }
 
--- a step of a party with no call, or in whose call none is due, is noted idle, and so is one of a party that was stopped
+-- a step of a party with no call is noted idle, and so is one of a party that was stopped
 abbrev pub step_state : World → ℕ → Facts → State → ℤ → Mark → Transition
 step_state w n facts Resting moment mark = noted n w
-step_state w n facts (Busy task) moment mark = if is_due task.work then stepped w n facts task moment mark else noted n w
+step_state w n facts (Busy task) moment mark = stepped w n facts task moment mark
 step_state w n facts Halted moment mark = noted n w
 
 -- a start of a party that has a call, or was stopped, is noted idle

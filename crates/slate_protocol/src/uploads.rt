@@ -2,7 +2,6 @@
 ghost use Rattle.std.specs.Prelude.{◌≡◌, ℕ, List, [], Option, option_copied, OnOk, OnErr, IfOk};
 ghost use Rattle.slate_protocol.specs.Uploaded.{info_of, with_upload};
 ghost use Rattle.slate_tables.specs.declared.ss_table_info.SsTableInfo.{SsTableInfo as Info};
-ghost use Rattle.slate_protocol.specs.declared.uploads.Upload.{Upload as AnyUpload};
 
 use slate_ids::{OutOfMemory, Ulid};
 use slate_model::SsTableInfo;

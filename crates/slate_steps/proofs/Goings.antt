@@ -1,5 +1,5 @@
 -- Where a machine that goes on leaves a call.
-use Rattle.std.proofs.Common.{◌≡◌, true≢false, Option, Some, Result, Ok, Err, IfOk, inl, inr, ap, sym, ◌∙◌}
+use Rattle.std.proofs.Common.{◌≡◌, true≢false, Option, Result, Ok, Err, IfOk, inl, inr, ap, sym, ◌∙◌}
 use Rattle.slate_ids.specs.declared.error.SlateDBError.{SlateDBError}
 use Rattle.slate_ids.specs.declared.out_of_memory.OutOfMemory.{OutOfMemory}
 use Rattle.slate_ids.specs.Answers.{OrMemory}

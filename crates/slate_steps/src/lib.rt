@@ -1,4 +1,4 @@
-//! The calls of a party: one step of a call makes the one store call that is due, and goes on from its answer.
+//! The calls of a party: one step of a call makes its store call, and goes on from the answer.
 #![tactic(auto)]
 
 mod begins;
@@ -13,4 +13,3 @@ mod works;
 pub use begins::{Beginning, Onward, begin, take_held};
 pub use party_steps::{PartyStep, step_party};
 pub use table::{call_ids, has_call};
-pub use works::is_due;

@@ -1,7 +1,6 @@
 //! One step of a party that has a call, at the store itself.
-ghost use Rattle.std.specs.Prelude.{◌≡◌, true, IfOk, OnOk, OnErr};
+ghost use Rattle.std.specs.Prelude.{◌≡◌, IfOk, OnOk, OnErr};
 ghost use Rattle.slate_store.specs.Store.{effect};
-ghost use Rattle.slate_protocol.specs.Works.{is_due as due_at};
 ghost use Rattle.slate_steps.specs.Followed.{standing};
 ghost use Rattle.slate_steps.specs.PartySteps.{IsPartyStep};
 
@@ -39,7 +38,7 @@ pub(crate) fn perform_under(
     perform(alloc, store, call, moment)
 }
 
-/// Makes the one store call that is due in a party's call, under a mark. A reply ends the call. The answer is kept as the store gave it.
+/// Makes the one store call that a party's call asks, under a mark. A reply ends the call. The answer is kept as the store gave it.
 /// Running out of memory leaves the facts, the call and the store's objects as they were.
 pub fn step_party(
     alloc: Global,
@@ -49,7 +48,6 @@ pub fn step_party(
     moment: Millis,
     mark: Mark,
 ) -> Result<PartyStep, OutOfMemory>
-    requires { due_at task.old.work ≡ true }
     ensures ok { IfOk result (λ s. IsPartyStep facts.old task.old moment mark store.old.store store.new.store
         s.made (standing facts.new task.new s.reply)) }
     ensures call { OnOk result (task.new.call ≡ task.old.call) }

@@ -2,7 +2,7 @@
 ghost use Rattle.std.specs.Prelude.{◌≡◌, IfOk};
 ghost use Rattle.slate_ids.specs.declared.object_path.ObjectPath.TheVariants as paths;
 ghost use Rattle.slate_log.specs.declared.log_kind.LogKind.TheVariants as logs;
-ghost use Rattle.slate_protocol.specs.Works.{asks as asks_at, is_due as due_at};
+ghost use Rattle.slate_protocol.specs.Works.{asks as asks_at};
 ghost use Rattle.slate_steps.specs.Works.{is_upload as is_upload_work};
 ghost use Rattle.slate_store.specs.declared.store_call.StoreCall.TheVariants as store;
 
@@ -42,7 +42,7 @@ pub(crate) fn put_call(
     Ok(StoreCall::Put(ObjectPath::Table(db, table), bytes.copy(alloc)?))
 }
 
-/// The one store call that is due.
+/// The one store call that it asks.
 pub(crate) fn asked(alloc: Global, work: &Work) -> Result<StoreCall, OutOfMemory>
     ensures { IfOk result (λ call. call ≡ asks_at work.now) }
 {
@@ -53,20 +53,6 @@ pub(crate) fn asked(alloc: Global, work: &Work) -> Result<StoreCall, OutOfMemory
         Work::Pass(db, settings, _, phase) => phase.asks(alloc, *db, settings.pass),
         Work::Opening(db, phase) => phase.asks(alloc, *db),
         Work::Compacting(db, phase) => phase.asks(alloc, *db),
-    }
-}
-
-/// Whether a store call is due.
-pub fn is_due(work: &Work) -> bool
-    ensures { result ≡ due_at work.now }
-{
-    match work {
-        Work::Manifests(_, changing) => changing.due(),
-        Work::Records(_, changing) => changing.due(),
-        Work::PutTable(_, _, _) => true,
-        Work::Pass(_, _, _, phase) => phase.due(),
-        Work::Opening(_, phase) => phase.due(),
-        Work::Compacting(_, phase) => phase.due(),
     }
 }
 

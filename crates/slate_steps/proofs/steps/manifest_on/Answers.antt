@@ -1,10 +1,10 @@
-use Rattle.std.proofs.Common.{ap, refl, w64, ◌∙◌}
+use Rattle.std.proofs.Common.{refl, w64}
 use Rattle.std.proofs.lemmas.Int.{to_z-of_z}
 use Rattle.slate_changes.specs.LogWorks.{work_goes}
 use Rattle.slate_compactor_calls.specs.Commits.{manifest_put}
 use Rattle.slate_log.specs.declared.log_kind.LogKind.TheVariants as logs
 use Rattle.slate_manifest_parts.specs.Decoding.{decoded_manifest}
-use Rattle.slate_protocol.specs.Rows.{manifest_on, replies}
+use Rattle.slate_protocol.specs.Rows.{manifest_on}
 use Rattle.slate_protocol.specs.declared.work.Work.TheVariants.{Manifests}
 use Rattle.slate_steps.proofs.Goings.{ended_on, refused_on}
 use Rattle.slate_steps.proofs.steps.manifest_on.Goals as goal

@@ -1,6 +1,5 @@
 use Rattle.std.proofs.Common.{ap, refl, w64}
 use Rattle.std.proofs.lemmas.Int.{to_z-of_z}
-use Rattle.slate_passes.proofs.GcFaults.{where_reads}
 use Rattle.slate_passes.specs.GcPhase.{gc_goes}
 use Rattle.slate_protocol.specs.Rows.{pass_on}
 use Rattle.slate_protocol.specs.Works.{pass_ways}

@@ -1,0 +1,3 @@
+mod Turned
+mod Rows
+mod TurnRows
