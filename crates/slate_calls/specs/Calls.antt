@@ -5,13 +5,12 @@ use Rattle.serde_json.specs.Find.{as_str}
 use Rattle.slate_json.specs.Fields.{◌>>=◌, only, required, defaulted, optional, list_in, u64_in, i64_in, bool_in, checkpoint_id_in}
 use Rattle.slate_json.specs.FlushedTables.{flush_table_in}
 use Rattle.slate_json.specs.WrittenIds.{id_in}
-use Rattle.slate_json.specs.Words.{pass_in, filter_in}
-use Rattle.slate_calls.specs.Names.{name_in}
+use Rattle.slate_json.specs.Words.{pass_in, filter_in, word_in}
 use Rattle.slate_events.specs.declared.call.Call.{Call}
 use Rattle.slate_events.specs.declared.call.Call.TheVariants.{OpenWriter, Upload, Flush, OpenCompactor, Refresh, Schedule, Finish, Fail, WriteManifest, WriteRecord, WriteState, Claim, Report, WriteCheckpoint, ReplaceCheckpoint, RefreshCheckpoint, DeleteCheckpoint, Pass}
 use Rattle.slate_events.specs.declared.filter_word.FilterWord.TheVariants.{All}
-use Rattle.slate_calls.specs.declared.call_name.CallName.{CallName}
-use Rattle.slate_calls.specs.declared.call_name.CallName.TheVariants as name
+use Rattle.slate_calls.specs.declared.read_call.CallName.{CallName}
+use Rattle.slate_calls.specs.declared.read_call.CallName.TheVariants as name
 
 -- a call with no field of its own
 unfoldable pub bare_in : Call → Data → Option Call
@@ -140,6 +139,14 @@ collector_pass_in d = do
   dry_run ← defaulted false bool_in (codes "dry_run") d
   filter ← defaulted All filter_in (codes "filter") d
   Some (Pass pass min_age dry_run filter)
+
+-- the calls of a writer, of which a worker has the upload too; then those of a compactor, a worker, a holder and a collector
+unfoldable pub name_word : List ℕ → Option CallName
+name_word s = word_in ((codes "open_writer", name.OpenWriter) ∷ (codes "upload", name.Upload) ∷ (codes "flush", name.Flush) ∷ (codes "open_compactor", name.OpenCompactor) ∷ (codes "refresh", name.Refresh) ∷ (codes "schedule", name.Schedule) ∷ (codes "finish", name.Finish) ∷ (codes "fail", name.Fail) ∷ (codes "write_manifest", name.WriteManifest) ∷ (codes "write_record", name.WriteRecord) ∷ (codes "write_state", name.WriteState) ∷ (codes "claim", name.Claim) ∷ (codes "report", name.Report) ∷ (codes "write_checkpoint", name.WriteCheckpoint) ∷ (codes "replace_checkpoint", name.ReplaceCheckpoint) ∷ (codes "refresh_checkpoint", name.RefreshCheckpoint) ∷ (codes "delete_checkpoint", name.DeleteCheckpoint) ∷ (codes "pass", name.Pass) ∷ []) s
+
+-- a text that is the name of a call
+abbrev pub name_in : Data → Option CallName
+name_in d = as_str d >>= name_word
 
 -- the call of this name, with its fields
 abbrev pub call_of : CallName → Data → Option Call

@@ -1,7 +1,6 @@
 //! Events of scripts, and their calls.
 #![tactic(auto)]
 
-mod call_name;
 mod items;
 mod parts;
 mod read_call;

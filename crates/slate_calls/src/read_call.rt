@@ -1,9 +1,9 @@
 //! The call that an item with `start` stands for.
+ghost use Rattle.std.specs.Prelude.{◌≡◌};
 ghost use Rattle.serde_json.specs.View.{view};
 ghost use Rattle.slate_json.specs.Fields.{Gives};
-ghost use Rattle.slate_calls.specs.Calls.{write_checkpoint_in, replace_checkpoint_in, refresh_checkpoint_in, delete_checkpoint_in, call_in};
+ghost use Rattle.slate_calls.specs.Calls.{write_checkpoint_in, replace_checkpoint_in, refresh_checkpoint_in, delete_checkpoint_in, call_in, name_word};
 
-use crate::call_name::CallName;
 use crate::parts::read_bare;
 use crate::read_compactor_call::{
     read_fail, read_finish, read_schedule, read_write_manifest, read_write_state,
@@ -13,8 +13,71 @@ use crate::read_worker_call::{read_claim, read_report};
 use crate::read_writer_call::{read_flush, read_upload};
 use serde_json::Value;
 use slate_events::Call;
-use slate_json::{JsonError, only, optional, required};
+use slate_json::{FromJson, JsonError, only, optional, or_malformed, required};
 use std::alloc::Global;
+
+/// The name of a call, which decides its fields.
+#[derive(Clone, Copy, Debug, Drop, PartialEq, Eq)]
+enum CallName {
+    OpenWriter,
+    Upload,
+    Flush,
+    OpenCompactor,
+    Refresh,
+    Schedule,
+    Finish,
+    Fail,
+    WriteManifest,
+    WriteRecord,
+    WriteState,
+    Claim,
+    Report,
+    WriteCheckpoint,
+    ReplaceCheckpoint,
+    RefreshCheckpoint,
+    DeleteCheckpoint,
+    Pass,
+}
+
+#[tactic(auto, unfolding(crate::specs::Calls::name_word))]
+fn name_of(text: &str) -> Option<CallName>
+    ensures { result ≡ name_word text.now }
+{
+    match text {
+        "open_writer" => Some(CallName::OpenWriter),
+        "upload" => Some(CallName::Upload),
+        "flush" => Some(CallName::Flush),
+        "open_compactor" => Some(CallName::OpenCompactor),
+        "refresh" => Some(CallName::Refresh),
+        "schedule" => Some(CallName::Schedule),
+        "finish" => Some(CallName::Finish),
+        "fail" => Some(CallName::Fail),
+        "write_manifest" => Some(CallName::WriteManifest),
+        "write_record" => Some(CallName::WriteRecord),
+        "write_state" => Some(CallName::WriteState),
+        "claim" => Some(CallName::Claim),
+        "report" => Some(CallName::Report),
+        "write_checkpoint" => Some(CallName::WriteCheckpoint),
+        "replace_checkpoint" => Some(CallName::ReplaceCheckpoint),
+        "refresh_checkpoint" => Some(CallName::RefreshCheckpoint),
+        "delete_checkpoint" => Some(CallName::DeleteCheckpoint),
+        "pass" => Some(CallName::Pass),
+        _ => None,
+    }
+}
+
+impl FromJson for CallName {
+    ghost use Rattle.slate_calls.specs.Calls.{name_in};
+
+    ghost reads = { name_in };
+
+    fn from_json(_alloc: Global, d: &Value) -> Result<CallName, JsonError> {
+        match d.as_str() {
+            Some(text) => or_malformed(name_of(text)),
+            None => Err(JsonError::Malformed),
+        }
+    }
+}
 
 #[tactic(auto, unfolding(crate::specs::Calls::write_checkpoint_in))]
 fn write_checkpoint(alloc: Global, d: &Value) -> Result<Call, JsonError>
