@@ -44,22 +44,14 @@ whole-answers read old new status.Ok is e h = (e, h)
 whole-answers read old new (status.BadScript p) is e h = (e, inl h)
 whole-answers read old new (status.BadCluster c) is e h = (e, inl h)
 whole-answers read old new (status.BadEvent n) is e h = (e, inl h)
-whole-answers read old new status.BadWords is e h = absurd is
-whole-answers read old new status.ReadFault is e h = absurd is
-whole-answers read old new status.WriteFault is e h = absurd is
-whole-answers read old new status.TooLong is e h = absurd is
-whole-answers read old new status.OutOfMemory is e h = absurd is
+whole-answers read old new _ is e h = absurd is
 
 front-answers : (read : Result Script ScriptPlace) (old new : End) (asked : Status) → IsAsked asked → status_for read ≡ asked → WritesFront (text_for read) old new → Answers read old new (after_fault asked)
 front-answers read old new status.Ok is e h = (e, h)
 front-answers read old new (status.BadScript p) is e h = (e, inr h)
 front-answers read old new (status.BadCluster c) is e h = (e, inr h)
 front-answers read old new (status.BadEvent n) is e h = (e, inr h)
-front-answers read old new status.BadWords is e h = absurd is
-front-answers read old new status.ReadFault is e h = absurd is
-front-answers read old new status.WriteFault is e h = absurd is
-front-answers read old new status.TooLong is e h = absurd is
-front-answers read old new status.OutOfMemory is e h = absurd is
+front-answers read old new _ is e h = absurd is
 
 pub answers : (read : Result Script ScriptPlace) (old new : End) (st : Status) → Delivers (text_for read) (status_for read) old new st → Answers read old new st
 answers read old new st (inl h) = subst (Answers read old new) (sym h.0) (whole-answers read old new (status_for read) (input-asks read) refl h.1)
@@ -68,14 +60,7 @@ answers read old new st (inr h) = subst (Answers read old new) (sym h.0) (front-
 -- what holds, holds unless memory ran out
 pub if_answered : (st : Status) (P : Type 0) → P → IfAnswered st P
 if_answered status.OutOfMemory P h = tt
-if_answered status.Ok P h = h
-if_answered status.BadWords P h = h
-if_answered status.ReadFault P h = h
-if_answered status.WriteFault P h = h
-if_answered status.TooLong P h = h
-if_answered (status.BadScript p) P h = h
-if_answered (status.BadCluster c) P h = h
-if_answered (status.BadEvent n) P h = h
+if_answered _ P h = h
 
 -- the run of a script whose databases are accepted is lawful, where every such run is
 pub script_is_lawful : {X E : Type 0} (law : (specs : List DbSpec) (events : List Event) → IsAccepted specs → Lawful specs events) (script : Script) (r : Result X E) → IsAccepted script.databases → IfOk r (λ _. IsLawfulRun (Ok script))
@@ -131,15 +116,11 @@ long-absurd : {A : Type 0} (input bytes : List ℕ) (f : ℕ) (source' : End) �
 long-absurd input bytes f source' long h = let short = whole-short input bytes f source' h in absurd (omega (arith, long, short))
 
 run-too_long : (input : List ℕ) (f : ℕ) (source' sink sink' : End) (st : Status) → Runs (told input f) source' sink sink' st → limit < length input → (Fails (told input f) source' → ⊥) → EndsTooLong st sink sink'
-run-too_long input f source' sink sink' status.Ok h long calm = long-absurd input h.1 f source' long h.2
-run-too_long input f source' sink sink' status.WriteFault h long calm = long-absurd input h.1 f source' long h.2
-run-too_long input f source' sink sink' (status.BadScript p) h long calm = long-absurd input h.1 f source' long h.2
-run-too_long input f source' sink sink' (status.BadCluster c) h long calm = long-absurd input h.1 f source' long h.2
-run-too_long input f source' sink sink' (status.BadEvent n) h long calm = long-absurd input h.1 f source' long h.2
 run-too_long input f source' sink sink' status.BadWords h long calm = absurd h
 run-too_long input f source' sink sink' status.ReadFault h long calm = absurd (calm h.0)
 run-too_long input f source' sink sink' status.TooLong h long calm = (inl refl, h.2)
 run-too_long input f source' sink sink' status.OutOfMemory h long calm = (inr refl, h.1)
+run-too_long input f source' sink sink' _ h long calm = long-absurd input h.1 f source' long h.2
 
 runs-of : (command : Option Command) (source source' sink sink' : End) (st : Status) → Outcome command source source' sink sink' st → command ≡ Some Run → Runs source source' sink sink' st
 runs-of command source source' sink sink' st h e = let P : Option Command → Type 0 = λ c. Outcome c source source' sink sink' st in subst P e h
@@ -176,13 +157,9 @@ print-tells command source source' sink sink' st stays (inr h) = record { words 
 run-tells : (source source' sink sink' : End) (st : Status) → Runs source source' sink sink' st → Tells (Some Run) source source' sink sink' st
 run-tells source source' sink sink' status.Ok h = record { words = (λ e. cc, λ e. cc); read_fault = λ e. cc; no_read_fault = λ e. h.0; write_fault = λ e. cc; no_write_fault = λ e. h.3.1.1 }
 run-tells source source' sink sink' status.WriteFault h = record { words = (λ e. cc, λ e. cc); read_fault = λ e. cc; no_read_fault = λ e. h.0; write_fault = λ e. h.3.1.3; no_write_fault = λ e. cc }
-run-tells source source' sink sink' (status.BadScript p) h = record { words = (λ e. cc, λ e. cc); read_fault = λ e. cc; no_read_fault = λ e. h.0; write_fault = λ e. cc; no_write_fault = λ e. cc }
-run-tells source source' sink sink' (status.BadCluster c) h = record { words = (λ e. cc, λ e. cc); read_fault = λ e. cc; no_read_fault = λ e. h.0; write_fault = λ e. cc; no_write_fault = λ e. cc }
-run-tells source source' sink sink' (status.BadEvent n) h = record { words = (λ e. cc, λ e. cc); read_fault = λ e. cc; no_read_fault = λ e. h.0; write_fault = λ e. cc; no_write_fault = λ e. cc }
 run-tells source source' sink sink' status.BadWords h = absurd h
 run-tells source source' sink sink' status.ReadFault h = record { words = (λ e. cc, λ e. cc); read_fault = λ e. h.0; no_read_fault = λ e. absurd (e refl); write_fault = λ e. cc; no_write_fault = λ e. cc }
-run-tells source source' sink sink' status.TooLong h = record { words = (λ e. cc, λ e. cc); read_fault = λ e. cc; no_read_fault = λ e. h.0; write_fault = λ e. cc; no_write_fault = λ e. cc }
-run-tells source source' sink sink' status.OutOfMemory h = record { words = (λ e. cc, λ e. cc); read_fault = λ e. cc; no_read_fault = λ e. h.0; write_fault = λ e. cc; no_write_fault = λ e. cc }
+run-tells source source' sink sink' _ h = record { words = (λ e. cc, λ e. cc); read_fault = λ e. cc; no_read_fault = λ e. h.0; write_fault = λ e. cc; no_write_fault = λ e. cc }
 
 pub tells : (command : Option Command) (source source' sink sink' : End) (st : Status) → Outcome command source source' sink sink' st → Tells command source source' sink sink' st
 tells None source source' sink sink' st h = record { words = (λ e. refl, λ e. h.0); read_fault = λ e. cc; no_read_fault = λ e. h.1.1; write_fault = λ e. cc; no_write_fault = λ e. cc }

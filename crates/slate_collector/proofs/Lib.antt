@@ -2,6 +2,5 @@ mod EncodingFine
 mod PassRose
 mod Ranks
 mod ReportRose
-mod Retold
 mod Stages
 mod Takes

@@ -4,7 +4,8 @@ use Rattle.std.proofs.Common.{arith, ap, inl, inr, sym, subst, ◌∙◌}
 use Rattle.std.proofs.lemmas.Bool.Decides.{nat_tests}
 use Rattle.slate_collector.specs.Ended.{Ended, faults_told, is_fault}
 use Rattle.slate_collector.specs.Faults.{RoseBy}
-use Rattle.slate_collector.specs.PassTurns.{PassRan, Turn, TurnGoes, TurnsRan, first_turn, is_turned, turn_asks, turn_goes, turned_on}
+use Rattle.slate_collector.specs.PassTurns.{PassRan, Turn, TurnGoes, TurnsRan, begins_again, first_turn, is_turned, turn_asks, turn_goes, uses_turn}
+use Rattle.slate_changes.specs.Turns.{turned_on}
 use Rattle.slate_ids.specs.Answers.{is_conflict, is_memory, ran_out}
 use Rattle.slate_ids.specs.Limits.{next_count}
 use Rattle.slate_ids.specs.declared.error.SlateDBError.{SlateDBError}
@@ -50,15 +51,9 @@ use Rattle.slate_store.specs.declared.store_call.StoreCall.{StoreCall}
 -- ---- what a phase tells of
 
 abbrev failed_within : PassPhase → ℕ
-failed_within (ReadingRecord phase) = 0
-failed_within (ReadingManifest least phase) = 0
-failed_within (Fetching heads phase) = 0
-failed_within (Listing heads versions) = 0
-failed_within (Getting n listed found) = 0
-failed_within (Bounding n listed found) = 0
 failed_within (Advancing phase left counts) = counts.failed
 failed_within (Deleting left counts) = counts.failed
-failed_within Over = 0
+failed_within _ = 0
 
 abbrev failed_at : GcPhase → ℕ
 failed_at (Removing work) = 0
@@ -81,13 +76,8 @@ turn_tells (Stay turn) = failed_at turn.0
 turn_tells (End turn r) = faults_told r
 
 abbrev one_of : StoreAnswer → ℕ
-one_of (Found found) = 0
-one_of (Got object) = 0
-one_of (Created tag) = 0
-one_of (Replaced tag) = 0
-one_of (Written tag) = 0
-one_of Deleted = 0
 one_of Fault = 1
+one_of _ = 0
 
 -- ---- one step of a pass
 
@@ -152,26 +142,16 @@ got_zero manifest_of n listed found None = refl
 got_zero manifest_of n listed found (Some object) = decoded_zero n listed found (manifest_of object.bytes)
 
 get_zero : (manifest_of : List ℕ → Result Manifest SlateDBError) (n listed : ℕ) (found : List ObjectMetadata) (answer : StoreAnswer) → pass_tells (passes.get_goes manifest_of n listed found answer) ≡ 0
-get_zero manifest_of n listed found (Found listing) = refl
 get_zero manifest_of n listed found (Got object) = got_zero manifest_of n listed found object
-get_zero manifest_of n listed found (Created tag) = refl
-get_zero manifest_of n listed found (Replaced tag) = refl
-get_zero manifest_of n listed found (Written tag) = refl
-get_zero manifest_of n listed found Deleted = refl
-get_zero manifest_of n listed found Fault = refl
+get_zero manifest_of n listed found _ = refl
 
 bounded_zero : (allows : List ObjectMetadata → List ObjectMetadata) (settings : PassSettings) (n listed : ℕ) (found : List ObjectMetadata) (boundary : Option ℕ) → pass_tells (passes.bounded_goes allows settings n listed found boundary) ≡ 0
 bounded_zero allows settings n listed found None = refl
 bounded_zero allows settings n listed found (Some boundary) = either_zero (nat_le n boundary) (End Over (Err (ManifestMissing n))) (passes.chosen_goes allows settings listed found) refl (chosen_zero allows settings listed found)
 
 bound_zero : (allows : List ObjectMetadata → List ObjectMetadata) (settings : PassSettings) (n listed : ℕ) (found : List ObjectMetadata) (answer : StoreAnswer) → pass_tells (passes.bound_goes allows settings n listed found answer) ≡ 0
-bound_zero allows settings n listed found (Found listing) = refl
 bound_zero allows settings n listed found (Got object) = bounded_zero allows settings n listed found _
-bound_zero allows settings n listed found (Created tag) = refl
-bound_zero allows settings n listed found (Replaced tag) = refl
-bound_zero allows settings n listed found (Written tag) = refl
-bound_zero allows settings n listed found Deleted = refl
-bound_zero allows settings n listed found Fault = refl
+bound_zero allows settings n listed found _ = refl
 
 advanced_tells : (left : List ObjectMetadata) (counts : PassCounts) (out : AdvanceGoes) → pass_tells (passes.advanced_goes left counts out) ≤ counts.failed
 advanced_tells left counts (Stay phase) = omega arith
@@ -253,7 +233,7 @@ refused_tells : (b : Bool) (to : Turn) (e : SlateDBError) (n : ℕ) → (e ≡ S
 refused_tells true to e n h = omega arith
 refused_tells false to e n h = told_test (is_fault e) n (λ yes. h (is_the_fault e yes))
 
-turned_tells : (from : Turn) (out : GcGoes) (n : ℕ) → gc_tells out ≤ n → ((q : GcPhase) → out ≡ End q (Err StoreFault) → 1 ≤ n) → turn_tells (turned_on from out) ≤ n
+turned_tells : (from : Turn) (out : GcGoes) (n : ℕ) → gc_tells out ≤ n → ((q : GcPhase) → out ≡ End q (Err StoreFault) → 1 ≤ n) → turn_tells (turned_on uses_turn begins_again from out) ≤ n
 turned_tells from (Stay to) n up fault = up
 turned_tells from (End to (Ok counts)) n up fault = up
 turned_tells from (End to (Err e)) n up fault = refused_tells (is_conflict e) (to, from.1) e n (λ same. fault to (ap (λ (k : SlateDBError). End to (Err k)) same))
@@ -276,7 +256,7 @@ conflict_due : (b : Bool) (to : Turn) (e : SlateDBError) (next : Turn) → if◌
 conflict_due true to e next same = let start : gc_start ≡ next.0 = ap out_phase same in subst (λ (p : GcPhase). gc_due p ≡ true) start refl
 conflict_due false to e next same = absurd (no_stay to next (Err e) same)
 
-turned_due : (from : Turn) (out : GcGoes) (next : Turn) → ((q : GcPhase) → out ≡ Stay q → gc_due q ≡ true) → turned_on from out ≡ Stay next → gc_due next.0 ≡ true
+turned_due : (from : Turn) (out : GcGoes) (next : Turn) → ((q : GcPhase) → out ≡ Stay q → gc_due q ≡ true) → turned_on uses_turn begins_again from out ≡ Stay next → gc_due next.0 ≡ true
 turned_due from (Stay to) next due same = let phase : to ≡ next.0 = ap out_phase same in subst (λ (p : GcPhase). gc_due p ≡ true) phase (due to refl)
 turned_due from (End to (Ok counts)) next due same = absurd (no_stay (to, from.1) next (Ok counts) same)
 turned_due from (End to (Err e)) next due same = conflict_due (is_conflict e) (to, from.1) e next same
@@ -288,13 +268,8 @@ stays_due out answer (inr fine) q same = fine.stays q same
 -- ---- a run
 
 rose_one : (answer : StoreAnswer) (before now : ℕ) → before ≤ now → IfFault answer (Rose before now) → RoseBy (one_of answer) before now
-rose_one (Found found) before now later fault = grind (arith, nat_tests)
-rose_one (Got object) before now later fault = grind (arith, nat_tests)
-rose_one (Created tag) before now later fault = grind (arith, nat_tests)
-rose_one (Replaced tag) before now later fault = grind (arith, nat_tests)
-rose_one (Written tag) before now later fault = grind (arith, nat_tests)
-rose_one Deleted before now later fault = grind (arith, nat_tests)
 rose_one Fault before now later fault = fault
+rose_one _ before now later fault = grind (arith, nat_tests)
 
 rose_none : (before : ℕ) → RoseBy 0 before before
 rose_none before = grind (arith, nat_tests)

@@ -1,58 +1,42 @@
 -- A pass as a plain call: it is driven to its end, and begins again after a conflict.
-use Rattle.std.specs.Prelude.{◌≡◌, ◌==◌, ◌&&◌, ◌||◌, nat_lt, ℕ, ℤ, Bool, true, false, List, Result, Ok, Err, if◌then◌else◌}
+use Rattle.std.specs.Prelude.{◌≡◌, ◌==◌, ◌&&◌, ◌||◌, nat_lt, ℕ, ℤ, Bool, false, List, Result, Ok, Err}
 use Rattle.slate_collector.specs.Ended.{Ended}
-use Rattle.slate_ids.specs.Answers.{OrMemory, is_conflict}
+use Rattle.slate_changes.specs.Turns as turns
+pub use Rattle.slate_changes.specs.Turns.{is_turned}
+use Rattle.slate_ids.specs.Answers.{OrMemory}
 use Rattle.slate_ids.specs.declared.error.SlateDBError.{SlateDBError}
 use Rattle.slate_ids.specs.declared.gc_message.GcMessage.{GcMessage}
 use Rattle.slate_log.specs.AdvancePhase.{is_bounding}
 use Rattle.slate_log.specs.ReadPhase.{is_listing}
-use Rattle.slate_passes.specs.GcPhase.{GcGoes, gc_asks, gc_goes, gc_start}
+use Rattle.slate_passes.specs.GcPhase.{gc_asks, gc_goes, gc_start}
+use Rattle.slate_passes.specs.Stages.{stages_within}
 use Rattle.slate_passes.specs.Ways.{Ways}
 use Rattle.slate_passes.specs.declared.gc_phase.GcPhase.{GcPhase}
 use Rattle.slate_changes.specs.LogWorks.{work_starts}
-use Rattle.slate_changes.specs.declared.log_work.LogWork.TheVariants.{Reading, Committing}
 use Rattle.slate_passes.specs.declared.gc_phase.GcPhase.TheVariants.{Removing, Collecting}
 use Rattle.slate_passes.specs.declared.pass_counts.PassCounts.{PassCounts}
 use Rattle.slate_passes.specs.declared.pass_phase.PassPhase.{PassPhase}
-use Rattle.slate_passes.specs.declared.pass_phase.PassPhase.TheVariants.{ReadingRecord, ReadingManifest, Fetching, Listing, Getting, Bounding, Advancing, Deleting, Over}
+use Rattle.slate_passes.specs.declared.pass_phase.PassPhase.TheVariants.{ReadingRecord, ReadingManifest, Advancing, Deleting}
 use Rattle.slate_passes.specs.declared.pass_settings.PassSettings.{PassSettings}
 use Rattle.slate_store.specs.Calls.{Told}
-use Rattle.slate_store.specs.Machines.{Goes, Stay, End}
+use Rattle.slate_store.specs.Machines.{Goes}
 use Rattle.slate_store.specs.Runs.{Ran, Began}
 use Rattle.slate_store.specs.declared.store_answer.StoreAnswer.{StoreAnswer}
 use Rattle.slate_store.specs.declared.store_call.StoreCall.{StoreCall}
 
 -- ---- which steps use a turn
 
--- how many of its stages a pass has left, this one included, once the expired checkpoints are removed
-abbrev pub stages_within : PassPhase → ℕ
-stages_within (ReadingRecord phase) = 8
-stages_within (ReadingManifest least phase) = 7
-stages_within (Fetching heads phase) = 6
-stages_within (Listing heads versions) = 5
-stages_within (Getting n listed found) = 4
-stages_within (Bounding n listed found) = 3
-stages_within (Advancing phase left counts) = 2
-stages_within (Deleting left counts) = 1
-stages_within Over = 0
-
--- the same of a whole pass
+-- how many of its stages a whole pass has left, this one included: the removal of expired checkpoints is one
 abbrev pub stages_left : GcPhase → ℕ
-stages_left (Removing (Reading phase)) = 10
-stages_left (Removing (Committing now phase)) = 9
+stages_left (Removing work) = 9
 stages_left (Collecting at phase) = stages_within phase
 
 -- whether a stage that may start again is at its start: a read of the latest version, or the advance of the boundary
 abbrev pub begins_within : PassPhase → Bool
 begins_within (ReadingRecord phase) = is_listing phase
 begins_within (ReadingManifest least phase) = is_listing phase
-begins_within (Fetching heads phase) = false
-begins_within (Listing heads versions) = false
-begins_within (Getting n listed found) = false
-begins_within (Bounding n listed found) = false
 begins_within (Advancing phase left counts) = is_bounding phase
-begins_within (Deleting left counts) = false
-begins_within Over = false
+begins_within _ = false
 
 -- the same of a whole pass
 abbrev pub begins_stage : GcPhase → Bool
@@ -72,10 +56,7 @@ uses_turn from to = turned_from (stages_left from) to
 
 -- a pass, and whether its last step used a turn
 abbrev pub Turn : Type 0
-Turn = GcPhase × Bool
-
-abbrev pub is_turned : Turn → Bool
-is_turned turn = turn.1
+Turn = turns.Turn GcPhase
 
 -- a pass at its start
 abbrev pub first_turn : Turn
@@ -83,21 +64,19 @@ first_turn = (gc_start, false)
 
 -- the one call of each phase
 abbrev pub turn_asks : List ℕ → GcMessage → Turn → StoreCall
-turn_asks db pass turn = gc_asks db pass turn.0
+turn_asks db pass = turns.turn_asks (gc_asks db pass)
 
 -- how the plain call goes on
 abbrev pub TurnGoes : Type 0
 TurnGoes = Goes Turn PassCounts
 
--- after a step of the pass: a conflict uses a turn, and leads back to the start
-abbrev pub turned_on : Turn → GcGoes → TurnGoes
-turned_on from (Stay to) = Stay (to, uses_turn from.0 to)
-turned_on from (End to (Ok counts)) = End (to, from.1) (Ok counts)
-turned_on from (End to (Err e)) = if is_conflict e then Stay (gc_start, true) else End (to, from.1) (Err e)
+-- after a conflict all begins again
+abbrev pub begins_again : GcPhase → GcPhase
+begins_again phase = gc_start
 
 -- all steps are at one moment
 abbrev pub turn_goes : Ways → PassSettings → ℤ → Turn → StoreAnswer → TurnGoes
-turn_goes ways settings moment from answer = turned_on from (gc_goes ways settings moment from.0 answer)
+turn_goes ways settings moment = turns.turn_goes uses_turn begins_again (gc_goes ways settings moment)
 
 -- whether a turn was used, or fewer stages are left than these
 abbrev pub is_through : ℕ → Turn → Bool
@@ -107,15 +86,8 @@ is_through stages turn = is_turned turn || nat_lt (stages_left turn.0) stages
 
 -- how many of its picks a pass has deleted, while it deletes
 abbrev pub deleted_within : PassPhase → ℕ
-deleted_within (ReadingRecord phase) = 0
-deleted_within (ReadingManifest least phase) = 0
-deleted_within (Fetching heads phase) = 0
-deleted_within (Listing heads versions) = 0
-deleted_within (Getting n listed found) = 0
-deleted_within (Bounding n listed found) = 0
-deleted_within (Advancing phase left counts) = 0
 deleted_within (Deleting left counts) = counts.deleted
-deleted_within Over = 0
+deleted_within _ = 0
 
 -- the same of a whole pass
 abbrev pub deleted_at : GcPhase → ℕ

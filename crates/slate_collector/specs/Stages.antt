@@ -1,9 +1,17 @@
 -- A stage of a pass within its plain call.
-use Rattle.std.specs.Prelude.{◌≡◌, ◌⊎◌, ◌<◌, ◌-◌, ℕ, ℤ, Bool, true, false, Err}
+use Rattle.std.specs.Prelude.{◌≡◌, ◌⊎◌, ◌<◌, ◌-◌, ℕ, ℤ, Bool, true, false, Err, length}
+use Rattle.slate_changes.specs.LogWorks.{work_rank}
 use Rattle.slate_collector.specs.PassTurns.{Turn, TurnGoes, is_turned, stages_left}
 use Rattle.slate_ids.specs.Answers.{OrMemory}
 use Rattle.slate_ids.specs.declared.error.SlateDBError.TheVariants.{Contended}
+use Rattle.slate_log.specs.AdvancePhase.{advance_rank}
+use Rattle.slate_log.specs.ReadPhase.{rank}
+use Rattle.slate_passes.specs.declared.gc_phase.GcPhase.{GcPhase}
+use Rattle.slate_passes.specs.declared.gc_phase.GcPhase.TheVariants.{Removing, Collecting}
 use Rattle.slate_passes.specs.declared.pass_counts.PassCounts.{PassCounts}
+use Rattle.slate_passes.specs.declared.pass_phase.PassPhase.{PassPhase}
+use Rattle.slate_passes.specs.declared.pass_phase.PassPhase.TheVariants.{ReadingRecord, ReadingManifest, Fetching, Advancing, Deleting}
+use Rattle.slate_referenced.specs.Referenced.{referenced_rank}
 use Rattle.slate_store.specs.Calls.{Told}
 use Rattle.slate_store.specs.Runs.{Began, Ran, Running}
 use Rattle.slate_store.specs.declared.step.Step.{Step}
@@ -34,3 +42,25 @@ Along asks goes moment old new from to step =
 -- a turn is used, or fewer stages are left
 abbrev pub Leaves : Turn → Turn → Type 0
 Leaves from to = (is_turned to ≡ true) ⊎ (stages_left to.0 < stages_left from.0)
+
+-- the steps of its stage that are left
+abbrev pub rank_within : PassPhase → ℕ
+rank_within (ReadingRecord phase) = rank phase
+rank_within (ReadingManifest least phase) = rank phase
+rank_within (Fetching heads phase) = referenced_rank phase
+rank_within (Advancing phase left counts) = advance_rank phase
+rank_within (Deleting left counts) = length left
+rank_within _ = 0
+
+-- the same of a whole pass
+abbrev pub steps_left : GcPhase → ℕ
+steps_left (Removing work) = work_rank work
+steps_left (Collecting at phase) = rank_within phase
+
+-- fewer stages are left, or fewer steps of the stage
+abbrev pub Fewer : GcPhase → GcPhase → Type 0
+Fewer old new = (stages_left new < stages_left old) ⊎ ((stages_left new ≡ stages_left old) × (steps_left new < steps_left old))
+
+-- a turn is used, or that
+abbrev pub TurnFalls : GcPhase → GcPhase → Bool → Type 0
+TurnFalls old new turned = (turned ≡ true) ⊎ Fewer old new

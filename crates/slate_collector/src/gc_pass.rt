@@ -3,9 +3,10 @@ ghost use Rattle.std.specs.Prelude.{◌≡◌, option_copied, true, false};
 ghost use Rattle.slate_collector.specs.GcPass.{is_detach, layout_ways};
 ghost use Rattle.slate_log.specs.Due.{FaultRose, StillDue, WhereOut};
 ghost use Rattle.slate_passes.specs.GcPhase.{gc_asks, gc_due, gc_goes, gc_start, WroteNothing};
+ghost use Rattle.slate_passes.specs.Stages.{GcFalls};
 ghost use Rattle.slate_picks.specs.Filter.{allowed};
 ghost use Rattle.slate_picks.specs.WalPicks.{wal_candidates};
-ghost use Rattle.slate_store.specs.Machines.{Steps};
+ghost use Rattle.slate_store.specs.Machines.{IsAgain, Steps};
 
 use slate_ids::{DbPath, GcMessage, Millis};
 use slate_layout::{CompactionsCodec, ManifestCodec};
@@ -84,6 +85,7 @@ impl GcPass {
             (gc_goes (layout_ways (allowed F.returns (option_copied filter.entry))
             (wal_candidates W.picked (option_copied wal.entry))) self.old.settings moment self.old.phase)
             self.old.phase self.new.phase result }
+        ensures falls { IsAgain result → GcFalls self.old.phase self.new.phase }
         ensures db { self.new.db ≡ self.old.db }
         ensures settings { self.new.settings ≡ self.old.settings }
         ensures due { StillDue result (gc_due self.new.phase) }

@@ -3,16 +3,16 @@ ghost use Rattle.std.specs.Prelude.{◌≡◌, option_copied, true, false};
 ghost use Rattle.slate_collector.specs.GcPass.{layout_ways};
 ghost use Rattle.slate_collector.specs.PassTurns as turns;
 ghost use Rattle.slate_collector.specs.PassTurns.{stages_left, turn_asks, turn_goes};
-ghost use Rattle.slate_collector.specs.Stages.{Along, Leaves};
+ghost use Rattle.slate_collector.specs.Stages.{Along, Leaves, TurnFalls};
 ghost use Rattle.slate_log.specs.Due.{StillDue};
 ghost use Rattle.slate_passes.specs.GcPhase.{gc_due, gc_start};
+ghost use Rattle.slate_passes.specs.Stages.{stages_within};
 ghost use Rattle.slate_picks.specs.Filter.{allowed};
 ghost use Rattle.slate_picks.specs.WalPicks.{wal_candidates};
 ghost use Rattle.slate_store.specs.Machines.{IsAgain, Steps};
 
 use crate::gc_pass::GcPass;
-use slate_changes::LogWork;
-use slate_ids::{DbPath, Millis, SlateDBError};
+use slate_ids::{DbPath, Millis};
 use slate_passes::{GcPhase, PassCounts, PassPhase, PassSettings};
 use slate_picks::{GcFilter, WalGc};
 use slate_store::{ObjectStore, Step};
@@ -28,7 +28,7 @@ pub(crate) struct PassTurns {
 
 // How many of its stages a pass has left, once the expired checkpoints are removed.
 fn stages_within(phase: &PassPhase) -> u8
-    ensures { result ≡ turns.stages_within phase.now }
+    ensures { result ≡ stages_within phase.now }
 {
     match phase {
         PassPhase::ReadingRecord(_) => 8,
@@ -48,8 +48,7 @@ fn stages_of(phase: &GcPhase) -> u8
     ensures { result ≡ stages_left phase.now }
 {
     match phase {
-        GcPhase::Removing(LogWork::Reading(_)) => 10,
-        GcPhase::Removing(LogWork::Committing(_, _)) => 9,
+        GcPhase::Removing(_) => 9,
         GcPhase::Collecting(_, phase) => stages_within(phase),
     }
 }
@@ -170,6 +169,7 @@ impl PassTurns {
             (wal_candidates W.picked (option_copied wal.entry))) self.old.pass.settings moment
             (self.old.pass.phase, self.old.is_turned))
             (self.old.pass.phase, self.old.is_turned) (self.new.pass.phase, self.new.is_turned) result }
+        ensures falls { IsAgain result → TurnFalls self.old.pass.phase self.new.pass.phase self.new.is_turned }
         ensures db { self.new.pass.db ≡ self.old.pass.db }
         ensures settings { self.new.pass.settings ≡ self.old.pass.settings }
         ensures due { StillDue result (gc_due self.new.pass.phase) }

@@ -40,21 +40,9 @@ pub record IsListed (k : LogKind) (db : List ℕ) (p : ObjectPath) : Type 0 wher
 
 pub listed_is : (k : LogKind) (db : List ℕ) (p : ObjectPath) → is_in (folder k db) p ≡ true → IsListed k db p
 listed_is Manifest db (paths.Manifest of n) h = record { number = n; is = ap (λ d. paths.Manifest d n) (sym (same_bytes db of h)) }
-listed_is Manifest db (paths.Record of n) h = absurd cc
-listed_is Manifest db (paths.ManifestBoundary of) h = absurd cc
-listed_is Manifest db (paths.RecordBoundary of) h = absurd cc
-listed_is Manifest db (paths.Table of id) h = absurd cc
-listed_is Manifest db (paths.Wal of n) h = absurd cc
-listed_is Manifest db (paths.Marker of) h = absurd cc
-listed_is Manifest db (paths.Other of rest) h = absurd cc
+listed_is Manifest db _ h = absurd cc
 listed_is Compactions db (paths.Record of n) h = record { number = n; is = ap (λ d. paths.Record d n) (sym (same_bytes db of h)) }
-listed_is Compactions db (paths.Manifest of n) h = absurd cc
-listed_is Compactions db (paths.ManifestBoundary of) h = absurd cc
-listed_is Compactions db (paths.RecordBoundary of) h = absurd cc
-listed_is Compactions db (paths.Table of id) h = absurd cc
-listed_is Compactions db (paths.Wal of n) h = absurd cc
-listed_is Compactions db (paths.Marker of) h = absurd cc
-listed_is Compactions db (paths.Other of rest) h = absurd cc
+listed_is Compactions db _ h = absurd cc
 
 -- ---- the greatest has what each has
 

@@ -56,9 +56,7 @@ kind_at k w = kind_of (party_of k w.parties)
 -- as which kind an event opens a number
 abbrev opened_as : ℕ → Event → Option PartyKind
 opened_as k (Open n kind db) = if k == n then Some kind else None
-opened_as k (Start n call) = None
-opened_as k (Step n moment mark) = None
-opened_as k (Stop n) = None
+opened_as k _ = None
 
 or_none : {X : Type 0} (o : Option X) → option_or o None ≡ o
 or_none None = refl
@@ -102,12 +100,7 @@ raised_same d db f tallies = test (tally_of db tallies) refl
 committed_same : (d : List ℕ) (path : ObjectPath) (tallies : List (List ℕ × Tally)) → is_some (tally_of d (committed path tallies)) ≡ is_some (tally_of d tallies)
 committed_same d (paths.Manifest db n) tallies = raised_same d db (to_manifest n) tallies
 committed_same d (paths.Record db n) tallies = raised_same d db (to_record n) tallies
-committed_same d (paths.ManifestBoundary db) tallies = refl
-committed_same d (paths.RecordBoundary db) tallies = refl
-committed_same d (paths.Table db id) tallies = refl
-committed_same d (paths.Wal db n) tallies = refl
-committed_same d (paths.Marker db) tallies = refl
-committed_same d (paths.Other db rest) tallies = refl
+committed_same d _ tallies = refl
 
 tallied_same : (d : List ℕ) (call : StoreCall) (b : Bool) (tallies : List (List ℕ × Tally)) → is_some (tally_of d (tallied call b tallies)) ≡ is_some (tally_of d tallies)
 tallied_same d (PutNew path bytes) true tallies = committed_same d path tallies

@@ -103,11 +103,7 @@ module _ (chains chains' : Chains) (db : List ℕ) (kept : (k : LogKind) (n : �
 
 pub kept_work : (chains chains' : Chains) (work : Work) → ((k : LogKind) (n : ℕ) (l : _) → link_at n (chains k (db_of work)) ≡ Some l → link_at n (chains' k (db_of work)) ≡ Some l) → WorkHolds chains work → WorkHolds chains' work
 kept_work chains chains' (works.Opening db phase) kept h = kept_open chains chains' db (kept logs.Manifest) (kept logs.Compactions) phase h
-kept_work chains chains' (works.Manifests db p) kept h = tt
-kept_work chains chains' (works.Records db p) kept h = tt
-kept_work chains chains' (works.PutTable db upload bytes) kept h = tt
-kept_work chains chains' (works.Pass db settings filter phase) kept h = tt
-kept_work chains chains' (works.Compacting db phase) kept h = tt
+kept_work chains chains' _ kept h = tt
 
 -- ---- a step
 
@@ -231,10 +227,8 @@ module _ (s : Store) (chains : Chains) (n : ℕ) (call : Call) (facts : Facts) (
 -- a table that a party may upload has the numbers of an id
 upload_is_id : (kind : PartyKind) (table : ℕ × ℕ) (first last : List ℕ) → has_call kind (UploadCall table first last) ≡ true → is_id table ≡ true
 upload_is_id Writer table first last h = h
-upload_is_id CompactorKind table first last h = absurd cc
 upload_is_id Worker table first last h = h
-upload_is_id Holder table first last h = absurd cc
-upload_is_id Collector table first last h = absurd cc
+upload_is_id _ table first last h = absurd cc
 
 -- a pass that a party may start is one over the manifests
 over_manifests : (kind : PartyKind) (pass : GcMessage) (min_age : ℕ) (dry_run : Bool) (filter : FilterWord) → has_call kind (Pass pass min_age dry_run filter) ≡ true → pass ≡ of.Manifest

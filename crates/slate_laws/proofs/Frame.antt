@@ -26,10 +26,8 @@ module _ {V A : Type 0} (log : Log V A) (db : List ℕ) (s : Store) (c : List (L
   kept_next author n bytes v h = record { small = h.small; encodes = h.encodes; made = kept_made author n v h.made }
 
   pub kept_read : (phase : ReadPhase V) → ReadKnows log db s c phase → ReadKnows log db s' c' phase
-  kept_read reading.Listing h = h
-  kept_read (reading.Getting n) h = h
   kept_read (reading.Bounding n v) h = kept_holds n v h
-  kept_read reading.Over h = h
+  kept_read _ h = h
 
   pub kept_commit : (author : A) (phase : CommitPhase V) → CommitKnows log db s c author phase → CommitKnows log db s' c' author phase
   kept_commit author (committing.Putting n bytes v) h = kept_next author n bytes v h

@@ -49,7 +49,7 @@ use Rattle.slate_protocol.specs.Holding.{Fits, IsVersion, IsMadeOf, Each, IsMani
 use Rattle.slate_protocol.specs.Holding.IsMadeOf.{OfVersion as Makes, OfNone as Begins}
 use Rattle.slate_protocol.specs.Lawful.{IsAccepted, AreGood, chains_at_end, course_after, gone_after}
 use Rattle.slate_protocol.specs.Logs.{Held, Chain, Chains, Author, Phrase, Puts, OfManifest, change_phrase, log_of, manifest_phrase, manifest_puts, manifests, phrase_of, record_phrase, record_puts, state_phrase, world_after}
-use Rattle.slate_protocol.specs.Logs.Phrase.{Reads, Commits, Uploads, Collects}
+use Rattle.slate_protocol.specs.Logs.Phrase.{Reads, Commits, Collects}
 use Rattle.slate_protocol.specs.Owners.{owner_of}
 use Rattle.slate_protocol.specs.Owners.Owner.{Version}
 use Rattle.slate_protocol.specs.Reach.{IsSpare}
@@ -132,9 +132,7 @@ bound_fails db k n v s moment Lost b read le = record { phase = Over; error = St
 -- a phrase that is a commit whose step ends with a refusal
 abbrev PhraseFails : Store → ℤ → Mark → Phrase → Type 0
 PhraseFails s moment mark (Commits k db puts now phase) = CommitFails (commit_goes phase (effect mark (commit_asks db k phase) moment s).answer)
-PhraseFails s moment mark (Reads k db phase) = ⊥
-PhraseFails s moment mark (Uploads db table bytes) = ⊥
-PhraseFails s moment mark (Collects db pass phase) = ⊥
+PhraseFails s moment mark _ = ⊥
 
 -- then the call ends with it
 module _ (s : Store) (moment : ℤ) (mark : Mark) (facts : Facts) (call : Call) where
@@ -213,29 +211,16 @@ module _ (specs : List DbSpec) (events : List Event) (n : ℕ) (p : Party) (task
   commit_holds k db puts now number bytes v e = made_of k (chains k db) _ number v (knows (Commits k db puts now (Putting number bytes v)) e).made
 
   all_spare : (db : List ℕ) (phase : PassPhase) → PassKnows w.store (chains logs.Manifest db) db phase → Each (IsManifestThat db (IsSpare manifests (chains logs.Manifest db))) (picks_in phase)
-  all_spare db (passing.ReadingRecord phase) h = tt
-  all_spare db (passing.ReadingManifest least phase) h = tt
-  all_spare db (passing.Fetching heads phase) h = tt
-  all_spare db (passing.Listing heads versions) h = tt
-  all_spare db (passing.Getting k listed found) h = tt
-  all_spare db (passing.Bounding k listed candidates) h = tt
   all_spare db (passing.Advancing phase left counts) h = each_is db _ (IsSpare manifests (chains logs.Manifest db)) (λ k w. w.1) left h.1
   all_spare db (passing.Deleting left counts) h = each_is db _ (IsSpare manifests (chains logs.Manifest db)) (λ k w. w.1) left h
-  all_spare db passing.Over h = tt
+  all_spare db _ h = tt
 
   pub spare_picks : (db : List ℕ) (pass : GcMessage) (phase : PassPhase) → phrase_of task.work ≡ Collects db pass phase → Each (IsManifestThat db (IsSpare manifests (chains logs.Manifest db))) (picks_in phase)
   spare_picks db pass phase e = all_spare db phase (knows (Collects db pass phase) e).1
 
   all_bounded : (db : List ℕ) (bound : ℕ) → bound_in manifests db w.store ≡ Some bound → (phase : PassPhase) → PassKnows w.store (chains logs.Manifest db) db phase → Each (IsManifestThat db (λ k. k ≤ bound)) (due_in phase)
-  all_bounded db bound read (passing.ReadingRecord phase) h = tt
-  all_bounded db bound read (passing.ReadingManifest least phase) h = tt
-  all_bounded db bound read (passing.Fetching heads phase) h = tt
-  all_bounded db bound read (passing.Listing heads versions) h = tt
-  all_bounded db bound read (passing.Getting k listed found) h = tt
-  all_bounded db bound read (passing.Bounding k listed candidates) h = tt
-  all_bounded db bound read (passing.Advancing phase left counts) h = tt
   all_bounded db bound read (passing.Deleting left counts) h = each_is db _ (λ k. k ≤ bound) (λ k w. w.0.reached bound read) left h
-  all_bounded db bound read passing.Over h = tt
+  all_bounded db bound read _ h = tt
 
   pub bounded_due : (db : List ℕ) (pass : GcMessage) (phase : PassPhase) (bound : ℕ) → phrase_of task.work ≡ Collects db pass phase → bound_in manifests db w.store ≡ Some bound → Each (IsManifestThat db (λ k. k ≤ bound)) (due_in phase)
   bounded_due db pass phase bound e read = all_bounded db bound read phase (knows (Collects db pass phase) e).1

@@ -36,21 +36,9 @@ greatest_has P log ms each = from_has P log None ms tt each
 
 small_number : (log : LogKind) (p : ObjectPath) → IsFine p → IfSome (number_of log p) (λ n. n < 2 ^ 64)
 small_number Manifest (paths.Manifest db n) h = h.1
-small_number Manifest (paths.Record db n) h = tt
-small_number Manifest (paths.ManifestBoundary db) h = tt
-small_number Manifest (paths.RecordBoundary db) h = tt
-small_number Manifest (paths.Table db id) h = tt
-small_number Manifest (paths.Wal db n) h = tt
-small_number Manifest (paths.Marker db) h = tt
-small_number Manifest (paths.Other db rest) h = tt
+small_number Manifest _ h = tt
 small_number Compactions (paths.Record db n) h = h.1
-small_number Compactions (paths.Manifest db n) h = tt
-small_number Compactions (paths.ManifestBoundary db) h = tt
-small_number Compactions (paths.RecordBoundary db) h = tt
-small_number Compactions (paths.Table db id) h = tt
-small_number Compactions (paths.Wal db n) h = tt
-small_number Compactions (paths.Marker db) h = tt
-small_number Compactions (paths.Other db rest) h = tt
+small_number Compactions _ h = tt
 
 small_numbers : (log : LogKind) (dir : ListDir) (es : List (ObjectPath × StoredObject)) → IsTidy es → EachNumber (λ n. n < 2 ^ 64) log (map metadata (filter (λ o. is_in dir o.0) es))
 small_numbers log dir [] h = tt

@@ -57,19 +57,11 @@ module _ (w : World) (chains : Chains) (i : Inv w chains) (n : ℕ) (p : Party) 
 
   raised_work : (work : Work) (e : ℕ) → WorkHolds chains work → open_of raised_at work ≡ Some e → Raised chains (db_of work) e
   raised_work (works.Opening db phase) e h is = raised_of db phase e h is
-  raised_work (works.Manifests db q) e h is = absurd (cc is)
-  raised_work (works.Records db q) e h is = absurd (cc is)
-  raised_work (works.PutTable db upload bytes) e h is = absurd (cc is)
-  raised_work (works.Pass db settings filter phase) e h is = absurd (cc is)
-  raised_work (works.Compacting db phase) e h is = absurd (cc is)
+  raised_work _ e h is = absurd (cc is)
 
   given_work : (work : Work) (e : ℕ) → WorkHolds chains work → open_of given_at work ≡ Some e → Given chains (db_of work) e
   given_work (works.Opening db phase) e h is = given_of db phase e h is
-  given_work (works.Manifests db q) e h is = absurd (cc is)
-  given_work (works.Records db q) e h is = absurd (cc is)
-  given_work (works.PutTable db upload bytes) e h is = absurd (cc is)
-  given_work (works.Pass db settings filter phase) e h is = absurd (cc is)
-  given_work (works.Compacting db phase) e h is = absurd (cc is)
+  given_work _ e h is = absurd (cc is)
 
   raised_in : (state : State) (e : ℕ) → StateKnows w.store chains n p.facts state → open_in raised_at state ≡ Some e → Raised chains p.facts.db e
   raised_in Resting e k is = absurd (cc is)

@@ -182,10 +182,8 @@ module _ (chains chains' : Chains) (db : List ℕ) (manifests_kept : (n : ℕ) (
   kept_given e h = kept_epoch record_epoch e (chains logs.Compactions db) (chains' logs.Compactions db) records_kept h
 
   kept_step : (step : OpenStep) (e : ℕ) (work : LogWork Record) → StepKnows chains db step e work → StepKnows chains' db step e work
-  kept_step Give e work h = h
-  kept_step Begin e work h = h
-  kept_step GiveFirst e work h = h
   kept_step Reset e work h = kept_given e h
+  kept_step _ e work h = h
 
   pub kept_open : (phase : OpenPhase) → OpenKnows chains db phase → OpenKnows chains' db phase
   kept_open (Raising p) h = h

@@ -87,13 +87,7 @@ each_kept P t ms h = each_tested P P t (λ m is w. w) ms h
 -- a path that the folder of manifests lists is a manifest's
 in_folder : (db : List ℕ) (o : ObjectPath × StoredObject) (p : ObjectPath) → o.0 ≡ p → is_in (folders.Manifests db) p ≡ true → IsManifestThat db (λ n. Unit {0}) (metadata o)
 in_folder db o (paths.Manifest of n) e h = let same : db ≡ of = (decides db of).0 h in record { number = n; is = e ∙ sym (ap (λ d. paths.Manifest d n) same); has = tt }
-in_folder db o (paths.Record of n) e h = absurd cc
-in_folder db o (paths.ManifestBoundary of) e h = absurd cc
-in_folder db o (paths.RecordBoundary of) e h = absurd cc
-in_folder db o (paths.Table of id) e h = absurd cc
-in_folder db o (paths.Wal of n) e h = absurd cc
-in_folder db o (paths.Marker of) e h = absurd cc
-in_folder db o (paths.Other of rest) e h = absurd cc
+in_folder db o _ e h = absurd cc
 
 pub found_manifests : (db : List ℕ) (es : List (ObjectPath × StoredObject)) → EachIs db (λ n. Unit {0}) (map metadata (filter (λ o. is_in (folders.Manifests db) o.0) es))
 found_manifests db [] = tt
@@ -192,15 +186,12 @@ pub record IsRead (s : Store) (c : ManifestChain) (db : List ℕ) (n : ℕ) (can
 -- what a pass over the manifests knows in each phase: it reads nothing before its list, what it picked is spare, and what is left to be deleted
 -- is at or below the boundary
 abbrev pub PassKnows : Store → ManifestChain → List ℕ → PassPhase → Type 0
-PassKnows s c db (ReadingRecord phase) = ⊥
-PassKnows s c db (ReadingManifest least phase) = ⊥
-PassKnows s c db (Fetching heads phase) = ⊥
 PassKnows s c db (Listing heads versions) = Unit {0}
 PassKnows s c db (Getting n listed found) = (n < 2 ^ 64) × EachIs db (λ k. Unit {0}) found
 PassKnows s c db (Bounding n listed candidates) = IsRead s c db n candidates
 PassKnows s c db (Advancing phase left counts) = AdvanceKnows manifests db s c phase × EachIs db (λ k. (k ≤ target phase) × IsSpare manifests c k) left
 PassKnows s c db (Deleting left counts) = EachIs db (λ k. IsReached manifests db s k × IsSpare manifests c k) left
-PassKnows s c db Over = ⊥
+PassKnows s c db _ = ⊥
 
 -- what a step of a pass brings
 abbrev pub PassBrings : Store → ManifestChain → List ℕ → Goes PassPhase PassCounts → Type 0

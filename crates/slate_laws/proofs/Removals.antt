@@ -16,7 +16,7 @@ use Rattle.slate_store.specs.declared.mark.Mark.{Mark}
 use Rattle.slate_store.specs.declared.mark.Mark.TheVariants.{Good, Fail, Lost}
 use Rattle.slate_store.specs.declared.object.StoredObject.{StoredObject}
 use Rattle.slate_store.specs.declared.store_call.StoreCall.{StoreCall}
-use Rattle.slate_store.specs.declared.store_call.StoreCall.TheVariants.{List as ListCall, Get, PutNew, Replace, Put, Delete}
+use Rattle.slate_store.specs.declared.store_call.StoreCall.TheVariants.{Delete}
 use Rattle.slate_events.specs.declared.call.Call.{Call}
 use Rattle.slate_events.specs.declared.db_spec.DbSpec.{DbSpec}
 use Rattle.slate_events.specs.declared.entry.Entry.{Entry}
@@ -119,11 +119,7 @@ module _ (path : ObjectPath) (s : Store) (deleted : ℕ) (most : deleted ≤ las
 call_counts : (call : StoreCall) (mark : Mark) (moment : ℤ) (s : Store) (deleted : ℕ) → deleted ≤ last_number → IsOrdered s.objects
     → counted call (lost_one s (effect mark call moment s).store) deleted ≡ min (deleted + length (removed_by_call call s (effect mark call moment s).store)) last_number
 call_counts (Delete path) mark moment s deleted most h = delete_counts path s deleted most mark moment h
-call_counts (ListCall dir) mark moment s deleted most h = no_more deleted most
-call_counts (Get path) mark moment s deleted most h = no_more deleted most
-call_counts (PutNew path bytes) mark moment s deleted most h = no_more deleted most
-call_counts (Replace path tag bytes) mark moment s deleted most h = no_more deleted most
-call_counts (Put path bytes) mark moment s deleted most h = no_more deleted most
+call_counts _ mark moment s deleted most h = no_more deleted most
 
 -- ---- what an event counts
 

@@ -154,9 +154,6 @@ module _ (w : World) (chains : Chains) (v : World) (chains' : Chains) (a : Event
   delete_gone db m false has h = tt
 
   collect_gone : (db : List ℕ) (pass : GcMessage) (phase : PassPhase) (s : Store) → HasDb w db → PassKnows w.store (chains logs.Manifest db) db phase → AllCollected v chains' (removed_by_call (pass_asks db pass phase) w.store s)
-  collect_gone db pass (passing.ReadingRecord phase) s has k = absurd k
-  collect_gone db pass (passing.ReadingManifest least phase) s has k = absurd k
-  collect_gone db pass (passing.Fetching heads phase) s has k = absurd k
   collect_gone db pass (passing.Listing heads versions) s has k = tt
   collect_gone db pass (passing.Getting n listed found) s has k = tt
   collect_gone db pass (passing.Bounding n listed candidates) s has k = tt
@@ -166,7 +163,7 @@ module _ (w : World) (chains : Chains) (v : World) (chains' : Chains) (a : Event
   collect_gone db pass (passing.Advancing advancing.Over left counts) s has k = tt
   collect_gone db pass (passing.Deleting [] counts) s has k = tt
   collect_gone db pass (passing.Deleting (m ∷ ms) counts) s has k = delete_gone db m (took_away m.location w.store s) has k.0
-  collect_gone db pass passing.Over s has k = absurd k
+  collect_gone db pass _ s has k = absurd k
 
   read_gone : {T : Type 0} (db : List ℕ) (k : LogKind) (phase : ReadPhase T) (s : Store) → AllCollected v chains' (removed_by_call (read_asks db k phase) w.store s)
   read_gone db k reading.Listing s = tt

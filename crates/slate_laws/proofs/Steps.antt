@@ -122,10 +122,8 @@ author_of n puts now = record { party = n; puts = puts; now = now }
 
 -- the author of a phrase, which counts where it commits
 abbrev pub author_in : ℕ → Phrase → Author
-author_in n (Reads k db phase) = author_of n First (pos 0)
 author_in n (Commits k db puts now phase) = author_of n puts now
-author_in n (Uploads db table bytes) = author_of n First (pos 0)
-author_in n (Collects db pass phase) = author_of n First (pos 0)
+author_in n _ = author_of n First (pos 0)
 
 pub author_party : (n : ℕ) (phrase : Phrase) → (author_in n phrase).party ≡ n
 author_party n (Reads k db phase) = refl

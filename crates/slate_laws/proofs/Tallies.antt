@@ -86,9 +86,6 @@ delete_after k db s p own Fail = Same refl
 delete_after k db s p own Lost = Gone p own refl
 
 pass_after : (s : Store) (c : Chain logs.Manifest) (db : List ℕ) (mark : Mark) (moment : ℤ) → top c < 2 ^ 64 → (phase : PassPhase) → PassKnows s c db phase → StoreAfter logs.Manifest db s (effect mark (pass_asks db of.Manifest phase) moment s).store
-pass_after s c db mark moment small (passing.ReadingRecord phase) h = absurd h
-pass_after s c db mark moment small (passing.ReadingManifest least phase) h = absurd h
-pass_after s c db mark moment small (passing.Fetching heads phase) h = absurd h
 pass_after s c db mark moment small (passing.Listing heads versions) h = got_after logs.Manifest db s mark _
 pass_after s c db mark moment small (passing.Getting n listed found) h = got_after logs.Manifest db s mark _
 pass_after s c db mark moment small (passing.Bounding n listed candidates) h = got_after logs.Manifest db s mark _
@@ -97,14 +94,12 @@ pass_after s c db mark moment small (passing.Deleting [] counts) h = got_after l
 pass_after s c db mark moment small (passing.Deleting (m ∷ left) counts) h =
     let lt = h.0.has.1.below in
     delete_after logs.Manifest db s m.location (OwnVersion h.0.number (omega arith) h.0.is) mark
-pass_after s c db mark moment small passing.Over h = absurd h
+pass_after s c db mark moment small _ h = absurd h
 
 read_after : (k : LogKind) (db : List ℕ) (s : Store) (chains : Chains) (n : ℕ) (mark : Mark) (moment : ℤ) (phase : ReadPhase (Held k)) → PhraseKnows s chains n (Reads k db phase)
     → StoreAfter k db s (effect mark (phrase_asks (Reads k db phase)) moment s).store
-read_after k db s chains n mark moment reading.Listing h = got_after k db s mark _
-read_after k db s chains n mark moment (reading.Getting m) h = got_after k db s mark _
-read_after k db s chains n mark moment (reading.Bounding m v) h = got_after k db s mark _
 read_after k db s chains n mark moment reading.Over h = absurd h
+read_after k db s chains n mark moment _ h = got_after k db s mark _
 
 -- where a log lies
 pub its_kind : (k : LogKind) → (log_of k).kind ≡ k
@@ -253,16 +248,13 @@ module _ (s : Store) (chains : Chains) (tallies : Tallies) (told : (k : LogKind)
   advance_tallies k db advancing.Over b = refl
 
   pass_tallies : (db : List ℕ) (pass : GcMessage) (phase : PassPhase) (b : Bool) → PassKnows s (chains logs.Manifest db) db phase → tallied (pass_asks db pass phase) b tallies ≡ tallies
-  pass_tallies db pass (passing.ReadingRecord phase) b h = absurd h
-  pass_tallies db pass (passing.ReadingManifest least phase) b h = absurd h
-  pass_tallies db pass (passing.Fetching heads phase) b h = absurd h
   pass_tallies db pass (passing.Listing heads versions) b h = refl
   pass_tallies db pass (passing.Getting n listed found) b h = refl
   pass_tallies db pass (passing.Bounding n listed candidates) b h = refl
   pass_tallies db pass (passing.Advancing phase left counts) b h = advance_tallies (log_or_manifests (log_of_pass pass)) db phase b
   pass_tallies db pass (passing.Deleting [] counts) b h = refl
   pass_tallies db pass (passing.Deleting (m ∷ left) counts) b h = refl
-  pass_tallies db pass passing.Over b h = absurd h
+  pass_tallies db pass _ b h = absurd h
 
   pub tallies_after : (n : ℕ) (phrase : Phrase) (b : Bool) → IsSound (log_of (log_in phrase)) (db_in phrase) s (chains (log_in phrase) (db_in phrase)) → PhraseKnows s chains n phrase
       → TalliesAfter tallies (tallied (phrase_asks phrase) b tallies) (chains_put b (put_by n phrase) chains)

@@ -116,13 +116,10 @@ module _ (firsts : Firsts) (chains : Chains) (h : Tells firsts chains) where
   pass_told db pass (passing.ReadingRecord phase) = read_told logs.Compactions db phase
   pass_told db pass (passing.ReadingManifest least phase) = read_told logs.Manifest db phase
   pass_told db pass (passing.Fetching heads phase) = fetch_told db phase
-  pass_told db pass (passing.Listing heads versions) = h
-  pass_told db pass (passing.Getting n listed found) = h
-  pass_told db pass (passing.Bounding n listed candidates) = h
   pass_told db pass (passing.Advancing phase left counts) = advance_told (log_or_manifests (log_of_pass pass)) db phase
   pass_told db pass (passing.Deleting [] counts) = h
   pass_told db pass (passing.Deleting (m ∷ left) counts) = h
-  pass_told db pass passing.Over = h
+  pass_told db pass _ = h
 
   phrase_told : (n : ℕ) (phrase : Phrase) (b : Bool) → Tells (call_told b (phrase_asks phrase) firsts) (chains_put b (put_by n phrase) chains)
   phrase_told n phrase false = h

@@ -204,24 +204,15 @@ quiet_none n k (Idle j) of ne h = tt
 -- such an entry leaves the store, has no reply, and no answer
 none_store : (x : Entry) (s : Store) → MakesNone x → entry_store x s ≡ s
 none_store (Called j asked moment mark answer r) s h = absurd h
-none_store (Opened j) s h = refl
-none_store (Started j r) s h = refl
-none_store (Stopped j) s h = refl
-none_store (Idle j) s h = refl
+none_store _ s h = refl
 
 none_replied : (x : Entry) (r : Reply) → MakesNone x → reply_at x ≡ Some r → ⊥
 none_replied (Called j asked moment mark answer o) r h e = h
-none_replied (Opened j) r h e = absurd cc
-none_replied (Started j o) r h e = absurd cc
-none_replied (Stopped j) r h e = absurd cc
-none_replied (Idle j) r h e = absurd cc
+none_replied _ r h e = absurd cc
 
 none_answered : (x : Entry) (xs : List Entry) → MakesNone x → answers_in (x ∷ xs) ≡ answers_in xs
 none_answered (Called j asked moment mark answer o) xs h = absurd h
-none_answered (Opened j) xs h = refl
-none_answered (Started j o) xs h = refl
-none_answered (Stopped j) xs h = refl
-none_answered (Idle j) xs h = refl
+none_answered _ xs h = refl
 
 -- a call that didn't fault had its whole effect
 no_fault : (mark : Mark) (call : StoreCall) (moment : ℤ) (s : Store) → is_answer (effect mark call moment s).answer ≡ true → effect mark call moment s ≡ whole call moment s

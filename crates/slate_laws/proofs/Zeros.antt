@@ -56,9 +56,7 @@ abbrev WritesElse : ObjectPath → StoreCall → Type 0
 WritesElse q (PutNew path bytes) = path_text q ≢ path_text path
 WritesElse q (Replace path tag bytes) = path_text q ≢ path_text path
 WritesElse q (Put path bytes) = path_text q ≢ path_text path
-WritesElse q (ListCall dir) = Unit {0}
-WritesElse q (Get path) = Unit {0}
-WritesElse q (Delete path) = Unit {0}
+WritesElse q _ = Unit {0}
 
 abbrev look : ObjectPath → List (ObjectPath × StoredObject) → Option StoredObject
 look q es = lookup (is_at (path_cmp q)) es
@@ -152,13 +150,10 @@ module _ (k : LogKind) (d : List ℕ) (named : is_db_path d ≡ true) where
   collect_else s chains db pass (passing.ReadingRecord phase) own h = absurd h
   collect_else s chains db pass (passing.ReadingManifest least phase) own h = absurd h
   collect_else s chains db pass (passing.Fetching heads phase) own h = absurd h
-  collect_else s chains db pass (passing.Listing heads versions) own h = tt
-  collect_else s chains db pass (passing.Getting n listed found) own h = tt
-  collect_else s chains db pass (passing.Bounding n listed candidates) own h = tt
   collect_else s chains db pass (passing.Advancing phase left counts) own h = advance_else db (log_or_manifests (log_of_pass pass)) phase own
   collect_else s chains db pass (passing.Deleting [] counts) own h = tt
   collect_else s chains db pass (passing.Deleting (m ∷ left) counts) own h = tt
-  collect_else s chains db pass passing.Over own h = tt
+  collect_else s chains db pass _ own h = tt
 
   phrase_else : (s : Store) (chains : Chains) (n : ℕ) (phrase : Phrase) → is_db_path (db_in phrase) ≡ true → PhraseKnows s chains n phrase → WritesElse zero_path (phrase_asks phrase)
   phrase_else s chains n (Reads k db phase) own h = read_else db (log_of k).kind phase

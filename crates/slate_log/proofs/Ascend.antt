@@ -81,12 +81,7 @@ with_all log r ws (m ∷ ms) h = with_all log r (kept_with r ws m (number_of log
 -- what a list replies has them
 pub replies : (log : LogKind) (r : NumberRange) (answer : StoreAnswer) (ws : List Version) → list_reply log r answer ≡ Ok ws → Listing r ws
 replies log r (Found found) ws h = let same : versions_in log r found ≡ ws = cc in subst (λ (vs : List Version). Listing r vs) same (with_all log r [] found (record { ascending = tt; within = tt }))
-replies log r (Got object) ws h = absurd cc
-replies log r (Created tag) ws h = absurd cc
-replies log r (Replaced tag) ws h = absurd cc
-replies log r (Written tag) ws h = absurd cc
-replies log r Deleted ws h = absurd cc
-replies log r Fault ws h = absurd cc
+replies log r _ ws h = absurd cc
 
 -- and so has what the call answers
 pub once_lists : {old new : Told} {call : StoreCall} {moment : ℤ} (log : LogKind) (r : NumberRange) (ws : List Version) → Once old new call moment (list_reply log r) (Ok ws) → Listing r ws

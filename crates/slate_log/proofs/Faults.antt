@@ -97,48 +97,28 @@ call_rose result only due (inr m) = λ fault. absurd (let out : ran_out result �
 -- the answers to a list, a get, a put of a new object, a replacement, and a delete
 pub list_answers : (dir : ListDir) (answer : StoreAnswer) → IsAnswerTo (ListCall dir) answer → (answer ≡ Fault) ⊎ ((found : List ObjectMetadata) × (answer ≡ Found found))
 list_answers dir (Found found) kind = inr (found, refl)
-list_answers dir (Got object) kind = absurd kind
-list_answers dir (Created tag) kind = absurd kind
-list_answers dir (Replaced tag) kind = absurd kind
-list_answers dir (Written tag) kind = absurd kind
-list_answers dir Deleted kind = absurd kind
 list_answers dir Fault kind = inl refl
+list_answers dir _ kind = absurd kind
 
 pub get_answers : (path : ObjectPath) (answer : StoreAnswer) → IsAnswerTo (Get path) answer → (answer ≡ Fault) ⊎ ((object : Option StoredObject) × (answer ≡ Got object))
-get_answers path (Found found) kind = absurd kind
 get_answers path (Got object) kind = inr (object, refl)
-get_answers path (Created tag) kind = absurd kind
-get_answers path (Replaced tag) kind = absurd kind
-get_answers path (Written tag) kind = absurd kind
-get_answers path Deleted kind = absurd kind
 get_answers path Fault kind = inl refl
+get_answers path _ kind = absurd kind
 
 pub create_answers : (path : ObjectPath) (bytes : List ℕ) (answer : StoreAnswer) → IsAnswerTo (PutNew path bytes) answer → (answer ≡ Fault) ⊎ ((tag : Option ℕ) × (answer ≡ Created tag))
-create_answers path bytes (Found found) kind = absurd kind
-create_answers path bytes (Got object) kind = absurd kind
 create_answers path bytes (Created tag) kind = inr (tag, refl)
-create_answers path bytes (Replaced tag) kind = absurd kind
-create_answers path bytes (Written tag) kind = absurd kind
-create_answers path bytes Deleted kind = absurd kind
 create_answers path bytes Fault kind = inl refl
+create_answers path bytes _ kind = absurd kind
 
 pub replace_answers : (path : ObjectPath) (tag : ℕ) (bytes : List ℕ) (answer : StoreAnswer) → IsAnswerTo (Replace path tag bytes) answer → (answer ≡ Fault) ⊎ ((new : Option ℕ) × (answer ≡ Replaced new))
-replace_answers path tag bytes (Found found) kind = absurd kind
-replace_answers path tag bytes (Got object) kind = absurd kind
-replace_answers path tag bytes (Created new) kind = absurd kind
 replace_answers path tag bytes (Replaced new) kind = inr (new, refl)
-replace_answers path tag bytes (Written new) kind = absurd kind
-replace_answers path tag bytes Deleted kind = absurd kind
 replace_answers path tag bytes Fault kind = inl refl
+replace_answers path tag bytes _ kind = absurd kind
 
 pub delete_answers : (path : ObjectPath) (answer : StoreAnswer) → IsAnswerTo (Delete path) answer → (answer ≡ Fault) ⊎ ((u : Unit {0}) × (answer ≡ Deleted))
-delete_answers path (Found found) kind = absurd kind
-delete_answers path (Got object) kind = absurd kind
-delete_answers path (Created tag) kind = absurd kind
-delete_answers path (Replaced tag) kind = absurd kind
-delete_answers path (Written tag) kind = absurd kind
 delete_answers path Deleted kind = inr (tt, refl)
 delete_answers path Fault kind = inl refl
+delete_answers path _ kind = absurd kind
 
 -- sound at an answer of its kind
 pub sound_at : {P R X : Type 0} (due : P → Bool) (goes : StoreAnswer → Goes P R) (made : X → StoreAnswer) (answer : StoreAnswer) → (answer ≡ Fault) ⊎ ((x : X) × (answer ≡ made x)) → IsEnd (goes Fault) → ((x : X) → Fine due (goes (made x)))

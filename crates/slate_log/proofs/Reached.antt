@@ -188,37 +188,22 @@ module _ (db : List ℕ) (log : LogKind) where
 
   -- from the answer to the get
   fits_got : (n : ℕ) (mark : Mark) (moment : ℤ) (contents : Option Store) (answer : StoreAnswer) → Answers mark contents (Get path) moment answer → Fits n contents (advance_goes (Bounding n) answer)
-  fits_got n mark moment contents (Found found) answers = tt
   fits_got n mark moment contents (Got object) answers = fits_bound n contents object (got_stands mark moment contents object answers)
-  fits_got n mark moment contents (Created tag) answers = tt
-  fits_got n mark moment contents (Replaced tag) answers = tt
-  fits_got n mark moment contents (Written tag) answers = tt
-  fits_got n mark moment contents Deleted answers = tt
-  fits_got n mark moment contents Fault answers = tt
+  fits_got n mark moment contents _ answers = tt
 
   -- from the answer to the put
   fits_created : (n : ℕ) (mark : Mark) (moment : ℤ) (contents : Option Store) (answer : StoreAnswer) → n < 2 ^ 64 → Answers mark contents (PutNew path (decimal n)) moment answer
       → Fits n (contents_after mark (PutNew path (decimal n)) moment contents) (advance_goes (Creating n) answer)
-  fits_created n mark moment contents (Found found) small answers = tt
-  fits_created n mark moment contents (Got object) small answers = tt
   fits_created n mark moment contents (Created None) small answers = refl
   fits_created n mark moment contents (Created (Some tag)) small answers = create_reaches n tag mark moment contents small answers
-  fits_created n mark moment contents (Replaced tag) small answers = tt
-  fits_created n mark moment contents (Written tag) small answers = tt
-  fits_created n mark moment contents Deleted small answers = tt
-  fits_created n mark moment contents Fault small answers = tt
+  fits_created n mark moment contents _ small answers = tt
 
   -- from the answer to the replacement
   fits_replaced : (n tag : ℕ) (mark : Mark) (moment : ℤ) (contents : Option Store) (answer : StoreAnswer) → n < 2 ^ 64 → Answers mark contents (Replace path tag (decimal n)) moment answer
       → Fits n (contents_after mark (Replace path tag (decimal n)) moment contents) (advance_goes (Replacing n tag) answer)
-  fits_replaced n tag mark moment contents (Found found) small answers = tt
-  fits_replaced n tag mark moment contents (Got object) small answers = tt
-  fits_replaced n tag mark moment contents (Created new) small answers = tt
   fits_replaced n tag mark moment contents (Replaced None) small answers = refl
   fits_replaced n tag mark moment contents (Replaced (Some new)) small answers = renew_reaches n tag new mark moment contents small answers
-  fits_replaced n tag mark moment contents (Written new) small answers = tt
-  fits_replaced n tag mark moment contents Deleted small answers = tt
-  fits_replaced n tag mark moment contents Fault small answers = tt
+  fits_replaced n tag mark moment contents _ small answers = tt
 
   -- what a step of an advance leaves
   record Leaves (n : ℕ) (old new : Option Store) (out : AdvanceGoes) : Type 0 where

@@ -74,13 +74,9 @@ module _ (ways : Ways) (settings : PassSettings) where
   one_deletes : (now moment : ℤ) (m : ObjectMetadata) (left : List ObjectMetadata) (counts : PassCounts) (answers : List Answered)
       → ((c : PassCounts) → Deletes (collect_on (Some now) now (deletes_next left c)) answers left c) → (answer : StoreAnswer)
       → Deletes (gc_goes ways settings moment (Collecting (Some now) (Deleting (m ∷ left) counts)) answer) answers left (with_delete answer counts)
-  one_deletes now moment m left counts answers again (Found found) = refused _ StoreFault answers left _
-  one_deletes now moment m left counts answers again (Got object) = refused _ StoreFault answers left _
-  one_deletes now moment m left counts answers again (Created tag) = refused _ StoreFault answers left _
-  one_deletes now moment m left counts answers again (Replaced tag) = refused _ StoreFault answers left _
-  one_deletes now moment m left counts answers again (Written tag) = refused _ StoreFault answers left _
   one_deletes now moment m left counts answers again Deleted = again (one_deleted counts)
   one_deletes now moment m left counts answers again Fault = again (one_failed counts)
+  one_deletes now moment m left counts answers again _ = refused _ StoreFault answers left _
 
   from_deletes : (answers : List Answered) (at : Option ℤ) (now : ℤ) (left : List ObjectMetadata) (counts : PassCounts) → Deletes (collect_on at now (deletes_next left counts)) answers left counts
   from_deletes answers at now [] counts = ended (Collecting at Over) (Ok counts) answers [] counts (λ c e. (refl, same_counts (Ok counts) counts c refl e))
@@ -153,12 +149,7 @@ module _ (ways : Ways) (settings : PassSettings) where
 
   of_get : (answers : List Answered) → Again answers → (at : Option ℤ) (now : ℤ) (n listed : ℕ) (found : List ObjectMetadata) (answer : StoreAnswer) → Picks (collect_on at now (get_goes ways.manifest_of n listed found answer)) answers
   of_get answers again at now n listed found (Got object) = of_got answers again at now n listed found object
-  of_get answers again at now n listed found (Found listing) = none _ _ answers
-  of_get answers again at now n listed found (Created tag) = none _ _ answers
-  of_get answers again at now n listed found (Replaced tag) = none _ _ answers
-  of_get answers again at now n listed found (Written tag) = none _ _ answers
-  of_get answers again at now n listed found Deleted = none _ _ answers
-  of_get answers again at now n listed found Fault = none _ _ answers
+  of_get answers again at now n listed found _ = none _ _ answers
 
   of_manifests : (answers : List Answered) → Again answers → (at : Option ℤ) (now : ℤ) (found : List ObjectMetadata) (n : Option ℕ) → Picks (collect_on at now (manifests_goes settings.options.min_age now found n)) answers
   of_manifests answers again at now found None = none _ _ answers
@@ -177,12 +168,7 @@ module _ (ways : Ways) (settings : PassSettings) where
   of_list : (answers : List Answered) → Again answers → (at : Option ℤ) (now : ℤ) (heads : Heads) (versions : List (ℕ × Manifest)) (answer : StoreAnswer)
       → Step (picked_of_list ways settings now heads versions answer) (collect_on at now (list_goes ways.allows ways.files settings now heads versions answer)) answers
   of_list answers again at now heads versions (Found found) = of_kind answers again at now (length found) found _ (greatest logs.Manifest found) (reads_greatest settings.pass)
-  of_list answers again at now heads versions (Got object) = none _ _ answers
-  of_list answers again at now heads versions (Created tag) = none _ _ answers
-  of_list answers again at now heads versions (Replaced tag) = none _ _ answers
-  of_list answers again at now heads versions (Written tag) = none _ _ answers
-  of_list answers again at now heads versions Deleted = none _ _ answers
-  of_list answers again at now heads versions Fault = none _ _ answers
+  of_list answers again at now heads versions _ = none _ _ answers
 
   of_above : (answers : List Answered) (at : Option ℤ) (now : ℤ) (n listed : ℕ) (found : List ObjectMetadata) (b : Bool)
       → Step (if b then None else Some (chosen ways settings listed found))
@@ -198,12 +184,7 @@ module _ (ways : Ways) (settings : PassSettings) where
   of_boundary : (answers : List Answered) (at : Option ℤ) (now : ℤ) (n listed : ℕ) (found : List ObjectMetadata) (answer : StoreAnswer)
       → Step (picked_of_boundary ways settings n listed found answer) (collect_on at now (bound_goes ways.allows settings n listed found answer)) answers
   of_boundary answers at now n listed found (Got object) = of_bounded answers at now n listed found (boundary_got object)
-  of_boundary answers at now n listed found (Found listing) = none _ _ answers
-  of_boundary answers at now n listed found (Created tag) = none _ _ answers
-  of_boundary answers at now n listed found (Replaced tag) = none _ _ answers
-  of_boundary answers at now n listed found (Written tag) = none _ _ answers
-  of_boundary answers at now n listed found Deleted = none _ _ answers
-  of_boundary answers at now n listed found Fault = none _ _ answers
+  of_boundary answers at now n listed found _ = none _ _ answers
 
   -- one answer at a phase that reads
   of_phase : (answers : List Answered) → Again answers → (at : Option ℤ) (p : PassPhase) → is_reading_phase p ≡ true → (a : Answered)
@@ -214,21 +195,14 @@ module _ (ways : Ways) (settings : PassSettings) where
   of_phase answers again at (Listing heads versions) h a = of_list answers again at (moment_of_pass at a.1) heads versions a.0
   of_phase answers again at (Getting n listed found) h a = of_get answers again at (moment_of_pass at a.1) n listed found a.0
   of_phase answers again at (Bounding n listed found) h a = of_boundary answers at (moment_of_pass at a.1) n listed found a.0
-  of_phase answers again at (Advancing phase left counts) h a = absurd cc
-  of_phase answers again at (Deleting left counts) h a = absurd cc
-  of_phase answers again at Over h a = absurd cc
+  of_phase answers again at _ h a = absurd cc
 
   -- a phase that reads deletes nothing
   deletes_none : (at : Option ℤ) (p : PassPhase) (a : Answered) (answers : List Answered) → is_reading_phase p ≡ true → deleted_along ways settings (Stay (Collecting at p)) (a ∷ answers) ≡ deleted_along ways settings (gc_goes ways settings a.1 (Collecting at p) a.0) answers
-  deletes_none at (ReadingRecord phase) a answers h = refl
-  deletes_none at (ReadingManifest least phase) a answers h = refl
-  deletes_none at (Fetching heads phase) a answers h = refl
-  deletes_none at (Listing heads versions) a answers h = refl
-  deletes_none at (Getting n listed found) a answers h = refl
-  deletes_none at (Bounding n listed found) a answers h = refl
   deletes_none at (Advancing phase left counts) a answers h = absurd cc
   deletes_none at (Deleting left counts) a answers h = absurd cc
   deletes_none at Over a answers h = absurd cc
+  deletes_none at _ a answers h = refl
 
   -- and counts nothing
   counts_none : (at : Option ℤ) (p : PassPhase) (a : Answered) (answers : List Answered) (counts : PassCounts) → is_reading_phase p ≡ true

@@ -1,5 +1,6 @@
 mod Always
 mod Starts
+mod Falling
 mod PassFaults
 mod Collected
 pub mod GcFaults

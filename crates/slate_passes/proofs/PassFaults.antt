@@ -83,13 +83,9 @@ advance_ends left counts advancing.Over = tt
 -- a delete that faults is counted
 fine_deleted : (ways : Ways) (settings : PassSettings) (now : ℤ) (db : List ℕ) (m : ObjectMetadata) (ms : List ObjectMetadata) (counts : PassCounts) (answer : StoreAnswer)
     → IsAnswerTo (pass_asks db settings.pass (Deleting (m ∷ ms) counts)) answer → FinePass (pass_goes ways settings now (Deleting (m ∷ ms) counts) answer)
-fine_deleted ways settings now db m ms counts (Found found) kind = absurd kind
-fine_deleted ways settings now db m ms counts (Got object) kind = absurd kind
-fine_deleted ways settings now db m ms counts (Created tag) kind = absurd kind
-fine_deleted ways settings now db m ms counts (Replaced tag) kind = absurd kind
-fine_deleted ways settings now db m ms counts (Written tag) kind = absurd kind
 fine_deleted ways settings now db m ms counts Deleted kind = fine_deletes ms (one_deleted counts)
 fine_deleted ways settings now db m ms counts Fault kind = fine_deletes ms (one_failed counts)
+fine_deleted ways settings now db m ms counts _ kind = absurd kind
 
 -- ---- the pass over the manifests, after its list
 
@@ -211,9 +207,7 @@ pub reads_there : (db : List ℕ) (pass : GcMessage) (p : PassPhase) → is_read
 reads_there db pass (ReadingRecord phase) h = reads_only db logs.Compactions phase
 reads_there db pass (ReadingManifest least phase) h = reads_only db logs.Manifest phase
 reads_there db pass (Fetching heads phase) h = referenced_reads db phase
-reads_there db pass (Listing heads versions) h = refl
-reads_there db pass (Getting n listed found) h = refl
-reads_there db pass (Bounding n listed found) h = refl
 reads_there db pass (Advancing phase left counts) h = absurd cc
 reads_there db pass (Deleting left counts) h = absurd cc
 reads_there db pass Over h = absurd cc
+reads_there db pass _ h = refl

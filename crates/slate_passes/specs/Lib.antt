@@ -5,4 +5,5 @@ pub mod Rows
 pub mod Candidates
 pub mod Pass
 pub mod GcPhase
+pub mod Stages
 pub mod Exact

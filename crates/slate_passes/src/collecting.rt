@@ -1,11 +1,12 @@
 //! The advance of a pass and its deletes: what follows the answer to each call.
-ghost use Rattle.std.specs.Prelude.{◌≡◌, option_copied, Err, IfOk};
+ghost use Rattle.std.specs.Prelude.{◌≡◌, ◌<◌, option_copied, Err, IfOk};
 ghost use Rattle.slate_log.specs.AdvancePhase.{advance_goes};
 ghost use Rattle.slate_log.specs.Due.{StillDue, NeverOut};
 ghost use Rattle.slate_passes.specs.Pass as pass;
+ghost use Rattle.slate_passes.specs.Stages.{PassFalls, stages_within};
 ghost use Rattle.slate_passes.specs.declared.pass_phase.PassPhase.TheVariants as phases;
 ghost use Rattle.slate_picks.specs.Filter.{allowed};
-ghost use Rattle.slate_store.specs.Machines.{GoesOnAlways};
+ghost use Rattle.slate_store.specs.Machines.{GoesOnAlways, IsAgain};
 ghost use Rattle.slate_store.specs.declared.step.Step.TheVariants.{Done};
 
 use crate::pass_counts::PassCounts;
@@ -33,6 +34,8 @@ pub(crate) fn refused(e: SlateDBError) -> Onward
 fn deletes_next(left: Objects, counts: PassCounts) -> Onward
     ensures goes { GoesOnAlways (pass.deletes_next left counts) result.0 result.1 }
     ensures due { StillDue result.1 (pass.pass_due result.0) }
+    ensures next { IsAgain result.1 → result.0 ≡ phases.Deleting left counts }
+    ensures stages { IsAgain result.1 → stages_within result.0 < 2 }
     ensures memory { NeverOut result.1 }
 {
     if left.is_empty() {
@@ -46,6 +49,7 @@ fn deletes_next(left: Objects, counts: PassCounts) -> Onward
 fn advance_to(to: Option<u64>, picked: Objects, counts: PassCounts) -> Onward
     ensures goes { GoesOnAlways (pass.advance_to to picked counts) result.0 result.1 }
     ensures due { StillDue result.1 (pass.pass_due result.0) }
+    ensures stages { IsAgain result.1 → stages_within result.0 < 3 }
     ensures memory { NeverOut result.1 }
 {
     match to {
@@ -69,6 +73,7 @@ pub(crate) fn chosen<F: GcFilter>(
         (pass.chosen_goes (allowed F.returns (option_copied filter.entry)) settings.now listed candidates.now)
         onward.0 onward.1) }
     ensures due { IfOk result (λ onward. StillDue onward.1 (pass.pass_due onward.0)) }
+    ensures stages { IfOk result (λ onward. IsAgain onward.1 → stages_within onward.0 < 3) }
     ensures memory { IfOk result (λ onward. NeverOut onward.1) }
 {
     let picked = picks(alloc, filter, settings.options.dry_run, candidates)?;
@@ -77,6 +82,7 @@ pub(crate) fn chosen<F: GcFilter>(
 }
 
 /// After a step of the advance. Takes no memory.
+#[tactic(auto, using(crate::proofs::Falling::fewer_stages))]
 pub(crate) fn after_advance(
     phase: AdvancePhase,
     picked: Objects,
@@ -86,6 +92,7 @@ pub(crate) fn after_advance(
     ensures goes { GoesOnAlways (pass.advanced_goes picked counts (advance_goes phase answer.now))
         result.0 result.1 }
     ensures due { StillDue result.1 (pass.pass_due result.0) }
+    ensures falls { IsAgain result.1 → PassFalls (phases.Advancing phase picked counts) result.0 }
     ensures memory { NeverOut result.1 }
 {
     let mut phase = phase;
@@ -100,9 +107,11 @@ pub(crate) fn after_advance(
 }
 
 /// After the delete of the first of the objects left. A fault is counted. Takes no memory.
+#[tactic(auto, using(crate::proofs::Falling::fewer_left))]
 pub(crate) fn after_delete(left: Objects, counts: PassCounts, answer: &StoreAnswer) -> Onward
     ensures goes { GoesOnAlways (pass.delete_goes left counts answer.now) result.0 result.1 }
     ensures due { StillDue result.1 (pass.pass_due result.0) }
+    ensures falls { IsAgain result.1 → PassFalls (phases.Deleting left counts) result.0 }
     ensures memory { NeverOut result.1 }
 {
     if left.is_empty() {

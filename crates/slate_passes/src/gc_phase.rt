@@ -2,10 +2,11 @@
 ghost use Rattle.std.specs.Prelude.{◌≡◌, option_copied, true, IfOk};
 ghost use Rattle.slate_log.specs.Due.{StillDue, FaultRose, NoFault, WhereOut};
 ghost use Rattle.slate_passes.specs.GcPhase.{gc_asks, gc_due, gc_start, gc_goes, may_run_out, moment_of_pass, WroteNothing};
+ghost use Rattle.slate_passes.specs.Stages.{GcFalls};
 ghost use Rattle.slate_passes.specs.Ways.{ways};
 ghost use Rattle.slate_picks.specs.Filter.{allowed};
 ghost use Rattle.slate_picks.specs.WalPicks.{wal_candidates};
-ghost use Rattle.slate_store.specs.Machines.{Steps, GoesOn};
+ghost use Rattle.slate_store.specs.Machines.{Steps, GoesOn, IsAgain};
 
 use crate::logs::Logs;
 use crate::pass_counts::PassCounts;
@@ -95,6 +96,7 @@ impl GcPhase {
             (wal_candidates W.picked (option_copied wal.entry))) settings.now moment self answer.now)
             self result.0 result.1 }
         ensures due { StillDue result.1 (gc_due result.0) }
+        ensures falls { IsAgain result.1 → GcFalls self result.0 }
         ensures memory { WhereOut result.1 (result.0 ≡ self) }
         ensures writes { WhereOut result.1 (may_run_out self ≡ true) }
     {
@@ -131,6 +133,7 @@ impl GcPhase {
             (wal_candidates W.picked (option_copied wal.entry))) settings.now moment self.old answer.now)
             self.old self.new result }
         ensures due { StillDue result (gc_due self.new) }
+        ensures falls { IsAgain result → GcFalls self.old self.new }
         ensures memory { WhereOut result (self.new ≡ self.old) }
         ensures writes { WhereOut result (may_run_out self.old ≡ true) }
     {
@@ -168,6 +171,7 @@ impl GcPhase {
             (wal_candidates W.picked (option_copied wal.entry))) settings.now moment self.old)
             self.old self.new result }
         ensures due { StillDue result (gc_due self.new) }
+        ensures falls { IsAgain result → GcFalls self.old self.new }
         ensures memory { WhereOut result (WroteNothing (S.told store.old) (S.told store.new)
             (gc_asks logs.now.db settings.now.pass self.old)) }
         ensures fault { NoFault (C.decoded logs.now.manifests) → NoFault (C.encoded logs.now.manifests)

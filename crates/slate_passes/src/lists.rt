@@ -1,17 +1,18 @@
 //! The list of a pass: what follows the answer.
-ghost use Rattle.std.specs.Prelude.{◌≡◌, length, option_copied, IfOk};
+ghost use Rattle.std.specs.Prelude.{◌≡◌, ◌<◌, length, option_copied, IfOk};
 ghost use Rattle.slate_log.specs.Boundary as boundaries;
 ghost use Rattle.slate_log.specs.Due.{NeverOut, StillDue, WhereOut};
 ghost use Rattle.slate_log.specs.declared.log_kind.LogKind.TheVariants as kinds;
 ghost use Rattle.slate_passes.specs.Candidates as picking;
 ghost use Rattle.slate_passes.specs.Pass as pass;
+ghost use Rattle.slate_passes.specs.Stages.{stages_within};
 ghost use Rattle.slate_passes.specs.declared.pass_phase.PassPhase.TheVariants as phases;
 ghost use Rattle.slate_picks.specs.Filter.{allowed};
 ghost use Rattle.slate_picks.specs.WalFiles.{collected};
 ghost use Rattle.slate_picks.specs.WalPicks as walled;
 ghost use Rattle.slate_picks.specs.WalRanges.{wal_ranges};
 ghost use Rattle.slate_picks.specs.declared.wal_gc.WalGcMode.TheVariants as modes;
-ghost use Rattle.slate_store.specs.Machines.{GoesOn, GoesOnAlways};
+ghost use Rattle.slate_store.specs.Machines.{GoesOn, GoesOnAlways, IsAgain};
 
 use crate::collecting::{Onward, chosen, refused};
 use crate::heads::Heads;
@@ -136,6 +137,7 @@ fn after_candidates<F: GcFilter, W: WalGc>(
         (picking.candidates (walled.wal_candidates W.picked (option_copied wal.entry)) settings.now.options.min_age now
         heads.now versions.now found.now settings.now.pass)) onward.0 onward.1) }
     ensures due { IfOk result (λ onward. StillDue onward.1 (pass.pass_due onward.0)) }
+    ensures stages { IfOk result (λ onward. IsAgain onward.1 → stages_within onward.0 < 3) }
     ensures memory { IfOk result (λ onward. NeverOut onward.1) }
 {
     let candidates = candidates(alloc, wal, settings, now, heads, versions, found)?;
@@ -162,6 +164,7 @@ fn after_manifests(
     ensures goes { GoesOn (pass.manifests_goes min_age now found.now (boundaries.greatest kinds.Manifest found.now))
         (phases.Listing heads versions) result.0 result.1 }
     ensures due { StillDue result.1 (pass.pass_due result.0) }
+    ensures stages { IsAgain result.1 → stages_within result.0 < 5 }
     ensures memory { WhereOut result.1 (result.0 ≡ phases.Listing heads versions) }
 {
     match greatest(LogKind::Manifest, found) {
@@ -197,6 +200,7 @@ fn after_found<F: GcFilter, W: WalGc>(
         (walled.wal_candidates W.picked (option_copied wal.entry)) settings.now now heads versions found.now)
         (phases.Listing heads versions) result.0 result.1 }
     ensures due { StillDue result.1 (pass.pass_due result.0) }
+    ensures stages { IsAgain result.1 → stages_within result.0 < 5 }
     ensures memory { WhereOut result.1 (result.0 ≡ phases.Listing heads versions) }
 {
     if reads_greatest(settings.pass) {
@@ -229,6 +233,7 @@ pub(crate) fn after_list<F: GcFilter, W: WalGc>(
         (walled.wal_candidates W.picked (option_copied wal.entry)) settings.now now heads versions answer.now)
         (phases.Listing heads versions) result.0 result.1 }
     ensures due { StillDue result.1 (pass.pass_due result.0) }
+    ensures stages { IsAgain result.1 → stages_within result.0 < 5 }
     ensures memory { WhereOut result.1 (result.0 ≡ phases.Listing heads versions) }
 {
     match answer {

@@ -1,11 +1,12 @@
 //! What the pass over the manifests reads after its list: what follows the answer to each call.
-ghost use Rattle.std.specs.Prelude.{◌≡◌, option_copied, Ok};
+ghost use Rattle.std.specs.Prelude.{◌≡◌, ◌<◌, option_copied, Ok};
 ghost use Rattle.slate_log.specs.Boundary as boundaries;
 ghost use Rattle.slate_log.specs.Due.{StillDue, WhereOut};
 ghost use Rattle.slate_passes.specs.Pass as pass;
+ghost use Rattle.slate_passes.specs.Stages.{stages_within};
 ghost use Rattle.slate_passes.specs.declared.pass_phase.PassPhase.TheVariants as phases;
 ghost use Rattle.slate_picks.specs.Filter.{allowed};
-ghost use Rattle.slate_store.specs.Machines.{GoesOn};
+ghost use Rattle.slate_store.specs.Machines.{GoesOn, IsAgain};
 
 use crate::collecting::{Onward, chosen, refused};
 use crate::pass_phase::PassPhase;
@@ -28,6 +29,7 @@ fn after_manifest(
     ensures goes { GoesOn (pass.decoded_goes n listed found (Ok manifest.now))
         (phases.Getting n listed found) result.0 result.1 }
     ensures due { StillDue result.1 (pass.pass_due result.0) }
+    ensures stages { IsAgain result.1 → stages_within result.0 < 4 }
     ensures memory { WhereOut result.1 (result.0 ≡ phases.Getting n listed found) }
 {
     let checkpoints = manifest.core.checkpoints.as_slice();
@@ -55,6 +57,7 @@ fn after_bytes<C: ObjectCodec<Manifest>>(
     ensures goes { GoesOn (pass.decoded_goes n listed found (C.decoded codec.now bytes.now))
         (phases.Getting n listed found) result.0 result.1 }
     ensures due { StillDue result.1 (pass.pass_due result.0) }
+    ensures stages { IsAgain result.1 → stages_within result.0 < 4 }
     ensures memory { WhereOut result.1 (result.0 ≡ phases.Getting n listed found) }
 {
     match codec.decode(alloc, bytes) {
@@ -86,6 +89,7 @@ pub(crate) fn after_get<C: ObjectCodec<Manifest>>(
     ensures goes { GoesOn (pass.get_goes (C.decoded codec.now) n listed found answer.now)
         (phases.Getting n listed found) result.0 result.1 }
     ensures due { StillDue result.1 (pass.pass_due result.0) }
+    ensures stages { IsAgain result.1 → stages_within result.0 < 4 }
     ensures memory { WhereOut result.1 (result.0 ≡ phases.Getting n listed found) }
 {
     match answer {
@@ -115,6 +119,7 @@ fn after_bounded<F: GcFilter>(
     ensures goes { GoesOn (pass.chosen_goes (allowed F.returns (option_copied filter.entry)) settings.now listed candidates)
         (phases.Bounding n listed candidates) result.0 result.1 }
     ensures due { StillDue result.1 (pass.pass_due result.0) }
+    ensures stages { IsAgain result.1 → stages_within result.0 < 3 }
     ensures memory { WhereOut result.1 (result.0 ≡ phases.Bounding n listed candidates) }
 {
     match chosen(alloc, filter, settings, listed, candidates.as_slice()) {
@@ -142,6 +147,7 @@ fn after_boundary<F: GcFilter>(
     ensures goes { GoesOn (pass.bounded_goes (allowed F.returns (option_copied filter.entry)) settings.now n listed candidates
         (boundaries.boundary_got object.now)) (phases.Bounding n listed candidates) result.0 result.1 }
     ensures due { StillDue result.1 (pass.pass_due result.0) }
+    ensures stages { IsAgain result.1 → stages_within result.0 < 3 }
     ensures memory { WhereOut result.1 (result.0 ≡ phases.Bounding n listed candidates) }
 {
     match boundary_in(object) {
@@ -173,6 +179,7 @@ pub(crate) fn after_bound<F: GcFilter>(
     ensures goes { GoesOn (pass.bound_goes (allowed F.returns (option_copied filter.entry)) settings.now n listed candidates answer.now)
         (phases.Bounding n listed candidates) result.0 result.1 }
     ensures due { StillDue result.1 (pass.pass_due result.0) }
+    ensures stages { IsAgain result.1 → stages_within result.0 < 3 }
     ensures memory { WhereOut result.1 (result.0 ≡ phases.Bounding n listed candidates) }
 {
     match answer {

@@ -2,10 +2,11 @@
 ghost use Rattle.std.specs.Prelude.{◌≡◌, true, option_copied, IfOk};
 ghost use Rattle.slate_log.specs.Due.{StillDue, WhereOut};
 ghost use Rattle.slate_passes.specs.Pass.{delete_asks, first_phase, is_reading_phase, pass_asks, pass_due, pass_goes};
+ghost use Rattle.slate_passes.specs.Stages.{PassFalls};
 ghost use Rattle.slate_passes.specs.Ways.{ways};
 ghost use Rattle.slate_picks.specs.Filter.{allowed};
 ghost use Rattle.slate_picks.specs.WalPicks.{wal_candidates};
-ghost use Rattle.slate_store.specs.Machines.{GoesOn};
+ghost use Rattle.slate_store.specs.Machines.{GoesOn, IsAgain};
 
 use crate::collecting::{after_advance, after_delete};
 use crate::heads::Heads;
@@ -127,6 +128,7 @@ impl PassPhase {
     }
 
     // The phase after the answer to the call of this one, and the step.
+    #[tactic(auto, using(crate::proofs::Falling::fewer_stages))]
     fn after<C: ObjectCodec<Manifest>, R: ObjectCodec<Compactions>, F: GcFilter, W: WalGc>(
         self,
         alloc: Global,
@@ -142,6 +144,7 @@ impl PassPhase {
             (wal_candidates W.picked (option_copied wal.entry))) settings.now now self answer.now)
             self result.0 result.1 }
         ensures due { StillDue result.1 (pass_due result.0) }
+        ensures falls { IsAgain result.1 → PassFalls self result.0 }
         ensures memory { WhereOut result.1 (result.0 ≡ self) }
         ensures writes { WhereOut result.1 (is_reading_phase self ≡ true) }
     {
@@ -185,6 +188,7 @@ impl PassPhase {
             (wal_candidates W.picked (option_copied wal.entry))) settings.now now self.old answer.now)
             self.old self.new result }
         ensures due { StillDue result (pass_due self.new) }
+        ensures falls { IsAgain result → PassFalls self.old self.new }
         ensures memory { WhereOut result (self.new ≡ self.old) }
         ensures writes { WhereOut result (is_reading_phase self.old ≡ true) }
     {

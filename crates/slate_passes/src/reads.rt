@@ -1,10 +1,11 @@
 //! What a pass reads before its list: what follows the answer to each call.
-ghost use Rattle.std.specs.Prelude.{◌≡◌, true};
+ghost use Rattle.std.specs.Prelude.{◌≡◌, ◌<◌, true};
 ghost use Rattle.slate_log.specs.Due.{NeverOut, StillDue, WhereOut};
 ghost use Rattle.slate_log.specs.ReadPhase.{read_goes};
 ghost use Rattle.slate_log.specs.declared.log_kind.LogKind.TheVariants as kinds;
 ghost use Rattle.slate_log.specs.declared.read_phase.ReadPhase.TheVariants as reading;
 ghost use Rattle.slate_passes.specs.Pass as pass;
+ghost use Rattle.slate_passes.specs.Stages.{PassFalls, stages_within};
 ghost use Rattle.slate_passes.specs.declared.pass_phase.PassPhase.TheVariants as phases;
 ghost use Rattle.slate_referenced.specs.Referenced.{ReferencedGoes, referenced_due, referenced_goes};
 ghost use Rattle.slate_store.specs.Machines.{GoesOn, GoesOnAlways, IsAgain};
@@ -31,6 +32,7 @@ pub(crate) fn after_record_read<C, R: ObjectCodec<Compactions>>(
     ensures goes { GoesOn (pass.record_goes (read_goes kinds.Compactions (R.decoded logs.now.records) phase answer.now))
         (phases.ReadingRecord phase) result.0 result.1 }
     ensures due { StillDue result.1 (pass.pass_due result.0) }
+    ensures falls { IsAgain result.1 → PassFalls (phases.ReadingRecord phase) result.0 }
     ensures memory { WhereOut result.1 (result.0 ≡ phases.ReadingRecord phase) }
 {
     let records = logs.record_log();
@@ -66,6 +68,7 @@ fn after_fetched(heads: Heads, phase: ReferencedPhase, step: Step<ManifestMap>) 
     ensures goes { (goes : ReferencedGoes) → GoesOnAlways goes phase step
         → GoesOnAlways (pass.fetched_goes heads goes) result.0 result.1 }
     ensures due { (IsAgain step → referenced_due phase ≡ true) → StillDue result.1 (pass.pass_due result.0) }
+    ensures stages { IsAgain result.1 → stages_within result.0 < 7 }
     ensures memory { NeverOut result.1 }
 {
     match step {
@@ -87,6 +90,7 @@ fn after_manifest(alloc: Global, least: u64, n: u64, value: Manifest) -> Onward
     ensures goes { GoesOn (pass.manifest_next least n value)
         (phases.ReadingManifest least (reading.Bounding n value)) result.0 result.1 }
     ensures due { StillDue result.1 (pass.pass_due result.0) }
+    ensures stages { IsAgain result.1 → stages_within result.0 < 7 }
     ensures memory { WhereOut result.1 (result.0 ≡ phases.ReadingManifest least (reading.Bounding n value)) }
 {
     match ReferencedPhase::begin(alloc, n, &value) {
@@ -103,6 +107,7 @@ fn after_manifest(alloc: Global, least: u64, n: u64, value: Manifest) -> Onward
 }
 
 /// After a call of the read of the manifest. Running out of memory leaves the phase as it was.
+#[tactic(auto, using(crate::proofs::Falling::fewer_stages))]
 pub(crate) fn after_manifest_read<C: ObjectCodec<Manifest>, R>(
     alloc: Global,
     logs: &Logs<C, R>,
@@ -113,6 +118,7 @@ pub(crate) fn after_manifest_read<C: ObjectCodec<Manifest>, R>(
     ensures goes { GoesOn (pass.manifest_goes least (read_goes kinds.Manifest (C.decoded logs.now.manifests) phase answer.now))
         (phases.ReadingManifest least phase) result.0 result.1 }
     ensures due { StillDue result.1 (pass.pass_due result.0) }
+    ensures falls { IsAgain result.1 → PassFalls (phases.ReadingManifest least phase) result.0 }
     ensures memory { WhereOut result.1 (result.0 ≡ phases.ReadingManifest least phase) }
 {
     let manifests = logs.manifest_log();
@@ -149,6 +155,7 @@ pub(crate) fn after_fetch<C: ObjectCodec<Manifest>, R>(
     ensures goes { GoesOn (pass.fetched_goes heads (referenced_goes (C.decoded logs.now.manifests) phase answer.now))
         (phases.Fetching heads phase) result.0 result.1 }
     ensures due { StillDue result.1 (pass.pass_due result.0) }
+    ensures falls { IsAgain result.1 → PassFalls (phases.Fetching heads phase) result.0 }
     ensures memory { WhereOut result.1 (result.0 ≡ phases.Fetching heads phase) }
 {
     if !phase.due() {

@@ -5,8 +5,9 @@ ghost use Rattle.slate_log.specs.Due.{StillDue, WhereOut};
 ghost use Rattle.slate_log.specs.declared.log_kind.LogKind.TheVariants as kinds;
 ghost use Rattle.slate_passes.specs.GcPhase as whole;
 ghost use Rattle.slate_passes.specs.Pass.{first_phase};
+ghost use Rattle.slate_passes.specs.Stages.{GcFalls};
 ghost use Rattle.slate_passes.specs.declared.gc_phase.GcPhase.TheVariants as passes;
-ghost use Rattle.slate_store.specs.Machines.{GoesOn};
+ghost use Rattle.slate_store.specs.Machines.{GoesOn, IsAgain};
 ghost use Rattle.slate_updates.specs.Changes.{commit_of};
 ghost use Rattle.slate_updates.specs.declared.manifest_change.ManifestChange.TheVariants as changes;
 
@@ -44,6 +45,7 @@ pub(crate) fn after_removal<C: ObjectCodec<Manifest>, R>(
         (commit_of (C.encoded logs.now.manifests) changes.DropExpired) now work answer.now))
         (passes.Removing work) result.0 result.1 }
     ensures due { StillDue result.1 (whole.gc_due result.0) }
+    ensures falls { IsAgain result.1 → GcFalls (passes.Removing work) result.0 }
     ensures memory { WhereOut result.1 (result.0 ≡ passes.Removing work) }
     ensures writes { WhereOut result.1 (reads_still work ≡ true) }
 {

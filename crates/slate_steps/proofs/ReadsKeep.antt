@@ -15,10 +15,7 @@ under_keeps Lost o s h = h
 pub reads_keep : (mark : Mark) (call : StoreCall) (moment : ℤ) (s : Store) → is_reading call ≡ true → (effect mark call moment s).store ≡ s
 reads_keep mark (ListCall dir) moment s h = under_keeps (taken mark (ListCall dir) s) (whole (ListCall dir) moment s) s refl
 reads_keep mark (Get path) moment s h = under_keeps (taken mark (Get path) s) (whole (Get path) moment s) s refl
-reads_keep mark (PutNew path bytes) moment s h = absurd (true≢false (sym h))
-reads_keep mark (Replace path tag bytes) moment s h = absurd (true≢false (sym h))
-reads_keep mark (Put path bytes) moment s h = absurd (true≢false (sym h))
-reads_keep mark (Delete path) moment s h = absurd (true≢false (sym h))
+reads_keep mark _ moment s h = absurd (true≢false (sym h))
 
 -- what holds, holds of a refusal
 pub on_err : {X E : Type 0} {P : Type 0} (r : Result X E) → P → OnErr r P

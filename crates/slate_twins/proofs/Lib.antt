@@ -1,3 +1,5 @@
 mod Turned
 mod Rows
 mod TurnRows
+mod LastTurns
+mod PlainTwins

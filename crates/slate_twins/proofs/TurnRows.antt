@@ -1,9 +1,9 @@
 -- The last turn of each plain call is its row.
-use Rattle.std.proofs.Common.{◌≡◌, ℕ, ℤ, Bool, true, false, List, [], ◌∷◌, Some, Result, Ok, Err, refl, sym, ap, ◌∙◌, subst}
+use Rattle.std.proofs.Common.{◌≡◌, ℕ, ℤ, Bool, true, false, List, Some, Result, Ok, Err, refl, sym, ap, ◌∙◌}
 use Rattle.std.specs.Prelude.{if◌then◌else◌}
 use Rattle.slate_changes.specs.Latest as latest
 use Rattle.slate_changes.specs.LogWorks.{WorkGoes, work_asks, work_goes, work_start}
-use Rattle.slate_changes.specs.Turns.{Turn, turn_asks, turn_goes, turned_on}
+use Rattle.slate_changes.specs.Turns.{turn_asks}
 use Rattle.slate_changes.specs.declared.log_work.LogEnd.{LogEnd}
 use Rattle.slate_changes.specs.declared.log_work.LogWork.{LogWork}
 use Rattle.slate_collector.specs.PassTurns as passes
@@ -48,8 +48,6 @@ use Rattle.slate_store.specs.Calls.{Told}
 use Rattle.slate_store.specs.Machines.{Goes, Stay, End}
 use Rattle.slate_store.specs.Runs.{Run}
 use Rattle.slate_store.specs.declared.made.Made.{Made}
-use Rattle.slate_store.specs.declared.store_answer.StoreAnswer.{StoreAnswer}
-use Rattle.slate_store.specs.declared.store_call.StoreCall.{StoreCall}
 use Rattle.slate_twins.proofs.Rows.{row_calls, row_ends}
 use Rattle.slate_twins.proofs.Turned.{turn_along}
 use Rattle.slate_twins.specs.Twins.{answers_at, manifest_ends, no_conflict, open_ends, pass_ends, record_ends, state_call, state_ends, IsRow}
@@ -176,23 +174,6 @@ module _ (facts : Facts) (call : Call) where
 
 -- ---- passes
 
--- a run of a machine that goes on alike
-run_as : {P R : Type 0} (asks : P → StoreCall) (goes other : P → StoreAnswer → Goes P R) (same : (p : P) (a : StoreAnswer) → goes p a ≡ other p a) (moment : ℤ) (ms : List Made) (old new : Told) (from out : Goes P R)
-    → Run asks goes moment old new ms from out → Run asks other moment old new ms from out
-run_as asks goes other same moment [] old new from out run = run
-run_as asks goes other same moment (m ∷ ms) old new (Stay p) out run =
-    (run.0, run.1, run.2, run_as asks goes other same moment ms run.0 new (other p m.answer) out (subst (λ (g : Goes _ _). Run asks goes moment run.0 new ms g out) (same p m.answer) run.3))
-run_as asks goes other same moment (m ∷ ms) old new (End p r) out run = absurd run
-
--- a pass begins again as its first turn does
-abbrev pass_again : GcPhase → GcPhase
-pass_again phase = gc_start
-
-same_turn : (from : Turn GcPhase) (g : GcGoes) → passes.turned_on from g ≡ turned_on passes.uses_turn pass_again from g
-same_turn from (Stay to) = refl
-same_turn from (End to (Ok counts)) = refl
-same_turn from (End to (Err e)) = refl
-
 module _ (facts : Facts) (pass : GcMessage) (min_age : ℕ) (dry_run : Bool) (filter : FilterWord) where
   abbrev settings : PassSettings
   settings = pass_settings pass min_age dry_run
@@ -218,8 +199,7 @@ module _ (facts : Facts) (pass : GcMessage) (min_age : ℕ) (dry_run : Bool) (fi
   pass_row moment old new made before after to result run h =
       let asks = gc_asks facts.db pass in
       let goes = gc_goes (pass_ways filter) settings moment in
-      let turns = run_as (turn_asks asks) (passes.turn_goes (pass_ways filter) settings moment) (turn_goes passes.uses_turn pass_again goes) (λ turn a. same_turn turn (goes turn.0 a)) moment made old new (Stay (gc_start, before)) (End (to, after) result) run in
-      let along = turn_along asks goes passes.uses_turn pass_again moment to after result made old new gc_start before turns h in
+      let along = turn_along asks goes passes.uses_turn passes.begins_again moment to after result made old new gc_start before run h in
       is_row facts call moment made (pass_ended (Stay gc_start)) (pass_ends facts result) refl
       (row_calls asks goes call moment (λ phase. facts) pass_work pass_ended (λ phase. refl) (λ phase a. collected_on (goes phase a)) (λ phase. refl) made (Stay gc_start) (End to result) along)
       (row_ends asks goes call moment (λ phase. facts) pass_work pass_ended (λ phase. refl) (λ phase a. collected_on (goes phase a)) (λ phase. refl) made (Stay gc_start) (End to result) along)

@@ -1,5 +1,6 @@
 -- The last turn of a plain call, and the row of its twin in a run.
-use Rattle.std.specs.Prelude.{◌≡◌, ℤ, false, List, [], ◌∷◌, map, Result, Ok, Err, if◌then◌else◌}
+use Rattle.std.specs.Prelude.{◌≡◌, ℤ, Bool, false, List, [], ◌∷◌, ◌++◌, map, Result, Ok, Err, if◌then◌else◌}
+use Rattle.slate_changes.specs.Turns.{Turn, turn_asks}
 use Rattle.slate_changes.specs.declared.log_work.LogEnd.{LogEnd}
 use Rattle.slate_compactor_calls.specs.declared.compactor.Compactor.{Compactor}
 use Rattle.slate_compactor_calls.specs.declared.state_start.StateStart.{StateStart}
@@ -11,6 +12,7 @@ use Rattle.slate_events.specs.declared.reply.Reply.TheVariants.{Done, Epoch}
 use Rattle.slate_events.specs.declared.reply.Reply.TheVariants as reply
 use Rattle.slate_ids.specs.Answers.{is_conflict}
 use Rattle.slate_ids.specs.declared.error.SlateDBError.{SlateDBError}
+use Rattle.slate_ids.specs.declared.error.SlateDBError.TheVariants.{Contended}
 use Rattle.slate_model.specs.declared.manifest.Manifest.{Manifest}
 use Rattle.slate_passes.specs.declared.pass_counts.PassCounts.{PassCounts}
 use Rattle.slate_protocol.specs.Calls.{facts_after, manifest_reply, record_reply, with_compactor}
@@ -18,9 +20,12 @@ use Rattle.slate_protocol.specs.Passes.{calls_made}
 use Rattle.slate_protocol.specs.Rows.{Answered, Standing, begin, refused, replies, stands_after}
 use Rattle.slate_protocol.specs.declared.party.Facts.{Facts}
 use Rattle.slate_records.specs.Records.{Record}
+use Rattle.slate_store.specs.Calls.{Told}
 use Rattle.slate_store.specs.Machines.{Goes, Stay, End}
+use Rattle.slate_store.specs.Runs.{Run}
 use Rattle.slate_store.specs.declared.made.Made.{Made}
 use Rattle.slate_store.specs.declared.store_answer.StoreAnswer.{StoreAnswer}
+use Rattle.slate_store.specs.declared.store_call.StoreCall.{StoreCall}
 
 -- ---- one turn
 
@@ -35,6 +40,24 @@ abbrev pub no_conflict : {P R : Type 0} → (P → StoreAnswer → Goes P R) →
 no_conflict goes from [] = is_no_conflict from
 no_conflict goes (Stay p) (m ∷ ms) = no_conflict goes (goes p m.answer) ms
 no_conflict goes (End p r) (m ∷ ms) = ⊥
+
+-- a plain call came to an end of its machine: it didn't give up for want of tries
+abbrev pub HasEnded : {R : Type 0} → Result R SlateDBError → Type 0
+HasEnded result = result ≡ Err Contended → ⊥
+
+-- the later ones of the calls that a plain call made are its last turn: the earlier ones led to a phase at which the call begins, and from
+-- there no answer led to a conflict, up to its end
+pub record LastTurn {P R : Type 0} (asks : P → StoreCall) (turning : Turn P → StoreAnswer → Goes (Turn P) R) (goes : P → StoreAnswer → Goes P R) (Begins : P → Type 0) (moment : ℤ) (old new : Told) (made : List Made) (first to : Turn P) (result : Result R SlateDBError) : Type 0 where
+  pub start : P
+  pub before : Bool
+  pub mid : Told
+  pub earlier : List Made
+  pub later : List Made
+  pub all : made ≡ earlier ++ later
+  pub reached : Run (turn_asks asks) turning moment old mid earlier (Stay first) (Stay (start, before))
+  pub run : Run (turn_asks asks) turning moment mid new later (Stay (start, before)) (End to result)
+  pub begins : Begins start
+  pub alone : no_conflict goes (Stay start) later
 
 -- ---- a row
 

@@ -42,21 +42,11 @@ puts_bounded such n value None is = tt
 puts_bounded such n value (Some b) is = puts_if such n b value (nat_le n b) is
 
 puts_on : {T : Type 0} (such : T → Type 0) (commit : CommitPhase T) (answer : StoreAnswer) → Puts such commit → PutsOn such (commit_goes commit answer)
-puts_on such (Putting n bytes value) (Found found) is = tt
-puts_on such (Putting n bytes value) (Got object) is = tt
 puts_on such (Putting n bytes value) (Created (Some tag)) is = is
 puts_on such (Putting n bytes value) (Created None) is = tt
-puts_on such (Putting n bytes value) (Replaced tag) is = tt
-puts_on such (Putting n bytes value) (Written tag) is = tt
-puts_on such (Putting n bytes value) Deleted is = tt
-puts_on such (Putting n bytes value) Fault is = tt
-puts_on such (Bounding n value) (Found found) is = tt
+puts_on such (Putting n bytes value) _ is = tt
 puts_on such (Bounding n value) (Got object) is = puts_bounded such n value (boundary_got object) is
-puts_on such (Bounding n value) (Created tag) is = tt
-puts_on such (Bounding n value) (Replaced tag) is = tt
-puts_on such (Bounding n value) (Written tag) is = tt
-puts_on such (Bounding n value) Deleted is = tt
-puts_on such (Bounding n value) Fault is = tt
+puts_on such (Bounding n value) _ is = tt
 puts_on such Over (Found found) is = tt
 puts_on such Over (Got object) is = tt
 puts_on such Over (Created tag) is = tt

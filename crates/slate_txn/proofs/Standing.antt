@@ -87,13 +87,8 @@ ends_bounded n value None = refl
 ends_bounded n value (Some b) = ends_if n b value (nat_le n b)
 
 bounding_ends : {T : Type 0} (n : ℕ) (value : T) (answer : StoreAnswer) → Ends (commit_goes (Bounding n value) answer)
-bounding_ends n value (Found found) = refl
 bounding_ends n value (Got object) = ends_bounded n value (boundary_got object)
-bounding_ends n value (Created tag) = refl
-bounding_ends n value (Replaced tag) = refl
-bounding_ends n value (Written tag) = refl
-bounding_ends n value Deleted = refl
-bounding_ends n value Fault = refl
+bounding_ends n value _ = refl
 
 -- the run ends where it stands
 end_fate : {T : Type 0} (db : List ℕ) (log : LogKind) (moment : ℤ) (old mid new : Told) (commit : CommitPhase T) (ms : List Made) (went out : Goes (CommitPhase T) (ℕ × T))

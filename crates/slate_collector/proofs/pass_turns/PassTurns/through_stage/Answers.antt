@@ -1,6 +1,6 @@
 use Rattle.std.proofs.Common.{option_copied, sym, w64, ◌∙◌}
 use Rattle.std.proofs.lemmas.Int.{to_z-of_z}
-use Rattle.slate_collector.proofs.Ranks.{not_through, same_stage, step_fewer}
+use Rattle.slate_collector.proofs.Ranks.{fewer, not_through, same_stage}
 use Rattle.slate_collector.proofs.Stages.{steps_on}
 use Rattle.slate_collector.specs.GcPass.{layout_ways}
 use Rattle.slate_collector.specs.PassTurns.{Turn, turn_asks, turn_goes}
@@ -32,25 +32,19 @@ returns-then-is_through-clause-along g c =
 
 pub steps-smaller : goal.steps-smaller
 steps-smaller g c =
-    let ways = layout_ways (allowed g.F.GcFilter.returns (option_copied c.args.filter)) (wal_candidates g.W.WalGc.picked (option_copied c.args.wal)) in
-    let from : Turn = (c.steps.self.pass.phase, c.steps.self.is_turned) in
     let to : Turn = (c.next_try.new.self.pass.phase, c.next_try.new.self.is_turned) in
-    let step = rw (to_z-of_z w64 c.args.moment c.ranges.moment) at c.in-Again.ensures.steps in
     let stays = not_through c.stages_left-stages.result to (sym c.is_through.ensures ∙ c.if-is_through.false) in
-    let fewer = step_fewer ways c.steps.self.pass.settings c.args.moment from c.next_try.new.self.pass.phase c.next_try.new.self.is_turned step.answer step.gives stays.0 in
-    (same_stage c.steps.self.pass.phase c.next_try.new.self.pass.phase c.stages_left-stages.result (c.steps.invariant.stage ∙ sym c.stages_left-stages.ensures) fewer stays.1).1
+    let falls = fewer c.steps.self.pass.phase c.next_try.new.self.pass.phase c.next_try.new.self.is_turned (c.in-Again.ensures.falls tt) stays.0 in
+    (same_stage c.steps.self.pass.phase c.next_try.new.self.pass.phase c.stages_left-stages.result (c.steps.invariant.stage ∙ sym c.stages_left-stages.ensures) falls stays.1).1
 
 pub steps-preserved : goal.steps-preserved
 steps-preserved g c =
-    let ways = layout_ways (allowed g.F.GcFilter.returns (option_copied c.args.filter)) (wal_candidates g.W.WalGc.picked (option_copied c.args.wal)) in
-    let from : Turn = (c.steps.self.pass.phase, c.steps.self.is_turned) in
     let to : Turn = (c.next_try.new.self.pass.phase, c.next_try.new.self.is_turned) in
     let inv = c.steps.invariant in
-    let plain = rw (to_z-of_z w64 c.args.moment c.ranges.moment) at c.in-Again.ensures.steps in
     let step = rw inv.db at (rw inv.settings at c.in-Again.ensures.steps) in
     let stays = not_through c.stages_left-stages.result to (sym c.is_through.ensures ∙ c.if-is_through.false) in
-    let fewer = step_fewer ways c.steps.self.pass.settings c.args.moment from c.next_try.new.self.pass.phase c.next_try.new.self.is_turned plain.answer plain.gives stays.0 in
-    let same = same_stage c.steps.self.pass.phase c.next_try.new.self.pass.phase c.stages_left-stages.result (inv.stage ∙ sym c.stages_left-stages.ensures) fewer stays.1 in
+    let falls = fewer c.steps.self.pass.phase c.next_try.new.self.pass.phase c.next_try.new.self.is_turned (c.in-Again.ensures.falls tt) stays.0 in
+    let same = same_stage c.steps.self.pass.phase c.next_try.new.self.pass.phase c.stages_left-stages.result (inv.stage ∙ sym c.stages_left-stages.ensures) falls stays.1 in
     record {
       along = λ tries left first start running. goes_further (inv.along tries left first start running) step stays.0;
       due = c.in-Again.ensures.due;

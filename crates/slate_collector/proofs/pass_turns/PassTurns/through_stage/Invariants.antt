@@ -1,8 +1,8 @@
 use Rattle.std.proofs.Common.{◌≡◌, ℕ, true}
 use Rattle.std.specs.Prelude.{option_copied}
-use Rattle.slate_collector.proofs.Ranks.{steps_left}
 use Rattle.slate_collector.specs.GcPass.{layout_ways}
 use Rattle.slate_collector.specs.PassTurns.{Turn, is_turned, stages_left, turn_asks, turn_goes}
+use Rattle.slate_collector.specs.Stages.{steps_left}
 use Rattle.slate_passes.specs.GcPhase.{gc_due}
 use Rattle.slate_picks.specs.Filter.{allowed}
 use Rattle.slate_picks.specs.WalPicks.{wal_candidates}
