@@ -1,4 +1,3 @@
-mod EncodingFine
 mod PassRose
 mod Ranks
 mod ReportRose

@@ -1,7 +1,7 @@
 -- The store's count of faults rose by at least what a report tells of.
 use Rattle.std.specs.Prelude.{◌≡◌, ℕ, ℤ, List, [], ◌∷◌, map}
 use Rattle.std.proofs.Common.{subst, sym}
-use Rattle.slate_collector.proofs.EncodingFine.{encoding_fine}
+use Rattle.slate_db_logs.specs.laws.ManifestsPlain.{encoding_fine}
 use Rattle.slate_collector.proofs.PassRose.{Sound, no_rose, pass_rose, rose_both}
 use Rattle.slate_collector.proofs.Takes.{SoFar}
 use Rattle.slate_collector.specs.Collector.{AllRan, OnceRan, PassesRan, Setup, at_once}
@@ -11,9 +11,9 @@ use Rattle.slate_collector.specs.GcPass.{layout_ways}
 use Rattle.slate_collector.specs.Options.{Asked, all_passes, asked}
 use Rattle.slate_collector.specs.Ticks.{Source}
 use Rattle.slate_collector.specs.declared.stats.GcStats.{GcStats}
-use Rattle.slate_compactions_store.proofs.NoFaults.{decoding_fine as records_fine}
+use Rattle.slate_db_logs.specs.laws.RecordsPlain.{decoding_fine as records_fine}
 use Rattle.slate_ids.specs.declared.number_range.NumberRange.{NumberRange}
-use Rattle.slate_manifest_store.proofs.NoFaults.{decoding_fine}
+use Rattle.slate_db_logs.specs.laws.ManifestsPlain.{decoding_fine}
 use Rattle.slate_passes.proofs.GcFaults.{gc_faults}
 use Rattle.slate_store.specs.Calls.{Told}
 use Rattle.slate_store.specs.declared.object.ObjectMetadata.{ObjectMetadata}

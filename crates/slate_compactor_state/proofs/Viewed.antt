@@ -3,12 +3,12 @@ use Rattle.std.specs.Prelude.{◌≡◌, ℕ, Option, Some, None, Result, Ok, Er
 use Rattle.std.proofs.Common.{ap, inl, inr, ◌∙◌}
 use Rattle.slate_both_reads.specs.BothReads.{BothBegan, BothRan}
 use Rattle.slate_both_reads.specs.declared.both_phase.Both.{Both}
-use Rattle.slate_compactions_store.specs.CompactionsStore.{compactions_decoded}
+use Rattle.slate_db_logs.specs.Records.{compactions_decoded}
 use Rattle.slate_compactor_state.specs.Views.{viewed, view_with, Logs, ViewRead}
 use Rattle.slate_ids.specs.Answers.{OrMemory, ran_out}
 use Rattle.slate_ids.specs.declared.error.SlateDBError.{SlateDBError}
 use Rattle.slate_ids.specs.declared.error.SlateDBError.TheVariants.{StoreFault}
-use Rattle.slate_manifest_store.specs.Manifests.{manifest_decoded}
+use Rattle.slate_db_logs.specs.Manifests.{manifest_decoded}
 use Rattle.slate_model.specs.declared.manifest.Manifest.{Manifest}
 use Rattle.slate_records.specs.Records.{Record}
 use Rattle.slate_replies.specs.Replies.{Faithful}

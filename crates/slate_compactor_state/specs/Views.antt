@@ -6,13 +6,13 @@ use Rattle.slate_ids.specs.declared.error.SlateDBError.TheVariants.{LatestTransa
 use Rattle.slate_both_reads.specs.BothReads.{BothBegan, BothRan, both_goes}
 use Rattle.slate_both_reads.specs.declared.both_phase.Both.{Both}
 use Rattle.slate_both_reads.specs.declared.both_phase.BothPhase.{BothPhase}
-use Rattle.slate_compactions_store.specs.CompactionsStore as records
+use Rattle.slate_db_logs.specs.Records as records
 use Rattle.slate_merges.specs.Trees.{manifest_with}
 use Rattle.slate_compactor_writer.specs.Writer.{Writer}
 use Rattle.slate_layout.specs.declared.codec.ManifestCodec.{ManifestCodec}
 use Rattle.slate_layout.specs.declared.record_codec.CompactionsCodec.{CompactionsCodec}
 use Rattle.slate_log.specs.declared.sequenced.Sequenced.{Sequenced}
-use Rattle.slate_manifest_store.specs.Manifests as manifests
+use Rattle.slate_db_logs.specs.Manifests as manifests
 use Rattle.slate_model.specs.Manifests.{Version as ManifestVersion}
 use Rattle.slate_model.specs.declared.manifest.Manifest.{Manifest}
 use Rattle.slate_records.specs.Records.{Record, Version as RecordVersion}

@@ -1,11 +1,11 @@
 -- An open ends in a fault only where the store faults.
-use Rattle.std.specs.Prelude.{◌≡◌, ◌≢◌, ℕ, ℤ, Bool, true, List, Option, Some, None, Result, Ok, Err, refl}
+use Rattle.std.specs.Prelude.{◌≡◌, ℕ, ℤ, Bool, true, List, Option, Some, None, Result, Ok, Err, refl}
 use Rattle.std.proofs.Common.{ap, inl, inr}
 use Rattle.slate_changes.proofs.Sound.{IsFault, Sound, sound_ends, sound_turned, turn_due}
 use Rattle.slate_changes.proofs.WorkFaults.{work_sound}
 use Rattle.slate_changes.specs.LogWorks.{WorkGoes, work_due}
 use Rattle.slate_changes.specs.Turns.{turn_asks}
-use Rattle.slate_compactions_store.proofs.NoFaults as record_bytes
+use Rattle.slate_db_logs.specs.laws.RecordsPlain as record_bytes
 use Rattle.slate_compactor_calls.specs.Commits.{ManifestChanging, RecordChanging, manifest_in, manifest_put, record_in, record_put, first_of, first_put}
 use Rattle.slate_compactor_calls.specs.Compactors.{opened_with}
 use Rattle.slate_compactor_calls.specs.Opening.{OpenGoes, after_record, on_record, open_asks, open_due, open_goes, open_lists_again, puts, raised, raising, with_version, without_version}
@@ -23,7 +23,7 @@ use Rattle.slate_ids.specs.declared.error.SlateDBError.TheVariants.{LatestTransa
 use Rattle.slate_log.proofs.Faults.{Fine, OnlyFaults, fine_err, fine_ok, fine_stay}
 use Rattle.slate_log.specs.declared.log_kind.LogKind.TheVariants.{Compactions as RecordLog, Manifest as ManifestLog}
 use Rattle.slate_manifest_parts.specs.Decoding.{decoded_manifest}
-use Rattle.slate_manifest_store.proofs.NoFaults as manifest_bytes
+use Rattle.slate_db_logs.specs.laws.ManifestsPlain as manifest_bytes
 use Rattle.slate_model.specs.declared.manifest.Manifest.{Manifest}
 use Rattle.slate_record_bytes.specs.Records.{decoded_record}
 use Rattle.slate_record_updates.specs.declared.record_change.RecordChange.TheVariants as changes

@@ -3,8 +3,7 @@ use Rattle.std.specs.Prelude.{◌≡◌, ◌≢◌, ◌+◌, ◌==◌, nat_lt, �
 use Rattle.std.proofs.Common.{ap}
 use Rattle.slate_changes.proofs.WorkFaults.{MayPut}
 use Rattle.slate_changes.specs.Changes.{change_commit, holder_fence}
-use Rattle.slate_compactions.specs.Holding.{record_rules}
-use Rattle.slate_compactions_store.specs.CompactionsStore.{compactions_decoded, compactions_encoded}
+use Rattle.slate_db_logs.specs.Records.{compactions_decoded, compactions_encoded, record_rules}
 use Rattle.slate_compactor.specs.Local.{refreshed, with_trees}
 use Rattle.slate_compactor.specs.declared.local_state.LocalState.{LocalState}
 use Rattle.slate_changes.specs.LogWorks.{work_due}
@@ -20,7 +19,8 @@ use Rattle.slate_log.specs.CommitPhase.{checked_commit, encoded_commit, prepared
 use Rattle.slate_log.specs.Fence.{fence, unless}
 use Rattle.slate_log.specs.declared.commit_phase.CommitPhase.{CommitPhase}
 use Rattle.slate_log.specs.declared.right.Right.{Right}
-use Rattle.slate_manifests.proofs.ChangeFaults.{change_fine, manifests_plain, trees_fine}
+use Rattle.slate_db_logs.proofs.ChangesPlain.{change_fine, trees_fine}
+use Rattle.slate_db_logs.specs.laws.ManifestsPlain.{manifests_plain}
 use Rattle.slate_merges.specs.Trees.{Trees, trees_merged}
 use Rattle.slate_model.specs.Cores.{Core}
 use Rattle.slate_model.specs.declared.manifest.Manifest.{Manifest}

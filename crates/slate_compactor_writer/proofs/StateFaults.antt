@@ -7,7 +7,7 @@ use Rattle.slate_changes.specs.LogWorks.{WorkGoes, work_due}
 use Rattle.slate_changes.specs.Turns.{turn_asks}
 use Rattle.slate_changes.specs.declared.log_work.LogEnd.{LogEnd}
 use Rattle.slate_changes.specs.declared.log_work.LogEnd.TheVariants.{Absent, Unchanged, Committed}
-use Rattle.slate_compactions_store.proofs.NoFaults as record_bytes
+use Rattle.slate_db_logs.specs.laws.RecordsPlain as record_bytes
 use Rattle.slate_compactor.specs.Local.{refreshed}
 use Rattle.slate_compactor.specs.declared.local_state.LocalState.{LocalState}
 use Rattle.slate_compactor_calls.specs.Commits.{ManifestChanging, RecordChanging, manifest_in, manifest_put, merge_of, record_in, record_put, statuses_of}
@@ -32,7 +32,7 @@ use Rattle.slate_log.proofs.Faults.{Fine, OnlyFaults, fine_err, fine_ok, fine_st
 use Rattle.slate_log.specs.Fence.{fence, unless}
 use Rattle.slate_log.specs.declared.log_kind.LogKind.TheVariants.{Compactions as RecordLog, Manifest as ManifestLog}
 use Rattle.slate_manifest_parts.specs.Decoding.{decoded_manifest}
-use Rattle.slate_manifest_store.proofs.NoFaults as manifest_bytes
+use Rattle.slate_db_logs.specs.laws.ManifestsPlain as manifest_bytes
 use Rattle.slate_model.specs.declared.manifest.Manifest.{Manifest}
 use Rattle.slate_record_bytes.specs.Records.{decoded_record}
 use Rattle.slate_records.specs.Records.{Record}

@@ -10,7 +10,7 @@ use Rattle.slate_changes.specs.declared.log_work.LogWork.TheVariants.{Reading, C
 use Rattle.slate_compactor.specs.declared.local_state.LocalState.{LocalState}
 use Rattle.slate_compactor_calls.specs.Commits.{ManifestChanging, RecordChanging, manifest_in, manifest_put, manifest_put_of, merge_of, put_of, record_in, record_put, statuses_of}
 use Rattle.slate_compactor_calls.specs.Compactors.{with_manifest}
-use Rattle.slate_compactor_calls.specs.StateSteps.{StateAt, StateGoes, follows, manifest_next, merge_by, merged, merges, next_after, on_manifest, on_record, onward, or_missing, record_next, records, refresh_of, refreshes, state_goes}
+use Rattle.slate_compactor_calls.specs.StateSteps.{StateGoes, follows, manifest_next, merge_by, merges, next_after, on_manifest, on_record, onward, or_missing, record_next, records, refresh_of, refreshes, state_goes}
 use Rattle.slate_compactor_calls.specs.declared.compactor.Compactor.{Compactor}
 use Rattle.slate_compactor_calls.specs.declared.state_phase.ManifestStep.{ManifestStep}
 use Rattle.slate_compactor_calls.specs.declared.state_phase.ManifestStep.TheVariants.{Follow, Keep, Merge}
@@ -32,7 +32,7 @@ use Rattle.slate_manifest_parts.specs.Decoding.{decoded_manifest}
 use Rattle.slate_model.specs.declared.manifest.Manifest.{Manifest}
 use Rattle.slate_record_bytes.specs.Records.{decoded_record}
 use Rattle.slate_records.specs.Records.{Record}
-use Rattle.slate_store.specs.Machines.{Goes, Stay, End}
+use Rattle.slate_store.specs.Machines.{Stay, End}
 use Rattle.slate_store.specs.declared.store_answer.StoreAnswer.{StoreAnswer}
 
 -- ---- where a commit stands

@@ -8,8 +8,8 @@ ghost use Rattle.slate_replies.specs.Replies.{step_as};
 ghost use Rattle.slate_store.specs.Machines.{IsAgain, Steps};
 
 use crate::compactor_writer::CompactorStateWriter;
-use slate_compactions::records_are_plain;
 use slate_compactor_calls::{Compactor, OpenPhase};
+use slate_db_logs::records_are_plain;
 use slate_ids::{DbPath, Millis, SlateDBError};
 use slate_store::{ObjectStore, Step, perform};
 use std::alloc::Global;

@@ -8,8 +8,8 @@ ghost use Rattle.slate_log.specs.Due.{FaultOf, FaultRose, StillDue};
 ghost use Rattle.slate_store.specs.Machines.{IsAgain, Steps};
 
 use crate::compactor_writer::CompactorStateWriter;
-use slate_compactions::records_are_plain;
 use slate_compactor_calls::{StatePhase, StateStart, TreesWrite};
+use slate_db_logs::records_are_plain;
 use slate_ids::{CheckpointId, Millis, SlateDBError, Ulid};
 use slate_store::{ObjectStore, Step, perform};
 use std::alloc::Global;

@@ -5,11 +5,10 @@ use crate::test_lives::{
     checkpoint, claimed, compacted, created, db, finished, id, latest, reported, shape, status,
     submitted,
 };
-use slate_compactions::StoredCompactions;
 use slate_compactor_state::CompactorStateView;
 use slate_compactor_writer::{CompactorStateMachine, CompactorStateWriter};
+use slate_db_holders::{StoredCompactions, StoredManifest};
 use slate_ids::{SlateDBError, StateCause};
-use slate_manifests::StoredManifest;
 use slate_model::{Checkpoint, CompactionStatus, Compactions, Manifest};
 use slate_store::{MemoryStore, Step};
 use std::alloc::Global;

@@ -2,8 +2,8 @@
 
 use crate::test_lives::db;
 use bytes::Bytes;
+use slate_db_holders::StoredManifest;
 use slate_log::Right;
-use slate_manifests::StoredManifest;
 use slate_model::{ManifestCore, Plain, Queue};
 use slate_store::MemoryStore;
 use std::alloc::Global;

@@ -1,11 +1,10 @@
 //! A database, its compactor and the hands of others, for tests.
 
 use bytes::Bytes;
-use slate_compactions::StoredCompactions;
 use slate_compactor_writer::CompactorStateWriter;
+use slate_db_holders::{StoredCompactions, StoredManifest};
 use slate_ids::{CheckpointId, DbPath, Listed, SlateDBError, Ulid};
 use slate_log::Right;
-use slate_manifests::StoredManifest;
 use slate_model::{
     CompactionSpec, CompactionStatus, Compactions, ManifestCore, Plain, Queue, SourceId,
     SsTableHandle, SsTableId, SsTableInfo, SsTableView,

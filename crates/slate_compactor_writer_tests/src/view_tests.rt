@@ -1,11 +1,10 @@
 //! Reads of a compactor's state.
 
-use slate_compactions::StoredCompactions;
 use slate_compactor_state::{CompactorStateReader, CompactorStateView, ReadViewMachine};
+use slate_db_holders::{StoredCompactions, StoredManifest};
+use slate_db_stores::ManifestStore;
 use slate_ids::{DbPath, SlateDBError};
 use slate_log::Right;
-use slate_manifest_store::ManifestStore;
-use slate_manifests::StoredManifest;
 use slate_model::ManifestCore;
 use slate_store::{MemoryStore, Step};
 use std::alloc::Global;

@@ -5,6 +5,8 @@
 #[cfg(test)]
 mod answers;
 #[cfg(test)]
+mod holder_steps;
+#[cfg(test)]
 mod manifest_calls;
 #[cfg(test)]
 mod manifest_steps;

@@ -1,11 +1,12 @@
 //! Calls on the manifests of a database in a store in memory, as rows of tables.
 
 use crate::answers::{Answer, db, done, empty, found, refused};
+use crate::holder_steps::again;
 use crate::manifest_steps::{Steps, by_steps};
+use slate_db_holders::{FenceableManifest, StoredManifest};
+use slate_db_stores::ManifestStore;
 use slate_ids::{CheckpointId, NumberRange, SlateDBError};
 use slate_log::Right;
-use slate_manifest_store::ManifestStore;
-use slate_manifests::{FenceableManifest, StoredManifest};
 use slate_model::{Checkpoint, CheckpointOptions, Manifest, ManifestCore, VersionedManifest};
 use slate_store::MemoryStore;
 use std::alloc::Global;
@@ -274,17 +275,6 @@ fn make_holder(rt: &impl Abort, alloc: Global, held: &mut Held, call: Hold) -> A
             keep_fenced(rt, &mut held.fenced, reply)
         }
     }
-}
-
-/// Commits the manifest held once more.
-pub(crate) fn again(
-    rt: &impl Abort,
-    alloc: Global,
-    store: &mut MemoryStore,
-    holder: &mut StoredManifest,
-) -> Answer {
-    let dirty = holder.prepare_dirty(alloc).expect(rt, "memory");
-    done(holder.update(alloc, store, dirty, &Right::Plain, 6))
 }
 
 fn stale(

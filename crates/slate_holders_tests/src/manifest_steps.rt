@@ -1,11 +1,10 @@
 //! The machines of calls on manifests, as rows of tables.
 
-use crate::answers::{Answer, db, done, end, goes_on};
-use crate::manifest_calls::{Held, again, keep, keep_fenced, keep_found, log, number};
+use crate::answers::{Answer, db, end, goes_on};
+use crate::holder_steps;
+use crate::manifest_calls::{Held, keep, keep_fenced, keep_found, log, number};
+use slate_db_holders::{FenceableManifest, StoredManifest, UpdateManifestMachine};
 use slate_log::Right;
-use slate_manifests::{
-    FenceableManifest, InitManifestMachine, StoredManifest, UpdateManifestMachine,
-};
 use slate_model::{Manifest, ManifestCore};
 use slate_store::MemoryStore;
 use std::alloc::Global;
@@ -53,123 +52,6 @@ fn latest(rt: &impl Abort, alloc: Global, store: &mut MemoryStore, steps: u8) ->
     number(end(rt, step))
 }
 
-fn create(rt: &impl Abort, alloc: Global, held: &mut Held, steps: u8) -> Answer {
-    let core = ManifestCore::new(alloc);
-    let mut machine = StoredManifest::start_create_new_db(alloc, db(rt), core).expect(rt, "memory");
-    for _ in 1..steps {
-        assert!(rt; machine.due());
-        assert!(rt; goes_on(machine.next(alloc, &mut held.store, 5)));
-    }
-    assert!(rt; machine.due());
-    let step = machine.next(alloc, &mut held.store, 5);
-    drop(machine);
-    keep(rt, &mut held.stored, end(rt, step))
-}
-
-fn load(rt: &impl Abort, alloc: Global, held: &mut Held, steps: u8) -> Answer {
-    let mut machine = StoredManifest::start_load(db(rt));
-    for _ in 1..steps {
-        assert!(rt; machine.due());
-        assert!(rt; goes_on(machine.next(alloc, &mut held.store, 5)));
-    }
-    assert!(rt; machine.due());
-    let step = machine.next(alloc, &mut held.store, 5);
-    drop(machine);
-    keep(rt, &mut held.stored, end(rt, step))
-}
-
-fn try_load(rt: &impl Abort, alloc: Global, held: &mut Held, steps: u8) -> Answer {
-    let mut machine = StoredManifest::start_try_load(db(rt));
-    for _ in 1..steps {
-        assert!(rt; machine.due());
-        assert!(rt; goes_on(machine.next(alloc, &mut held.store, 5)));
-    }
-    assert!(rt; machine.due());
-    let step = machine.next(alloc, &mut held.store, 5);
-    drop(machine);
-    keep_found(rt, &mut held.stored, end(rt, step))
-}
-
-fn refresh(
-    rt: &impl Abort,
-    alloc: Global,
-    store: &mut MemoryStore,
-    holder: &mut StoredManifest,
-    steps: u8,
-) -> Answer {
-    let mut machine = holder.start_refresh();
-    for _ in 1..steps {
-        assert!(rt; machine.due());
-        assert!(rt; goes_on(machine.next(alloc, holder, store, 5)));
-    }
-    assert!(rt; machine.due());
-    let step = machine.next(alloc, holder, store, 5);
-    drop(machine);
-    done(end(rt, step))
-}
-
-fn fenced_refresh(
-    rt: &impl Abort,
-    alloc: Global,
-    store: &mut MemoryStore,
-    holder: &mut FenceableManifest,
-    steps: u8,
-) -> Answer {
-    let mut machine = holder.start_refresh();
-    for _ in 1..steps {
-        assert!(rt; machine.due());
-        assert!(rt; goes_on(machine.next(alloc, holder, store, 5)));
-    }
-    assert!(rt; machine.due());
-    let step = machine.next(alloc, holder, store, 5);
-    drop(machine);
-    done(end(rt, step))
-}
-
-fn init(
-    rt: &impl Abort,
-    alloc: Global,
-    held: &mut Held,
-    machine: InitManifestMachine,
-    steps: u8,
-) -> Answer {
-    let mut machine = machine;
-    for _ in 1..steps {
-        assert!(rt; machine.due());
-        assert!(rt; goes_on(machine.next(alloc, &mut held.store, 7)));
-    }
-    assert!(rt; machine.due());
-    let step = machine.next(alloc, &mut held.store, 7);
-    drop(machine);
-    keep_fenced(rt, &mut held.fenced, end(rt, step))
-}
-
-fn update(
-    rt: &impl Abort,
-    alloc: Global,
-    store: &mut MemoryStore,
-    holder: &mut StoredManifest,
-    machine: UpdateManifestMachine,
-    steps: u8,
-) -> Answer {
-    let mut machine = machine;
-    for _ in 1..steps {
-        assert!(rt; machine.due());
-        assert!(rt; goes_on(machine.next(alloc, holder, store, 5)));
-    }
-    assert!(rt; machine.due());
-    let step = machine.next(alloc, holder, store, 5);
-    drop(machine);
-    done(end(rt, step))
-}
-
-fn start_again(rt: &impl Abort, alloc: Global, holder: &StoredManifest) -> UpdateManifestMachine {
-    let dirty = holder.prepare_dirty(alloc).expect(rt, "memory");
-    holder
-        .start_update(alloc, dirty, &Right::Plain)
-        .expect(rt, "memory")
-}
-
 fn start_first(rt: &impl Abort, alloc: Global, holder: &StoredManifest) -> UpdateManifestMachine {
     let first = |_n: u64, _m: &Manifest| {
         Ok(Some(Manifest::initial(alloc, ManifestCore::new(alloc))))
@@ -177,39 +59,6 @@ fn start_first(rt: &impl Abort, alloc: Global, holder: &StoredManifest) -> Updat
     holder
         .start_maybe_apply_update(alloc, first, &Right::Plain)
         .expect(rt, "memory")
-}
-
-fn stale(
-    rt: &impl Abort,
-    alloc: Global,
-    store: &mut MemoryStore,
-    holder: &mut StoredManifest,
-) -> Answer {
-    let dirty = holder.prepare_dirty(alloc).expect(rt, "memory");
-    assert!(rt; again(rt, alloc, store, holder) == Answer::Done);
-    let mut machine = holder
-        .start_update(alloc, dirty, &Right::Plain)
-        .expect(rt, "memory");
-    assert!(rt; !machine.due());
-    let step = machine.next(alloc, holder, store, 5);
-    drop(machine);
-    done(end(rt, step))
-}
-
-fn none_made(
-    rt: &impl Abort,
-    alloc: Global,
-    store: &mut MemoryStore,
-    holder: &mut StoredManifest,
-) -> Answer {
-    let nothing = |_n: u64, _m: &Manifest| Ok(None);
-    let mut machine = holder
-        .start_maybe_apply_update(alloc, nothing, &Right::Plain)
-        .expect(rt, "memory");
-    assert!(rt; !machine.due());
-    let step = machine.next(alloc, holder, store, 5);
-    drop(machine);
-    done(end(rt, step))
 }
 
 fn on_holder(
@@ -221,17 +70,17 @@ fn on_holder(
     steps: u8,
 ) -> Answer {
     match call {
-        HolderSteps::Refresh => refresh(rt, alloc, store, holder, steps),
+        HolderSteps::Refresh => holder_steps::refresh(rt, alloc, store, holder, steps),
         HolderSteps::Again => {
-            let machine = start_again(rt, alloc, holder);
-            update(rt, alloc, store, holder, machine, steps)
+            let machine = holder_steps::start_again(rt, alloc, holder);
+            holder_steps::update(rt, alloc, store, holder, machine, steps)
         }
-        HolderSteps::Stale => stale(rt, alloc, store, holder),
+        HolderSteps::Stale => holder_steps::stale(rt, alloc, store, holder),
         HolderSteps::First => {
             let machine = start_first(rt, alloc, holder);
-            update(rt, alloc, store, holder, machine, steps)
+            holder_steps::update(rt, alloc, store, holder, machine, steps)
         }
-        HolderSteps::NoneMade => none_made(rt, alloc, store, holder),
+        HolderSteps::NoneMade => holder_steps::none_made(rt, alloc, store, holder),
     }
 }
 
@@ -245,24 +94,41 @@ pub(crate) fn by_steps(
 ) -> Answer {
     match call {
         Steps::Latest => latest(rt, alloc, &mut held.store, steps),
-        Steps::Create => create(rt, alloc, held, steps),
-        Steps::Load => load(rt, alloc, held, steps),
-        Steps::TryLoad => try_load(rt, alloc, held, steps),
+        Steps::Create => {
+            let core = ManifestCore::new(alloc);
+            let machine = StoredManifest::start_create_new_db(alloc, db(rt), core).expect(
+                rt, "memory",
+            );
+            let reply = holder_steps::create(rt, alloc, &mut held.store, machine, steps);
+            keep(rt, &mut held.stored, reply)
+        }
+        Steps::Load => {
+            let machine = StoredManifest::start_load(db(rt));
+            let reply = holder_steps::load(rt, alloc, &mut held.store, machine, steps);
+            keep(rt, &mut held.stored, reply)
+        }
+        Steps::TryLoad => {
+            let machine = StoredManifest::start_try_load(db(rt));
+            let reply = holder_steps::try_load(rt, alloc, &mut held.store, machine, steps);
+            keep_found(rt, &mut held.stored, reply)
+        }
         Steps::Writer => {
             let stored = held.stored.pop().expect(rt, "a holder");
             let machine = FenceableManifest::start_init_writer(alloc, stored).expect(rt, "memory");
-            init(rt, alloc, held, machine, steps)
+            let reply = holder_steps::init(rt, alloc, &mut held.store, machine, steps);
+            keep_fenced(rt, &mut held.fenced, reply)
         }
         Steps::Compactor => {
             let stored = held.stored.pop().expect(rt, "a holder");
             let machine = FenceableManifest::start_init_compactor(alloc, stored).expect(
                 rt, "memory",
             );
-            init(rt, alloc, held, machine, steps)
+            let reply = holder_steps::init(rt, alloc, &mut held.store, machine, steps);
+            keep_fenced(rt, &mut held.fenced, reply)
         }
         Steps::FencedRefresh(place) => {
             let holder = held.fenced.get_mut(place).expect(rt, "a holder");
-            fenced_refresh(rt, alloc, &mut held.store, holder, steps)
+            holder_steps::fenced_refresh(rt, alloc, &mut held.store, holder, steps)
         }
         Steps::Holder(place, call) => {
             let holder = held.stored.get_mut(place).expect(rt, "a holder");

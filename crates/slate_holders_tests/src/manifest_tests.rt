@@ -10,7 +10,7 @@ use crate::manifest_calls::OnLog::{
 };
 use crate::manifest_calls::{Row, play};
 use crate::manifest_steps::{HolderSteps, Steps};
-use slate_manifests::StoredManifest;
+use slate_db_holders::StoredManifest;
 use slate_model::ManifestCore;
 
 const CREATE: Row = (Call::Hold(Create), Number(1));

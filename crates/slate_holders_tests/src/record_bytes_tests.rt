@@ -2,7 +2,7 @@
 
 use crate::answers::{db, empty};
 use crate::record_calls::log;
-use slate_compactions::StoredCompactions;
+use slate_db_holders::StoredCompactions;
 use slate_ids::{FormatName, ObjectPath, SlateDBError};
 use slate_store::{MemoryStore, ObjectStore};
 use std::alloc::Global;

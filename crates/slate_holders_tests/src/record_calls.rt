@@ -1,9 +1,10 @@
 //! Calls on the records of compactions of a database in a store in memory, as rows of tables.
 
 use crate::answers::{Answer, db, done, empty, found, refused};
+use crate::holder_steps::again;
 use crate::record_steps::{Steps, by_steps};
-use slate_compactions::{FenceableCompactions, StoredCompactions};
-use slate_compactions_store::CompactionsStore;
+use slate_db_holders::{FenceableCompactions, StoredCompactions};
+use slate_db_stores::CompactionsStore;
 use slate_ids::{NumberRange, SlateDBError};
 use slate_log::Right;
 use slate_model::{Compactions, Plain, VersionedCompactions};
@@ -213,17 +214,6 @@ fn make_holder(rt: &impl Abort, alloc: Global, held: &mut Held, call: Hold) -> A
             keep_fenced(rt, &mut held.fenced, reply)
         }
     }
-}
-
-/// Commits the record held once more.
-pub(crate) fn again(
-    rt: &impl Abort,
-    alloc: Global,
-    store: &mut MemoryStore,
-    holder: &mut StoredCompactions,
-) -> Answer {
-    let dirty = holder.prepare_dirty(alloc).expect(rt, "memory");
-    done(holder.update(alloc, store, dirty, &Right::Plain, 6))
 }
 
 fn same(

@@ -1,10 +1,9 @@
 //! The machines of calls on records, as rows of tables.
 
 use crate::answers::{Answer, db, done, end, found, goes_on};
-use crate::record_calls::{Held, again, keep, keep_fenced, keep_found, log, number, number_found};
-use slate_compactions::{
-    FenceableCompactions, InitCompactionsMachine, StoredCompactions, UpdateCompactionsMachine,
-};
+use crate::holder_steps;
+use crate::record_calls::{Held, keep, keep_fenced, keep_found, log, number, number_found};
+use slate_db_holders::{FenceableCompactions, StoredCompactions, UpdateCompactionsMachine};
 use slate_ids::NumberRange;
 use slate_log::Right;
 use slate_model::Compactions;
@@ -181,108 +180,6 @@ fn on_log(
     }
 }
 
-fn create(rt: &impl Abort, alloc: Global, held: &mut Held, epoch: u64, steps: u8) -> Answer {
-    let mut machine = StoredCompactions::start_create(alloc, db(rt), epoch).expect(rt, "memory");
-    for _ in 1..steps {
-        assert!(rt; machine.due());
-        assert!(rt; goes_on(machine.next(alloc, &mut held.store, 5)));
-    }
-    assert!(rt; machine.due());
-    let step = machine.next(alloc, &mut held.store, 5);
-    drop(machine);
-    keep(rt, &mut held.stored, end(rt, step))
-}
-
-fn load(rt: &impl Abort, alloc: Global, held: &mut Held, steps: u8) -> Answer {
-    let mut machine = StoredCompactions::start_load(db(rt));
-    for _ in 1..steps {
-        assert!(rt; machine.due());
-        assert!(rt; goes_on(machine.next(alloc, &mut held.store, 5)));
-    }
-    assert!(rt; machine.due());
-    let step = machine.next(alloc, &mut held.store, 5);
-    drop(machine);
-    keep(rt, &mut held.stored, end(rt, step))
-}
-
-fn try_load(rt: &impl Abort, alloc: Global, held: &mut Held, steps: u8) -> Answer {
-    let mut machine = StoredCompactions::start_try_load(db(rt));
-    for _ in 1..steps {
-        assert!(rt; machine.due());
-        assert!(rt; goes_on(machine.next(alloc, &mut held.store, 5)));
-    }
-    assert!(rt; machine.due());
-    let step = machine.next(alloc, &mut held.store, 5);
-    drop(machine);
-    keep_found(rt, &mut held.stored, end(rt, step))
-}
-
-fn init(
-    rt: &impl Abort,
-    alloc: Global,
-    held: &mut Held,
-    machine: InitCompactionsMachine,
-    steps: u8,
-) -> Answer {
-    let mut machine = machine;
-    for _ in 1..steps {
-        assert!(rt; machine.due());
-        assert!(rt; goes_on(machine.next(alloc, &mut held.store, 7)));
-    }
-    assert!(rt; machine.due());
-    let step = machine.next(alloc, &mut held.store, 7);
-    drop(machine);
-    keep_fenced(rt, &mut held.fenced, end(rt, step))
-}
-
-fn refresh(
-    rt: &impl Abort,
-    alloc: Global,
-    store: &mut MemoryStore,
-    holder: &mut StoredCompactions,
-    steps: u8,
-) -> Answer {
-    let mut machine = holder.start_refresh();
-    for _ in 1..steps {
-        assert!(rt; machine.due());
-        assert!(rt; goes_on(machine.next(alloc, holder, store, 5)));
-    }
-    assert!(rt; machine.due());
-    let step = machine.next(alloc, holder, store, 5);
-    drop(machine);
-    done(end(rt, step))
-}
-
-fn update(
-    rt: &impl Abort,
-    alloc: Global,
-    store: &mut MemoryStore,
-    holder: &mut StoredCompactions,
-    machine: UpdateCompactionsMachine,
-    steps: u8,
-) -> Answer {
-    let mut machine = machine;
-    for _ in 1..steps {
-        assert!(rt; machine.due());
-        assert!(rt; goes_on(machine.next(alloc, holder, store, 5)));
-    }
-    assert!(rt; machine.due());
-    let step = machine.next(alloc, holder, store, 5);
-    drop(machine);
-    done(end(rt, step))
-}
-
-fn start_again(
-    rt: &impl Abort,
-    alloc: Global,
-    holder: &StoredCompactions,
-) -> UpdateCompactionsMachine {
-    let dirty = holder.prepare_dirty(alloc).expect(rt, "memory");
-    holder
-        .start_update(alloc, dirty, &Right::Plain)
-        .expect(rt, "memory")
-}
-
 fn start_seventh(
     rt: &impl Abort,
     alloc: Global,
@@ -294,39 +191,6 @@ fn start_seventh(
         .expect(rt, "memory")
 }
 
-fn stale(
-    rt: &impl Abort,
-    alloc: Global,
-    store: &mut MemoryStore,
-    holder: &mut StoredCompactions,
-) -> Answer {
-    let dirty = holder.prepare_dirty(alloc).expect(rt, "memory");
-    assert!(rt; again(rt, alloc, store, holder) == Answer::Done);
-    let mut machine = holder
-        .start_update(alloc, dirty, &Right::Plain)
-        .expect(rt, "memory");
-    assert!(rt; !machine.due());
-    let step = machine.next(alloc, holder, store, 5);
-    drop(machine);
-    done(end(rt, step))
-}
-
-fn none_made(
-    rt: &impl Abort,
-    alloc: Global,
-    store: &mut MemoryStore,
-    holder: &mut StoredCompactions,
-) -> Answer {
-    let nothing = |_n: u64, _record: &Compactions| Ok(None);
-    let mut machine = holder
-        .start_maybe_apply_update(alloc, nothing, &Right::Plain)
-        .expect(rt, "memory");
-    assert!(rt; !machine.due());
-    let step = machine.next(alloc, holder, store, 5);
-    drop(machine);
-    done(end(rt, step))
-}
-
 fn on_holder(
     rt: &impl Abort,
     alloc: Global,
@@ -336,73 +200,18 @@ fn on_holder(
     steps: u8,
 ) -> Answer {
     match call {
-        HolderSteps::Refresh => refresh(rt, alloc, store, holder, steps),
+        HolderSteps::Refresh => holder_steps::refresh(rt, alloc, store, holder, steps),
         HolderSteps::Again => {
-            let machine = start_again(rt, alloc, holder);
-            update(rt, alloc, store, holder, machine, steps)
+            let machine = holder_steps::start_again(rt, alloc, holder);
+            holder_steps::update(rt, alloc, store, holder, machine, steps)
         }
-        HolderSteps::Stale => stale(rt, alloc, store, holder),
+        HolderSteps::Stale => holder_steps::stale(rt, alloc, store, holder),
         HolderSteps::Seventh => {
             let machine = start_seventh(rt, alloc, holder);
-            update(rt, alloc, store, holder, machine, steps)
+            holder_steps::update(rt, alloc, store, holder, machine, steps)
         }
-        HolderSteps::NoneMade => none_made(rt, alloc, store, holder),
+        HolderSteps::NoneMade => holder_steps::none_made(rt, alloc, store, holder),
     }
-}
-
-fn fenced_refresh(
-    rt: &impl Abort,
-    alloc: Global,
-    store: &mut MemoryStore,
-    holder: &mut FenceableCompactions,
-    steps: u8,
-) -> Answer {
-    let mut machine = holder.start_refresh();
-    for _ in 1..steps {
-        assert!(rt; machine.due());
-        assert!(rt; goes_on(machine.next(alloc, holder, store, 5)));
-    }
-    assert!(rt; machine.due());
-    let step = machine.next(alloc, holder, store, 5);
-    drop(machine);
-    done(end(rt, step))
-}
-
-fn fenced_again(
-    rt: &impl Abort,
-    alloc: Global,
-    store: &mut MemoryStore,
-    holder: &mut FenceableCompactions,
-    steps: u8,
-) -> Answer {
-    let dirty = holder.prepare_dirty(alloc).expect(rt, "memory");
-    let mut machine = holder
-        .start_update(alloc, dirty, &Right::Plain)
-        .expect(rt, "memory");
-    for _ in 1..steps {
-        assert!(rt; machine.due());
-        assert!(rt; goes_on(machine.next(alloc, holder, store, 5)));
-    }
-    assert!(rt; machine.due());
-    let step = machine.next(alloc, holder, store, 5);
-    drop(machine);
-    done(end(rt, step))
-}
-
-fn fenced_none_made(
-    rt: &impl Abort,
-    alloc: Global,
-    store: &mut MemoryStore,
-    holder: &mut FenceableCompactions,
-) -> Answer {
-    let nothing = |_n: u64, _record: &Compactions| Ok(None);
-    let mut machine = holder
-        .start_maybe_apply_update(alloc, nothing, &Right::Plain)
-        .expect(rt, "memory");
-    assert!(rt; !machine.due());
-    let step = machine.next(alloc, holder, store, 5);
-    drop(machine);
-    done(end(rt, step))
 }
 
 fn on_fenced(
@@ -414,9 +223,9 @@ fn on_fenced(
     steps: u8,
 ) -> Answer {
     match call {
-        HolderSteps::Refresh => fenced_refresh(rt, alloc, store, holder, steps),
-        HolderSteps::NoneMade => fenced_none_made(rt, alloc, store, holder),
-        _ => fenced_again(rt, alloc, store, holder, steps),
+        HolderSteps::Refresh => holder_steps::fenced_refresh(rt, alloc, store, holder, steps),
+        HolderSteps::NoneMade => holder_steps::fenced_none_made(rt, alloc, store, holder),
+        _ => holder_steps::fenced_again(rt, alloc, store, holder, steps),
     }
 }
 
@@ -439,20 +248,36 @@ pub(crate) fn by_steps(
 ) -> Answer {
     match call {
         Steps::Log(call) => on_log(rt, alloc, &mut held.store, call, steps),
-        Steps::Create(epoch) => create(rt, alloc, held, epoch, steps),
-        Steps::Load => load(rt, alloc, held, steps),
-        Steps::TryLoad => try_load(rt, alloc, held, steps),
+        Steps::Create(epoch) => {
+            let machine = StoredCompactions::start_create(alloc, db(rt), epoch).expect(
+                rt, "memory",
+            );
+            let reply = holder_steps::create(rt, alloc, &mut held.store, machine, steps);
+            keep(rt, &mut held.stored, reply)
+        }
+        Steps::Load => {
+            let machine = StoredCompactions::start_load(db(rt));
+            let reply = holder_steps::load(rt, alloc, &mut held.store, machine, steps);
+            keep(rt, &mut held.stored, reply)
+        }
+        Steps::TryLoad => {
+            let machine = StoredCompactions::start_try_load(db(rt));
+            let reply = holder_steps::try_load(rt, alloc, &mut held.store, machine, steps);
+            keep_found(rt, &mut held.stored, reply)
+        }
         Steps::Init => {
             let stored = held.stored.pop().expect(rt, "a holder");
             let machine = FenceableCompactions::start_init(alloc, stored).expect(rt, "memory");
-            init(rt, alloc, held, machine, steps)
+            let reply = holder_steps::init(rt, alloc, &mut held.store, machine, steps);
+            keep_fenced(rt, &mut held.fenced, reply)
         }
         Steps::InitWith(epoch) => {
             let stored = held.stored.pop().expect(rt, "a holder");
             let machine = FenceableCompactions::start_init_with_epoch(alloc, stored, epoch).expect(
                 rt, "memory",
             );
-            init(rt, alloc, held, machine, steps)
+            let reply = holder_steps::init(rt, alloc, &mut held.store, machine, steps);
+            keep_fenced(rt, &mut held.fenced, reply)
         }
         Steps::NotDue(epoch) => {
             let stored = held.stored.pop().expect(rt, "a holder");

@@ -2,7 +2,7 @@
 
 use crate::answers::{db, empty};
 use crate::record_values::record;
-use slate_compactions::StoredCompactions;
+use slate_db_holders::StoredCompactions;
 use slate_ids::{Listed, SlateDBError, Ulid, UpdateRule};
 use slate_log::Right;
 use slate_model::{Compactions, Plain};

@@ -1,8 +1,8 @@
 use Rattle.std.proofs.Common.{w64}
 use Rattle.std.proofs.lemmas.Int.{to_z-of_z}
-use Rattle.slate_collector.proofs.EncodingFine.{encoding_fine}
-use Rattle.slate_compactions_store.proofs.NoFaults.{decoding_fine as records_fine}
-use Rattle.slate_manifest_store.proofs.NoFaults.{decoding_fine}
+use Rattle.slate_db_logs.specs.laws.ManifestsPlain.{encoding_fine}
+use Rattle.slate_db_logs.specs.laws.RecordsPlain.{decoding_fine as records_fine}
+use Rattle.slate_db_logs.specs.laws.ManifestsPlain.{decoding_fine}
 use Rattle.slate_collector.proofs.gc_pass.GcPass.next.Goals as goal
 
 pub returns-clause-steps : goal.returns-clause-steps

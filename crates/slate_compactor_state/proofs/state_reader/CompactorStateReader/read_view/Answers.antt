@@ -1,9 +1,9 @@
 use Rattle.std.proofs.Common.{subst, sym, ◌∙◌}
-use Rattle.slate_compactions_store.proofs.NoFaults as records
+use Rattle.slate_db_logs.specs.laws.RecordsPlain as records
 use Rattle.slate_compactor_state.specs.Views.{viewed, Logs, ViewRead}
 use Rattle.slate_compactor_state.proofs.Viewed.{read_so, viewed_faithful}
 use Rattle.slate_compactor_state.proofs.state_reader.CompactorStateReader.read_view.Goals as goal
-use Rattle.slate_manifest_store.proofs.NoFaults as manifests
+use Rattle.slate_db_logs.specs.laws.ManifestsPlain as manifests
 use Rattle.slate_replies.proofs.Told.{fault_of_as}
 
 pub returns-clause-read : goal.returns-clause-read

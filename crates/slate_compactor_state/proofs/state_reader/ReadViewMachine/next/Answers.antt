@@ -1,13 +1,13 @@
 use Rattle.std.proofs.Common.{subst, sym, w64, ◌∙◌}
 use Rattle.std.proofs.lemmas.Int.{to_z-of_z}
 use Rattle.slate_both_reads.specs.BothReads.{both_asks, both_goes}
-use Rattle.slate_compactions_store.proofs.NoFaults as records
-use Rattle.slate_compactions_store.specs.CompactionsStore.{compactions_decoded}
+use Rattle.slate_db_logs.specs.laws.RecordsPlain as records
+use Rattle.slate_db_logs.specs.Records.{compactions_decoded}
 use Rattle.slate_compactor_state.specs.Views.{viewed, view_goes, Logs}
 use Rattle.slate_compactor_state.proofs.Viewed.{viewed_faithful}
 use Rattle.slate_compactor_state.proofs.state_reader.ReadViewMachine.next.Goals as goal
-use Rattle.slate_manifest_store.proofs.NoFaults as manifests
-use Rattle.slate_manifest_store.specs.Manifests.{manifest_decoded}
+use Rattle.slate_db_logs.specs.laws.ManifestsPlain as manifests
+use Rattle.slate_db_logs.specs.Manifests.{manifest_decoded}
 use Rattle.slate_replies.proofs.Told.{fault_as, steps_as}
 use Rattle.slate_replies.specs.Replies.{step_as}
 use Rattle.slate_store.specs.Machines.{Steps}

@@ -1,4 +1,4 @@
-use Rattle.std.proofs.Common.{arith, inl, refl, w64, ◌∙◌}
+use Rattle.std.proofs.Common.{arith, inl, refl, w64}
 use Rattle.std.proofs.lemmas.Int.{to_z-of_z}
 use Rattle.slate_changes.specs.Turns.{Turn, is_turned, turn_asks}
 use Rattle.slate_compactor_calls.specs.StateSteps.{StateAt}

@@ -1,2 +1,0 @@
-pub mod NoFaults
-mod Missing

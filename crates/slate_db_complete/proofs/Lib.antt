@@ -1,0 +1,9 @@
+mod CheckedWalks
+mod NamedLists
+mod ReferencedWalks
+mod Refusals
+mod Commits
+mod DbCalls
+mod DbFences
+mod DbReadings
+mod HolderCalls

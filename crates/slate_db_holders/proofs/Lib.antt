@@ -1,0 +1,4 @@
+mod FencedMay
+mod NotBegun
+mod CheckpointsStand
+mod AnswersFence

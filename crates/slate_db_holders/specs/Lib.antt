@@ -1,0 +1,5 @@
+pub mod Holders
+pub mod Manifests
+pub mod Records
+pub mod CheckpointMachines
+pub mod AboutCheckpoints

@@ -1,0 +1,2 @@
+pub mod ManifestsPlain
+pub mod RecordsPlain

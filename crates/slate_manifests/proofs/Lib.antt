@@ -1,4 +1,0 @@
-pub mod ChangeFaults
-mod NotBegun
-mod CheckpointsStand
-mod AnswersFence

@@ -1,4 +1,0 @@
-pub mod Holding
-pub mod CheckpointMachines
-pub mod CallMachines
-pub mod AboutCheckpoints

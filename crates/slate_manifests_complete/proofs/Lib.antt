@@ -1,8 +1,0 @@
-mod CheckedWalks
-mod NamedLists
-mod ReferencedWalks
-mod Refusals
-mod Commits
-mod DbCalls
-mod ManifestReadings
-mod HolderCalls

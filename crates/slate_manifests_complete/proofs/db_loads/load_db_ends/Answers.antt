@@ -1,8 +1,0 @@
-use Rattle.slate_manifests_complete.proofs.DbCalls.{load_db, load_inside}
-use Rattle.slate_manifests_complete.proofs.db_loads.load_db_ends.Goals as goal
-
-pub returns-clause-answers : goal.returns-clause-answers
-returns-clause-answers c = λ db tries old new s result ran some serves ready. load_db db tries old new s some serves ready result ran
-
-pub returns-clause-inside : goal.returns-clause-inside
-returns-clause-inside c = λ db tries old new s result ran some serves ready. load_inside db tries old new s some serves ready result ran
