@@ -3,11 +3,11 @@ use Rattle.std.proofs.Common.{◌≡◌, ℕ, zero, suc, add-one, ◌+◌, ◌-�
 use Rattle.std.proofs.lemmas.List.{take_more, append-nil, length-append}
 use Rattle.std.proofs.Math.Nat.{add-zero}
 use Rattle.std.proofs.Math.Seq.{take-length}
-use Rattle.slate_events.specs.declared.event.Event.{Event}
-use Rattle.slate_events.specs.declared.entry.Entry.{Entry}
-use Rattle.slate_protocol.specs.World.{World, Transition, happens}
-use Rattle.slate_protocol.specs.Runs.{Course, Ran, going_on, run}
-use Rattle.slate_parties.specs.Events.{Happened}
+use Rattle.slate_script_events.specs.declared.event.Event.{Event}
+use Rattle.slate_script_events.specs.declared.entry.Entry.{Entry}
+use Rattle.slate_cluster_protocol.specs.World.{World, Transition, happens}
+use Rattle.slate_cluster_protocol.specs.Runs.{Course, Ran, going_on, run}
+use Rattle.slate_cluster_parties.specs.Events.{Happened}
 use Rattle.slate_cluster.specs.Ran.{Extends, HasRun}
 use Rattle.slate_cluster.specs.declared.cluster.Report.{Report}
 use Rattle.slate_cluster.specs.declared.cluster.ClusterError.{ClusterError}

@@ -1,21 +1,21 @@
 -- What follows from how the program ends.
 use Rattle.std.proofs.Common.{◌≡◌, ◌↔◌, ◌⊎◌, inl, inr, ℕ, ◌≤◌, ◌<◌, List, ◌++◌, length, Option, Some, None, Result, Ok, Err, IfOk, IfSome, refl, sym, ap, ◌∙◌, subst, arith, length-append}
 use Rattle.std.proofs.lemmas.List.{append-nil}
-use Rattle.slate_store.specs.Counts.{Rose}
+use Rattle.slate_store.specs.FaultCounts.{Rose}
 use Rattle.slate_script.specs.Scripts.{script_of}
-use Rattle.slate_events.specs.declared.db_spec.DbSpec.{DbSpec}
-use Rattle.slate_events.specs.declared.event.Event.{Event}
-use Rattle.slate_events.specs.declared.script.Script.{Script}
-use Rattle.slate_events.specs.declared.cluster_cause.ClusterCause.{ClusterCause}
-use Rattle.slate_events.specs.declared.script.ScriptPlace.{ScriptPlace}
-use Rattle.slate_protocol.specs.Lawful.{IsAccepted, Lawful}
-use Rattle.slate_protocol.specs.Specs.{cause_of_specs}
-use Rattle.slate_reports.specs.Commands.{help_text, run_help_text, version_text}
-use Rattle.slate_reports.specs.Endings.{End, GoesWell, Stays, Fails, ReadsWhole, ReadsTooLong, WritesWhole, WritesFront, Writes, after_fault, Delivers, Answers, IfAnswered, IsLawfulRun, IsLawfulScript, Runs, Outcome, ExactlyEnds, EndsTooLong, text_for, status_for, script_status, run_status, ran_of, limit}
-use Rattle.slate_reports.specs.declared.command.Command.{Command}
-use Rattle.slate_reports.specs.declared.command.Command.TheVariants.{Run, RunHelp, Help, Version}
-use Rattle.slate_reports.specs.declared.status.Status.{Status}
-use Rattle.slate_reports.specs.declared.status.Status.TheVariants as status
+use Rattle.slate_script_events.specs.declared.db_spec.DbSpec.{DbSpec}
+use Rattle.slate_script_events.specs.declared.event.Event.{Event}
+use Rattle.slate_script_events.specs.declared.script.Script.{Script}
+use Rattle.slate_script_events.specs.declared.cluster_cause.ClusterCause.{ClusterCause}
+use Rattle.slate_script_events.specs.declared.script.ScriptPlace.{ScriptPlace}
+use Rattle.slate_cluster_protocol.specs.Lawful.{IsAccepted, Lawful}
+use Rattle.slate_cluster_protocol.specs.Specs.{cause_of_specs}
+use Rattle.slate_cluster_reports.specs.Commands.{help_text, run_help_text, version_text}
+use Rattle.slate_cluster_reports.specs.Endings.{End, GoesWell, Stays, Fails, ReadsWhole, ReadsTooLong, WritesWhole, WritesFront, Writes, after_fault, Delivers, Answers, IfAnswered, IsLawfulRun, IsLawfulScript, Runs, Outcome, ExactlyEnds, EndsTooLong, text_for, status_for, script_status, run_status, ran_of, limit}
+use Rattle.slate_cluster_reports.specs.declared.command.Command.{Command}
+use Rattle.slate_cluster_reports.specs.declared.command.Command.TheVariants.{Run, RunHelp, Help, Version}
+use Rattle.slate_cluster_reports.specs.declared.status.Status.{Status}
+use Rattle.slate_cluster_reports.specs.declared.status.Status.TheVariants as status
 
 -- ---- what is delivered is the answer
 

@@ -1,8 +1,8 @@
 -- What a run of a cluster leaves came about by events too.
 use Rattle.std.proofs.Common.{◌≡◌, ℕ, List, take, Some, None, Result, Ok, Err}
-use Rattle.slate_events.specs.declared.event.Event.{Event}
-use Rattle.slate_protocol.specs.Lawful.{IsRun}
-use Rattle.slate_protocol.specs.Runs.{Course, run}
+use Rattle.slate_script_events.specs.declared.event.Event.{Event}
+use Rattle.slate_cluster_protocol.specs.Lawful.{IsRun}
+use Rattle.slate_cluster_protocol.specs.Runs.{Course, run}
 use Rattle.slate_cluster.specs.Ran.{HasRun, Stopped}
 use Rattle.slate_cluster.specs.declared.cluster.Report.{Report}
 use Rattle.slate_cluster.specs.declared.cluster.ClusterError.{ClusterError}

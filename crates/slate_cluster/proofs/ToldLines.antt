@@ -2,14 +2,14 @@
 use Rattle.std.proofs.Common.{◌≡◌, ℕ, suc, ◌+◌, ◌<◌, List, [], ◌∷◌, ◌++◌, length, get_or, Option, Some, None, refl, sym, ap, ◌∙◌, subst, append_assoc, arith}
 use Rattle.std.proofs.lemmas.List.{append-nil, length-append}
 use Rattle.std.proofs.Math.Nat.{add-zero}
-use Rattle.slate_events.specs.declared.db_spec.DbSpec.{DbSpec}
-use Rattle.slate_events.specs.declared.entry.Entry.{Entry}
-use Rattle.slate_events.specs.declared.event.Event.{Event}
-use Rattle.slate_lines.specs.Lines.{entry_text, entries_text, end_line}
-use Rattle.slate_parties.specs.Events.{Happened}
-use Rattle.slate_protocol.specs.Reports.{state_text, report_text}
-use Rattle.slate_protocol.specs.Runs.{Course, Ran, run}
-use Rattle.slate_protocol.specs.World.{World}
+use Rattle.slate_script_events.specs.declared.db_spec.DbSpec.{DbSpec}
+use Rattle.slate_script_events.specs.declared.entry.Entry.{Entry}
+use Rattle.slate_script_events.specs.declared.event.Event.{Event}
+use Rattle.slate_script_lines.specs.Lines.{entry_text, entries_text, end_line}
+use Rattle.slate_cluster_parties.specs.Events.{Happened}
+use Rattle.slate_cluster_protocol.specs.Reports.{state_text, report_text}
+use Rattle.slate_cluster_protocol.specs.Runs.{Course, Ran, run}
+use Rattle.slate_cluster_protocol.specs.World.{World}
 use Rattle.slate_cluster.proofs.Events.{Goes, goes_from, goes_further, goes_wrong, whole}
 use Rattle.slate_cluster.specs.Told.{from_state, Tells}
 

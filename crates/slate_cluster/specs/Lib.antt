@@ -1,3 +1,3 @@
-pub mod Opened
+pub mod NewClusters
 pub mod Ran
 pub mod Told

@@ -1,8 +1,8 @@
 -- What a call of the cluster says of its run.
 use Rattle.std.specs.Prelude.{◌≡◌, List, ◌++◌, take, Some, None, Result, Ok, Err}
-use Rattle.slate_events.specs.declared.event.Event.{Event}
-use Rattle.slate_events.specs.declared.entry.Entry.{Entry}
-use Rattle.slate_protocol.specs.Runs.{Course, run}
+use Rattle.slate_script_events.specs.declared.event.Event.{Event}
+use Rattle.slate_script_events.specs.declared.entry.Entry.{Entry}
+use Rattle.slate_cluster_protocol.specs.Runs.{Course, run}
 use Rattle.slate_cluster.specs.declared.cluster.Report.{Report}
 use Rattle.slate_cluster.specs.declared.cluster.ClusterError.{ClusterError}
 use Rattle.slate_cluster.specs.declared.cluster.ClusterError.TheVariants.{BadEvent, OutOfMemory}

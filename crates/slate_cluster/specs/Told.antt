@@ -1,13 +1,13 @@
 -- What a run tells that keeps no trail.
 use Rattle.std.specs.Prelude.{◌≡◌, ℕ, true, List, [], ◌++◌, Option, Some, None, Result, Ok, Err}
 use Rattle.std.specs.List.{list_all}
-use Rattle.slate_events.specs.declared.db_spec.DbSpec.{DbSpec}
-use Rattle.slate_lines.specs.Lines.{entries_text}
-use Rattle.slate_protocol.specs.Runs.{Course, Ran}
-use Rattle.slate_protocol.specs.Specs.{cause_of_specs, is_named_spec, opening_world}
-use Rattle.slate_protocol.specs.World.{World}
-use Rattle.slate_opening.specs.declared.new_error.NewError.{NewError}
-use Rattle.slate_opening.specs.declared.new_error.NewError.TheVariants.{BadCluster, OutOfMemory}
+use Rattle.slate_script_events.specs.declared.db_spec.DbSpec.{DbSpec}
+use Rattle.slate_script_lines.specs.Lines.{entries_text}
+use Rattle.slate_cluster_protocol.specs.Runs.{Course, Ran}
+use Rattle.slate_cluster_protocol.specs.Specs.{cause_of_specs, is_named_spec, opening_world}
+use Rattle.slate_cluster_protocol.specs.World.{World}
+use Rattle.slate_cluster_opening.specs.declared.new_error.NewError.{NewError}
+use Rattle.slate_cluster_opening.specs.declared.new_error.NewError.TheVariants.{BadCluster, OutOfMemory}
 
 -- the course of a run of databases that has this state before its first event
 abbrev pub from_state : List DbSpec → World → Course

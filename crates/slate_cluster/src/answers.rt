@@ -1,20 +1,20 @@
 //! The text that is written for an input, and the status that goes with it.
 ghost use Rattle.std.specs.Prelude.{◌≡◌, List, Ok, IfOk, string_bytes};
-ghost use Rattle.slate_events.specs.declared.db_spec.DbSpec.{DbSpec as Database};
+ghost use Rattle.slate_script_events.specs.declared.db_spec.DbSpec.{DbSpec as Database};
 ghost use Rattle.slate_script.specs.Scripts.{script_of};
-ghost use Rattle.slate_protocol.specs.Runs.{run};
-ghost use Rattle.slate_protocol.specs.Reports.{report_text};
+ghost use Rattle.slate_cluster_protocol.specs.Runs.{run};
+ghost use Rattle.slate_cluster_protocol.specs.Reports.{report_text};
 ghost use Rattle.slate_cluster.specs.Told.{from_state};
-ghost use Rattle.slate_reports.specs.Endings.{text_for, run_status, status_for, IsLawfulRun};
+ghost use Rattle.slate_cluster_reports.specs.Endings.{text_for, run_status, status_for, IsLawfulRun};
 
 use crate::telling::{ToldRun, begun, tell_run};
-use slate_events::{Event, Script, ScriptError};
+use slate_cluster_laws::lawful;
+use slate_cluster_opening::NewError;
+use slate_cluster_parties::ClusterState;
+use slate_cluster_reports::{Status, bad_cluster, bad_script};
 use slate_ids::OutOfMemory;
-use slate_laws::lawful;
-use slate_opening::NewError;
-use slate_parties::ClusterState;
-use slate_reports::{Status, bad_cluster, bad_script};
 use slate_script::read_script;
+use slate_script_events::{Event, Script, ScriptError};
 use std::alloc::Global;
 
 /// The text that is written, and the status where no write fails.

@@ -1,15 +1,15 @@
 //! The cluster: parties over one store, with the trail of what happened.
 ghost use Rattle.std.specs.Prelude.{◌≡◌, ◌++◌, List, None, IfOk, length};
-ghost use Rattle.slate_events.specs.declared.event.Event.{Event as Happening};
-ghost use Rattle.slate_protocol.specs.Lawful.{Lawful};
-ghost use Rattle.slate_protocol.specs.Runs.{opening, run as after};
-ghost use Rattle.slate_cluster.specs.Opened.{Opens};
+ghost use Rattle.slate_script_events.specs.declared.event.Event.{Event as Happening};
+ghost use Rattle.slate_cluster_protocol.specs.Lawful.{Lawful};
+ghost use Rattle.slate_cluster_protocol.specs.Runs.{opening, run as after};
+ghost use Rattle.slate_cluster.specs.NewClusters.{Opens};
 ghost use Rattle.slate_cluster.specs.Ran.{HasRun};
 
 use crate::progress::Progress;
-use slate_events::{DbSpec, Entry, Event};
-use slate_laws::{begins, goes_on, lawful, stops};
-use slate_opening::{NewError, names};
+use slate_cluster_laws::{begins, goes_on, lawful, stops};
+use slate_cluster_opening::{NewError, names};
+use slate_script_events::{DbSpec, Entry, Event};
 use slate_store::MemoryStore;
 use std::alloc::Global;
 use std::marker::Model;
@@ -22,8 +22,8 @@ pub struct Cluster {
 }
 
 impl Model for Cluster {
-    ghost use Rattle.slate_protocol.specs.Runs.{Course};
-    ghost use Rattle.slate_protocol.specs.Lawful.{IsRun};
+    ghost use Rattle.slate_cluster_protocol.specs.Runs.{Course};
+    ghost use Rattle.slate_cluster_protocol.specs.Lawful.{IsRun};
 
     ghost Value = { Course };
 

@@ -8,7 +8,7 @@ mod telling;
 mod top_call;
 
 pub use cluster::{Cluster, ClusterError, Report};
-pub use slate_opening::NewError;
-pub use slate_reports::{Command, Status};
-pub use slate_updates::ManifestRules;
+pub use slate_cluster_opening::NewError;
+pub use slate_cluster_reports::{Command, Status};
+pub use slate_state_updates::ManifestRules;
 pub use top_call::program;

@@ -1,13 +1,13 @@
 //! What a cluster did so far, event by event.
 ghost use Rattle.std.specs.Prelude.{◌≡◌, ◌++◌, ◌∷◌, [], ◌<◌, IfOk, OnOk, vec_len, vec_capacity, map};
-ghost use Rattle.slate_cluster.specs.Opened.{Opens};
+ghost use Rattle.slate_cluster.specs.NewClusters.{Opens};
 ghost use Rattle.slate_cluster.specs.Ran.{Extends, HasDone, HasRun};
 
 use crate::cluster::{ClusterError, Report};
-use slate_events::{DbSpec, Entry, Event};
+use slate_cluster_opening::{NewError, opened};
+use slate_cluster_parties::ClusterState;
 use slate_ids::OutOfMemory;
-use slate_opening::{NewError, opened};
-use slate_parties::ClusterState;
+use slate_script_events::{DbSpec, Entry, Event};
 use std::alloc::Global;
 use std::marker::Model;
 
@@ -20,7 +20,7 @@ pub(crate) struct Progress {
 }
 
 impl Model for Progress {
-    ghost use Rattle.slate_protocol.specs.Runs.{Course};
+    ghost use Rattle.slate_cluster_protocol.specs.Runs.{Course};
 
     ghost Value = { Course };
 

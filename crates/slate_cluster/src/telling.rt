@@ -1,17 +1,17 @@
 //! A run that is told as it goes, and keeps no trail.
 ghost use Rattle.std.specs.Prelude.{◌≡◌, ◌++◌, List, IfOk, OnOk, string_bytes};
-ghost use Rattle.slate_events.specs.declared.db_spec.DbSpec.{DbSpec as Database};
-ghost use Rattle.slate_lines.specs.Lines.{end_line, entry_text};
-ghost use Rattle.slate_protocol.specs.Runs.{run};
-ghost use Rattle.slate_protocol.specs.Reports.{report_text, state_text};
+ghost use Rattle.slate_script_events.specs.declared.db_spec.DbSpec.{DbSpec as Database};
+ghost use Rattle.slate_script_lines.specs.Lines.{end_line, entry_text};
+ghost use Rattle.slate_cluster_protocol.specs.Runs.{run};
+ghost use Rattle.slate_cluster_protocol.specs.Reports.{report_text, state_text};
 ghost use Rattle.slate_cluster.specs.Told.{from_state, BeginsState, Tells};
 
-use slate_events::{DbSpec, Entry, Event};
+use slate_cluster_opening::{NewError, names, opened};
+use slate_cluster_parties::ClusterState;
+use slate_cluster_reports::push_rest;
 use slate_ids::{Listed, OutOfMemory};
-use slate_lines::push_entry;
-use slate_opening::{NewError, names, opened};
-use slate_parties::ClusterState;
-use slate_reports::push_rest;
+use slate_script_events::{DbSpec, Entry, Event};
+use slate_script_lines::push_entry;
 use std::alloc::Global;
 
 /// The report of a run, and the place of its first bad event.

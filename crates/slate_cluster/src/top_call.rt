@@ -1,13 +1,13 @@
 //! The top call.
-ghost use Rattle.std.specs.Prelude.{◌≡◌, ◌≢◌, ◌↔◌, ◌≤◌, ◌<◌, List, None, Some, IfSome, length};
-ghost use Rattle.slate_store.specs.Counts.{Rose};
+ghost use Rattle.std.specs.Prelude.{◌≡◌, ◌≢◌, ◌↔◌, ◌<◌, List, None, Some, IfSome, length};
+ghost use Rattle.slate_store.specs.FaultCounts.{Rose};
 ghost use Rattle.slate_script.specs.Scripts.{script_of};
-ghost use Rattle.slate_reports.specs.Commands.{command_of};
-ghost use Rattle.slate_reports.specs.Endings.{end, limit, Answers, EndsTooLong, ExactlyEnds};
-ghost use Rattle.slate_reports.specs.Endings.{IfAnswered, IsLawfulRun, Outcome, Runs};
+ghost use Rattle.slate_cluster_reports.specs.Commands.{command_of};
+ghost use Rattle.slate_cluster_reports.specs.Endings.{end, limit, Answers, EndsTooLong, ExactlyRuns};
+ghost use Rattle.slate_cluster_reports.specs.Endings.{IfAnswered, IsLawfulRun, Outcome, Runs};
 
 use crate::answers::{Output, answer};
-use slate_reports::{Command, Status, command_in, deliver, help, run_help, version};
+use slate_cluster_reports::{Command, Status, command_in, deliver, help, run_help, version};
 use slate_store::{ReadError, Sink, Source, read_all};
 use std::alloc::Global;
 
@@ -91,12 +91,9 @@ pub fn program<S: Source, K: Sink>(
     ensures write_fault { result ≡ Status.WriteFault → Rose (K.faults sink.old) (K.faults sink.new) }
     ensures no_write_fault { result ≡ Status.Ok → K.faults sink.new ≡ K.faults sink.old }
     // The exact status and text, for each input that the source tells, where no end fails.
-    ensures exact { IfSome (S.left source.old) (λ input. command_of words.now ≡ Some Command.Run
-        → length input ≤ limit
-        → ¬ (Rose (S.faults source.old) (S.faults source.new))
-        → ¬ (Rose (K.faults sink.old) (K.faults sink.new))
-        → ExactlyEnds result (script_of input) (end (K.written sink.old) (K.faults sink.old))
-        (end (K.written sink.new) (K.faults sink.new))) }
+    ensures exact { ExactlyRuns (command_of words.now)
+        (end (S.left source.old) (S.faults source.old)) (end (S.left source.new) (S.faults source.new))
+        (end (K.written sink.old) (K.faults sink.old)) (end (K.written sink.new) (K.faults sink.new)) result }
     // What is too long is refused.
     ensures too_long { IfSome (S.left source.old) (λ input. command_of words.now ≡ Some Command.Run
         → limit < length input

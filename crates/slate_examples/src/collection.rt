@@ -1,6 +1,6 @@
 //! A collector over a store in memory, and its report as a table.
 
-use slate_collector::{GarbageCollector, GarbageCollectorOptions, GcReport};
+use slate_gc::{GarbageCollector, GarbageCollectorOptions, GcReport};
 use slate_ids::{CheckpointId, DbPath, SlateDBError};
 use slate_model::{CheckpointOptions, ManifestCore};
 use slate_state::StoredManifest;

@@ -2,7 +2,6 @@
 
 use bytes::Bytes;
 use slate_ids::{CheckpointId, DbPath, Listed, Millis, SlateDBError, Ulid};
-use slate_log::Right;
 use slate_model::{
     CompactionSpec, Compactions, ManifestCore, SourceId, SsTableHandle, SsTableId, SsTableInfo,
     SsTableView,
@@ -12,6 +11,7 @@ use slate_state::{
     StoredManifest, claim, report, submit,
 };
 use slate_store::MemoryStore;
+use slate_txn_log::Right;
 use std::alloc::Global;
 
 /// A table of the keys from `a` to `b`.

@@ -26,8 +26,8 @@ unfoldable pub twenty_of : List ℕ → Option ℕ
 twenty_of text = if length text == 20 then number_below (2 ^ 64) text else None
 
 -- the number that names an object of a folder
-unfoldable pub numbered : Folder → List ℕ → Option ℕ
-numbered folder text = option_and_then twenty_of (middle (front_of folder) (suffix_of folder) text)
+unfoldable pub number_in_folder : Folder → List ℕ → Option ℕ
+number_in_folder folder text = option_and_then twenty_of (middle (front_of folder) (suffix_of folder) text)
 
 -- the id that names a table
 unfoldable pub table_of : List ℕ → Option (ℕ × ℕ)
@@ -35,7 +35,8 @@ table_of text = option_and_then ulid_of (middle (front_of Tables) (suffix_of Tab
 
 -- the kinds of one object each
 unfoldable pub single_of : List ℕ → Option PathKind
-single_of text = if bytes_eq text (kind_text ManifestBoundary) then Some ManifestBoundary else (if bytes_eq text (kind_text RecordBoundary) then Some RecordBoundary else (if bytes_eq text (kind_text Marker) then Some Marker else None))
+single_of text = if bytes_eq text (kind_text ManifestBoundary) then Some ManifestBoundary
+    else (if bytes_eq text (kind_text RecordBoundary) then Some RecordBoundary else (if bytes_eq text (kind_text Marker) then Some Marker else None))
 
 -- the first of two that is there
 abbrev pub or_else : {A : Type 0} → Option A → Option A → Option A
@@ -45,9 +46,9 @@ or_else None o = o
 -- the kind whose form a text has
 unfoldable pub kind_of : List ℕ → Option PathKind
 kind_of text =
-    or_else (option_map Manifest (numbered Manifests text))
-    (or_else (option_map Record (numbered Records text))
-    (or_else (option_map Wal (numbered Wals text))
+    or_else (option_map Manifest (number_in_folder Manifests text))
+    (or_else (option_map Record (number_in_folder Records text))
+    (or_else (option_map Wal (number_in_folder Wals text))
     (or_else (option_map Table (table_of text)) (single_of text))))
 
 -- a text that is there and has the form of no kind

@@ -1,5 +1,5 @@
 //! A range of keys.
-ghost use Rattle.std.specs.Prelude.{◌≡◌, ◌⊎◌, ◌&&◌, ◌<◌, ◌^◌, ◌∷◌, [], ◌++◌, ℕ, List, true, false, None, IfOk, IsTrue, ◌↔◌, All};
+ghost use Rattle.std.specs.Prelude.{◌≡◌, ◌&&◌, ◌<◌, ◌^◌, ℕ, List, true, false, None, IfOk, IsTrue, ◌↔◌, All};
 ghost use Rattle.std.specs.Range.Bound.{bound_map};
 ghost use Rattle.slate_ids.specs.Keys as keys;
 ghost use Rattle.slate_ids.specs.Keys.{pointed};

@@ -14,7 +14,6 @@ pub fn paths_apart()
 /// Ranges are sets of keys. What two have in common has the keys that are in both; it is proper exactly where both are, and each
 /// starts before the other ends; a range that isn't proper has no keys. The range of a prefix is proper, and has exactly the keys
 /// that begin with the prefix.
-#[tactic(auto, using(crate::proofs::RangeLaws::common_keys, crate::proofs::RangeLaws::meet_sides, crate::proofs::RangeLaws::improper_no_keys, crate::proofs::PrefixRanges::prefix_keys, crate::proofs::PrefixRanges::prefix_is_proper))]
 pub fn ranges_are_sets()
     ensures common { (a b : KeyRange) (key : List ℕ)
         → has_key (common a b) key ≡ (has_key a key && has_key b key) }

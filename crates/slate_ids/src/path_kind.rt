@@ -1,7 +1,7 @@
 //! What stands after a database and `/` in the paths of the kinds with a name.
 ghost use Rattle.std.specs.Prelude.{◌≡◌, option_map};
 ghost use Rattle.slate_ids.specs.PathText.{front_of, suffix_of};
-ghost use Rattle.slate_ids.specs.PathKind.{kind_of, middle, numbered, single_of, table_of, twenty_of};
+ghost use Rattle.slate_ids.specs.PathKind.{kind_of, middle, number_in_folder, single_of, table_of, twenty_of};
 
 use crate::decimals::number_below;
 use crate::folder::{Folder, MANIFEST_BOUNDARY, MARKER, RECORD_BOUNDARY};
@@ -41,9 +41,9 @@ fn twenty_of(text: &[u8]) -> Option<u64>
 }
 
 // The number that names an object of a folder.
-#[tactic(auto, unfolding(crate::specs::PathKind::numbered))]
-fn numbered(folder: Folder, text: &[u8]) -> Option<u64>
-    ensures { result ≡ numbered folder text.now }
+#[tactic(auto, unfolding(crate::specs::PathKind::number_in_folder))]
+fn number_in_folder(folder: Folder, text: &[u8]) -> Option<u64>
+    ensures { result ≡ number_in_folder folder text.now }
 {
     twenty_of(name_in(folder, text)?)
 }
@@ -77,13 +77,13 @@ fn single_of(text: &[u8]) -> Option<PathKind>
 pub(crate) fn kind_of(text: &[u8]) -> Option<PathKind>
     ensures { result ≡ kind_of text.now }
 {
-    if let Some(n) = numbered(Folder::Manifests, text) {
+    if let Some(n) = number_in_folder(Folder::Manifests, text) {
         return Some(PathKind::Manifest(n));
     }
-    if let Some(n) = numbered(Folder::Records, text) {
+    if let Some(n) = number_in_folder(Folder::Records, text) {
         return Some(PathKind::Record(n));
     }
-    if let Some(n) = numbered(Folder::Wals, text) {
+    if let Some(n) = number_in_folder(Folder::Wals, text) {
         return Some(PathKind::Wal(n));
     }
     if let Some(id) = table_of(text) {

@@ -4,14 +4,14 @@ use Rattle.std.proofs.Common.{ap, sym, ◌∙◌, subst}
 use Rattle.slate_ids.specs.declared.error.SlateDBError.TheVariants.{Corrupt}
 use Rattle.slate_ids.specs.declared.error.FormatName.TheVariants as format
 use Rattle.slate_model.specs.declared.manifest.Manifest.{Manifest}
-use Rattle.slate_parts.specs.Reads.{AreBytes}
-use Rattle.slate_parts.specs.laws.Parts.{AreBytes-rest}
-use Rattle.slate_parts.proofs.InfoTrip.{ok_only}
-use Rattle.slate_manifest_parts.specs.ManifestParts.{second_version}
-use Rattle.slate_manifest_parts.specs.Decoding.{after_version, decoded_manifest}
-use Rattle.slate_manifest_encoding.specs.Encoding.{encoded_manifest}
-use Rattle.slate_manifest_encoding.proofs.RoundTrip.{version_of}
-use Rattle.slate_manifest_encoding.proofs.Written.{only_second}
+use Rattle.slate_layout_parts.specs.Reads.{AreBytes}
+use Rattle.slate_layout_parts.specs.laws.Parts.{AreBytes-rest}
+use Rattle.slate_layout_parts.proofs.InfoTrip.{ok_only}
+use Rattle.slate_layout_manifests.specs.ManifestParts.{second_version}
+use Rattle.slate_layout_manifests.specs.Decoding.{after_version, decoded_manifest}
+use Rattle.slate_layout_encoding.specs.Encoding.{encoded_manifest}
+use Rattle.slate_layout_encoding.proofs.RoundTrip.{version_of}
+use Rattle.slate_layout_encoding.proofs.Written.{only_second}
 use Rattle.slate_layout.specs.Written.{OnlyWritten}
 
 decoded_by : (rest : List ℕ) (m : Manifest) → decoded_manifest (0 ∷ 2 ∷ rest) ≡ Ok m → second_version rest ≡ Some m

@@ -3,7 +3,7 @@ use Rattle.std.specs.Prelude.{◌≡◌, ◌<◌, ◌^◌, ℕ, List, Result, ok
 use Rattle.slate_ids.specs.declared.error.SlateDBError.{SlateDBError}
 use Rattle.slate_ids.specs.declared.error.SlateDBError.TheVariants.{Corrupt}
 use Rattle.slate_ids.specs.declared.error.FormatName.TheVariants.{Boundary}
-use Rattle.slate_log.specs.Boundary.{boundary_of}
+use Rattle.slate_txn_log.specs.Boundary.{boundary_of}
 
 -- the boundary of bytes
 abbrev pub decoded_boundary : List ℕ → Result ℕ SlateDBError

@@ -5,8 +5,8 @@ use Rattle.slate_ids.specs.declared.error.SlateDBError.TheVariants.{Corrupt}
 use Rattle.slate_ids.specs.declared.error.FormatName.{FormatName}
 use Rattle.slate_ids.specs.declared.error.FormatName.TheVariants as format
 use Rattle.slate_model.specs.declared.manifest.Manifest.{Manifest}
-use Rattle.slate_manifest_parts.specs.TypedManifests.{is_manifest}
-use Rattle.slate_manifest_encoding.specs.Encoding.{encoded_manifest}
+use Rattle.slate_layout_manifests.specs.TypedManifests.{is_manifest}
+use Rattle.slate_layout_encoding.specs.Encoding.{encoded_manifest}
 
 -- the bytes of a value of its type, as each is that a program holds
 abbrev pub if_typed : FormatName → Bool → Result (List ℕ) SlateDBError → Result (List ℕ) SlateDBError

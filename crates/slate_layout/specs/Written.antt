@@ -1,7 +1,7 @@
 -- The bytes that a manifest was written as.
 use Rattle.std.specs.Prelude.{◌≡◌, ℕ, List, ◌∷◌, Ok}
 use Rattle.slate_model.specs.declared.manifest.Manifest.{Manifest}
-use Rattle.slate_manifest_encoding.specs.Encoding.{encoded_manifest}
+use Rattle.slate_layout_encoding.specs.Encoding.{encoded_manifest}
 
 -- bytes of version 2 that were decoded to a manifest are those that it is encoded to
 abbrev pub OnlyWritten : List ℕ → Manifest → Type 0

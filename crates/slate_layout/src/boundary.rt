@@ -12,7 +12,7 @@ pub fn encode_boundary(alloc: Global, number: u64) -> Result<Vec<u8>, SlateDBErr
     ensures exact { GivesList result (Ok (decimal number)) }
     ensures read_back { decoded_boundary (decimal number) ≡ Ok number }
 {
-    Ok(slate_log::encode_boundary(alloc, number)?.into_vec())
+    Ok(slate_txn_log::encode_boundary(alloc, number)?.into_vec())
 }
 
 /// The boundary of its bytes. All bytes but the decimal text of a number below 2^64, without a leading zero, are Corrupt. Takes no
@@ -21,7 +21,7 @@ pub fn decode_boundary(bytes: &[u8]) -> Result<u64, SlateDBError>
     ensures exact { result ≡ decoded_boundary bytes.now }
     ensures only { IfOk result (λ number. IsWritten number bytes.now) }
 {
-    match slate_log::decode_boundary(bytes) {
+    match slate_txn_log::decode_boundary(bytes) {
         Some(number) => Ok(number),
         None => Err(SlateDBError::Corrupt(FormatName::Boundary)),
     }

@@ -1,12 +1,12 @@
 //! The codec of manifests.
-ghost use Rattle.slate_manifest_parts.specs.Decoding.{decoded_manifest};
+ghost use Rattle.slate_layout_manifests.specs.Decoding.{decoded_manifest};
 ghost use Rattle.slate_layout.specs.Codec.{encoded};
 ghost use Rattle.slate_layout.specs.laws.Codecs.{codec_round_trip};
-ghost use Rattle.slate_encodable.specs.Normal.{normal_manifest};
+ghost use Rattle.slate_layout_encodable.specs.Normal.{normal_manifest};
 
 use slate_ids::{ObjectCodec, OutOfMemory, SlateDBError};
-use slate_manifest_decoding::decode_manifest;
-use slate_manifest_encoding::encode_manifest;
+use slate_layout_decoding::decode_manifest;
+use slate_layout_encoding::encode_manifest;
 use slate_model::{Manifest, Plain};
 use std::alloc::Global;
 

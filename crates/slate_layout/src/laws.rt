@@ -1,15 +1,15 @@
 //! What follows from the definitions of the layout alone.
 ghost use Rattle.std.specs.Prelude.{◌≡◌, ◌↔◌, true, ℕ, List, [], None};
-ghost use Rattle.slate_tables.specs.Views.{View};
+ghost use Rattle.slate_model_tables.specs.Views.{View};
 ghost use Rattle.slate_model.specs.declared.manifest.Manifest.{Manifest as AnyManifest};
-ghost use Rattle.slate_parts.specs.Reading.{list_in};
-ghost use Rattle.slate_parts.specs.Reads.{AreBytes};
-ghost use Rattle.slate_parts.specs.Shortcut.{counted_items_in};
-ghost use Rattle.slate_manifest_parts.specs.Gathered.{gathered};
-ghost use Rattle.slate_manifest_parts.specs.OldManifests.{old_view_in, old_views_in, old_run_in};
-ghost use Rattle.slate_manifest_parts.specs.Unequal.{HaveUnequal};
-ghost use Rattle.slate_encodable.specs.Normal.{normal_manifest, is_normal};
-ghost use Rattle.slate_manifest_encoding.specs.Encoding.{encoded_manifest};
+ghost use Rattle.slate_layout_parts.specs.Reading.{list_in};
+ghost use Rattle.slate_layout_parts.specs.Reads.{AreBytes};
+ghost use Rattle.slate_layout_parts.specs.Shortcut.{counted_items_in};
+ghost use Rattle.slate_layout_manifests.specs.Gathered.{gathered};
+ghost use Rattle.slate_layout_manifests.specs.OldManifests.{old_view_in, old_views_in, old_run_in};
+ghost use Rattle.slate_layout_manifests.specs.Unequal.{HaveUnequal};
+ghost use Rattle.slate_layout_encodable.specs.Normal.{normal_manifest, is_normal};
+ghost use Rattle.slate_layout_encoding.specs.Encoding.{encoded_manifest};
 
 /// The normal form of a manifest is its own normal form, and has the same bytes, or the same first field that has none. The test is true
 /// of exactly the manifests that are their own normal form.

@@ -1,7 +1,7 @@
 //! Manifests of their bytes.
-ghost use Rattle.std.specs.Prelude.{◌≡◌, IfOk};
+ghost use Rattle.std.specs.Prelude.{IfOk};
 ghost use Rattle.slate_ids.specs.Answers.{Gives};
-ghost use Rattle.slate_manifest_parts.specs.Decoding.{decoded_manifest};
+ghost use Rattle.slate_layout_manifests.specs.Decoding.{decoded_manifest};
 ghost use Rattle.slate_layout.specs.Written.{OnlyWritten};
 
 use slate_ids::SlateDBError;
@@ -14,6 +14,6 @@ pub fn decode_manifest(alloc: Global, bytes: &[u8]) -> Result<Manifest, SlateDBE
     ensures exact { Gives result (decoded_manifest bytes.now) }
     ensures only { IfOk result (λ read. OnlyWritten bytes.now read) }
 {
-    let read = slate_manifest_decoding::decode_manifest(alloc, bytes)?;
+    let read = slate_layout_decoding::decode_manifest(alloc, bytes)?;
     Ok(read)
 }

@@ -1,13 +1,13 @@
 //! The codec of records.
-ghost use Rattle.slate_record_bytes.specs.Records.{decoded_record};
+ghost use Rattle.slate_layout_records.specs.RecordBytes.{decoded_record};
 ghost use Rattle.slate_layout.specs.RecordCodec.{record_encoded};
 ghost use Rattle.slate_layout.specs.laws.Codecs.{record_codec_trip};
-ghost use Rattle.slate_record_bytes.specs.RecordNormal.{normal_record};
+ghost use Rattle.slate_layout_records.specs.RecordNormal.{normal_record};
 
 use slate_ids::{ObjectCodec, OutOfMemory, SlateDBError};
+use slate_layout_records::{decode_compactions, encode_compactions};
 use slate_model::Plain;
-use slate_record_bytes::{decode_compactions, encode_compactions};
-use slate_records::Compactions;
+use slate_model_records::Compactions;
 use std::alloc::Global;
 
 /// The bytes of records: written by version 2 of the layout, read by versions 1 and 2. What is read back is the normal form.

@@ -5,9 +5,9 @@ use crate::test_texts::{are_equal, are_same, bytes_of, refused};
 use bytes::Bytes;
 use slate_ids::{BytesRange, FieldName, Listed, Ulid};
 use slate_layout::{encode_compactions, normal_form_compactions};
+use slate_layout_records::is_normal_record;
 use slate_model::{SsTableHandle, SsTableId, SsTableInfo};
-use slate_record_normality::is_normal_record;
-use slate_records::{
+use slate_model_records::{
     Compaction, CompactionContext, CompactionSpec, CompactionStatus, Compactions, SourceId,
     Subcompaction,
 };

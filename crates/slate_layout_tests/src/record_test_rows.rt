@@ -2,7 +2,7 @@
 
 use crate::test_texts::changed;
 use slate_layout::decode_compactions;
-use slate_records::Compactions;
+use slate_model_records::Compactions;
 use std::alloc::Global;
 use std::process::Abort;
 

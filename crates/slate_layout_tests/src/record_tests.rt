@@ -5,7 +5,7 @@ use crate::test_texts::{are_equal, are_same, bytes_of, length_of};
 use slate_ids::{ObjectCodec, Ulid};
 use slate_layout::{CompactionsCodec, encode_compactions};
 use slate_model::{Plain, SsTableHandle, SsTableId, SsTableInfo};
-use slate_records::{
+use slate_model_records::{
     Compaction, CompactionContext, CompactionSpec, CompactionStatus, Compactions, SourceId,
     Subcompaction, WorkerSpec,
 };

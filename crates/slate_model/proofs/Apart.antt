@@ -42,7 +42,7 @@ between (x ∷ p) (y ∷ q) (z ∷ k) l n b =
     rw (← same) (step (nat_cmp x y) x y refl (slice_cmp nat_cmp p q) (slice_cmp nat_cmp k q) (begins_with p q) l n (λ h m. between p q k h m parts.1))
 
 -- what stands above one that doesn't begin with a key doesn't either
-none_later : (p t : List ℕ) (us : List Prefixed) → key_lt p t ≡ true → begins_with p t ≡ false → ascend_from t us ≡ true → none_begins p us ≡ true
+pub none_later : (p t : List ℕ) (us : List Prefixed) → key_lt p t ≡ true → begins_with p t ≡ false → ascend_from t us ≡ true → none_begins p us ≡ true
 none_later p t [] l n a = refl
 none_later p t (u ∷ us) l n a =
     let parts = and_parts (key_lt t u.prefix) (ascend_from u.prefix us) a in

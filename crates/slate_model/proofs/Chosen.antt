@@ -13,7 +13,7 @@ use Rattle.slate_ids.proofs.KeyOrder.{chained, lt_le, le_trans, le_is}
 use Rattle.slate_ids.specs.KeyRange.{KeyRange, has_key, is_proper, ranges_meet, prefix_range}
 use Rattle.slate_model.specs.Segments.{Prefixed, ascend_from}
 use Rattle.slate_model.specs.Selection.{none_begins, are_apart, meets}
-use Rattle.slate_model.specs.Reach.{starts_by, stands_before, is_over, StartsWithBytes}
+use Rattle.slate_model.specs.SegmentReach.{starts_by, stands_before, is_over, StartsWithBytes}
 use Rattle.slate_model.proofs.Ascending.{clash, one_more}
 use Rattle.slate_model.proofs.Placing.{from_below}
 use Rattle.slate_model.proofs.Apart.{between}

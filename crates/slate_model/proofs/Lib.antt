@@ -3,5 +3,5 @@ mod Latest
 mod Ascending
 mod Nestings
 mod Placing
-mod Apart
+pub mod Apart
 mod Chosen

@@ -2,12 +2,12 @@
 use Rattle.std.specs.Prelude.{ℕ, ◌==◌, Bool, false, not, List, map, filter}
 use Rattle.std.specs.List.{list_any, flat_map}
 use Rattle.slate_ids.specs.Ulids.{same_id}
-use Rattle.slate_tables.specs.declared.ss_table_id.SsTableId.{SsTableId}
-use Rattle.slate_tables.specs.declared.ss_table_id.SsTableId.TheVariants.{Wal, Compacted}
+use Rattle.slate_model_tables.specs.declared.ss_table_id.SsTableId.{SsTableId}
+use Rattle.slate_model_tables.specs.declared.ss_table_id.SsTableId.TheVariants.{Wal, Compacted}
 use Rattle.slate_model.specs.declared.external_db.ExternalDb.{ExternalDb}
 use Rattle.slate_model.specs.declared.manifest.Manifest.{Manifest}
 use Rattle.slate_model.specs.Cores.{Core}
-use Rattle.slate_tables.specs.Views.{View}
+use Rattle.slate_model_tables.specs.Views.{View}
 use Rattle.slate_model.specs.Trees.{views_of, tables_of}
 
 -- whether two ids are of one table

@@ -23,7 +23,8 @@ or_empty None = empty_tree
 -- the segments with this tree at the prefix: in place of that of its own segment, or in a new one before those that stand above
 abbrev pub placed : List ℕ → LsmTreeState → List Prefixed → List Prefixed
 placed prefix tree [] = record { prefix = prefix; tree = tree } ∷ []
-placed prefix tree (s ∷ segments) = if key_lt s.prefix prefix then s ∷ placed prefix tree segments else record { prefix = prefix; tree = tree } ∷ (if bytes_eq s.prefix prefix then segments else s ∷ segments)
+placed prefix tree (s ∷ segments) = if key_lt s.prefix prefix then s ∷ placed prefix tree segments else record { prefix = prefix; tree = tree }
+    ∷ (if bytes_eq s.prefix prefix then segments else s ∷ segments)
 
 -- the core with this tree at the prefix: the root's for the empty one
 abbrev pub with_tree : List ℕ → Core → LsmTreeState → Core

@@ -1,7 +1,8 @@
 pub mod Sequences
 pub mod Segments
-pub mod Options
+pub mod NewCheckpoints
 pub mod Cores
+pub mod KeptCores
 pub mod Manifests
 pub mod Trees
 pub mod Walks
@@ -12,4 +13,4 @@ pub mod Insertion
 pub mod Lending
 pub mod Validation
 pub mod Selection
-pub mod Reach
+pub mod SegmentReach

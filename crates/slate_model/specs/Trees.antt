@@ -1,10 +1,10 @@
 -- The trees of a database, and the views in them.
 use Rattle.std.specs.Prelude.{List, ◌∷◌, ◌++◌, map}
 use Rattle.std.specs.List.{flat_map}
-use Rattle.slate_tables.specs.declared.ss_table_id.SsTableId.{SsTableId}
+use Rattle.slate_model_tables.specs.declared.ss_table_id.SsTableId.{SsTableId}
 use Rattle.slate_model.specs.declared.lsm_tree_state.LsmTreeState.{LsmTreeState}
-use Rattle.slate_tables.specs.Views.{View}
-use Rattle.slate_tables.specs.Runs.{Run}
+use Rattle.slate_model_tables.specs.Views.{View}
+use Rattle.slate_model_tables.specs.SortedRuns.{Run}
 use Rattle.slate_model.specs.Segments.{Prefixed}
 use Rattle.slate_model.specs.Cores.{Core}
 

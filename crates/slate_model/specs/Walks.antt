@@ -1,6 +1,6 @@
 -- What is left of a walk along the views of a database.
 use Rattle.std.specs.Prelude.{ℕ, ◌+◌, List, [], ◌∷◌, ◌++◌, length}
-use Rattle.slate_tables.specs.Views.{View}
+use Rattle.slate_model_tables.specs.Views.{View}
 use Rattle.slate_model.specs.declared.lsm_tree_state.LsmTreeState.{LsmTreeState}
 use Rattle.slate_model.specs.declared.views.Parts.{Parts}
 use Rattle.slate_model.specs.Segments.{Prefixed}

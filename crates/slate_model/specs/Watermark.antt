@@ -2,10 +2,10 @@
 use Rattle.std.specs.Prelude.{◌≡◌, ℕ, max, true, false, List, [], ◌∷◌, map, Option, Some, None, option_to_list, if◌then◌else◌}
 use Rattle.std.specs.List.{list_any, flat_map, filter_map}
 use Rattle.slate_ids.specs.Ulids.{id_lt, same_id}
-use Rattle.slate_tables.specs.declared.ss_table_id.SsTableId.{SsTableId}
-use Rattle.slate_tables.specs.declared.ss_table_id.SsTableId.TheVariants.{Wal, Compacted}
+use Rattle.slate_model_tables.specs.declared.ss_table_id.SsTableId.{SsTableId}
+use Rattle.slate_model_tables.specs.declared.ss_table_id.SsTableId.TheVariants.{Wal, Compacted}
 use Rattle.slate_model.specs.declared.lsm_tree_state.LsmTreeState.{LsmTreeState}
-use Rattle.slate_tables.specs.Views.{View}
+use Rattle.slate_model_tables.specs.Views.{View}
 use Rattle.slate_model.specs.Cores.{Core}
 use Rattle.slate_model.specs.Trees.{trees_of}
 

@@ -1,9 +1,9 @@
 //! Checkpoints: versions that a manifest keeps from being collected.
 ghost use Rattle.std.specs.Prelude.{◌≡◌, IfOk};
-ghost use Rattle.slate_model.specs.Options.{no_options};
+ghost use Rattle.slate_model.specs.NewCheckpoints.{no_options};
 
 use slate_ids::{CheckpointId, Millis, OutOfMemory, Text};
-use slate_tables::Plain;
+use slate_model_tables::Plain;
 use std::alloc::Global;
 
 /// A checkpoint: while it stands in the greatest manifest, the version that it names is needed.

@@ -4,7 +4,7 @@ ghost use Rattle.slate_model.specs.Externals as externals;
 
 use crate::owned_tables::same_table;
 use slate_ids::{CheckpointId, DbPath, Listed, OutOfMemory};
-use slate_tables::{Plain, SsTableId};
+use slate_model_tables::{Plain, SsTableId};
 use std::alloc::Global;
 
 /// An entry of a manifest: another database, of whose tables this one uses some.

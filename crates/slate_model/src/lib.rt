@@ -32,11 +32,11 @@ pub use manifest_core::ManifestCore;
 pub use prefix_extractor::PrefixExtractor;
 pub use segment::Segment;
 pub use sequence_tracker::SequenceTracker;
-pub use slate_records::{
+pub use slate_model_records::{
     Compaction, CompactionContext, CompactionSpec, CompactionStatus, Compactions, CompactionsIter,
     SourceId, Subcompaction, VersionedCompactions, WorkerSpec,
 };
-pub use slate_tables::{
+pub use slate_model_tables::{
     CompressionTag, FilterFormat, Plain, Queue, SortedRun, SsTableHandle, SsTableId, SsTableInfo,
     SsTableView, SstType, all_show_keys, max_l0_overlap,
 };

@@ -3,7 +3,7 @@ ghost use Rattle.std.specs.Prelude.{◌≡◌, IfOk};
 ghost use Rattle.slate_model.specs.Cores.{empty_tree};
 
 use slate_ids::{Listed, OutOfMemory, Ulid, clone_both};
-use slate_tables::{Plain, Queue, SortedRun, SsTableView};
+use slate_model_tables::{Plain, Queue, SortedRun, SsTableView};
 use std::alloc::Global;
 
 /// A tree: the tables that flushes wrote, and the sorted runs that compactions made of them.

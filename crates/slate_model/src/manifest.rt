@@ -5,7 +5,7 @@ ghost use Rattle.slate_model.specs.Manifests.{initial_manifest};
 use crate::external_db::ExternalDb;
 use crate::manifest_core::ManifestCore;
 use slate_ids::{Listed, OutOfMemory, clone_both};
-use slate_tables::Plain;
+use slate_model_tables::Plain;
 use std::alloc::Global;
 
 /// What a version of a database's log holds.

@@ -1,7 +1,7 @@
 //! What a manifest says of its database.
 ghost use Rattle.std.specs.Prelude.{◌≡◌, IfOk, IsTrue, ◌↔◌};
 ghost use Rattle.slate_model.specs.Segments.{IsAscending};
-ghost use Rattle.slate_model.specs.Cores.{new_core};
+ghost use Rattle.slate_model.specs.Cores.{new_core, SameNumbers};
 
 use crate::checkpoint::Checkpoint;
 use crate::lsm_tree_state::LsmTreeState;
@@ -9,7 +9,7 @@ use crate::segment::Segment;
 use crate::segments::Segments;
 use crate::sequence_tracker::SequenceTracker;
 use slate_ids::{Listed, OutOfMemory, Text, clone_both};
-use slate_tables::Plain;
+use slate_model_tables::Plain;
 use std::alloc::Global;
 use std::marker::Model;
 use std::mem;
@@ -55,40 +55,13 @@ pub struct ManifestCore {
 
 impl Model for ManifestCore {
     ghost use Rattle.slate_model.specs.Cores.{Core};
+    ghost use Rattle.slate_model.specs.KeptCores.{core_of, inside_of};
 
     ghost Value = { Core };
 
-    ghost view = { λ a. record {
-      initialized = a.initialized;
-      tree = a.tree;
-      segments = a.segments;
-      segment_extractor_name = a.segment_extractor_name;
-      wal_object_store_uri = a.wal_object_store_uri;
-      next_wal_sst_id = a.next_wal_sst_id;
-      replay_after_wal_id = a.replay_after_wal_id;
-      last_l0_seq = a.last_l0_seq;
-      recent_snapshot_min_seq = a.recent_snapshot_min_seq;
-      floor = a.floor;
-      last_l0_clock_tick = a.last_l0_clock_tick;
-      sequence_tracker = a.sequence_tracker;
-      checkpoints = a.checkpoints;
-    } };
+    ghost view = { core_of };
 
-    ghost inverse = { λ d. record {
-      initialized = d.initialized;
-      tree = d.tree;
-      segments = d.segments;
-      segment_extractor_name = d.segment_extractor_name;
-      wal_object_store_uri = d.wal_object_store_uri;
-      next_wal_sst_id = d.next_wal_sst_id;
-      replay_after_wal_id = d.replay_after_wal_id;
-      last_l0_seq = d.last_l0_seq;
-      recent_snapshot_min_seq = d.recent_snapshot_min_seq;
-      floor = d.floor;
-      last_l0_clock_tick = d.last_l0_clock_tick;
-      sequence_tracker = d.sequence_tracker;
-      checkpoints = d.checkpoints;
-    } };
+    ghost inverse = { inside_of };
 }
 
 impl ManifestCore {
@@ -223,13 +196,7 @@ impl ManifestCore {
 
 // Whether all numbers are equal.
 fn same_numbers(a: &ManifestCore, b: &ManifestCore) -> bool
-    ensures { IsTrue result
-        ↔ ((a.now.next_wal_sst_id ≡ b.now.next_wal_sst_id)
-        × (a.now.replay_after_wal_id ≡ b.now.replay_after_wal_id)
-        × (a.now.last_l0_seq ≡ b.now.last_l0_seq)
-        × (a.now.recent_snapshot_min_seq ≡ b.now.recent_snapshot_min_seq)
-        × (a.now.floor ≡ b.now.floor)
-        × (a.now.last_l0_clock_tick ≡ b.now.last_l0_clock_tick)) }
+    ensures { IsTrue result ↔ SameNumbers a.now b.now }
 {
     a.next_wal_sst_id == b.next_wal_sst_id
         && a.replay_after_wal_id == b.replay_after_wal_id

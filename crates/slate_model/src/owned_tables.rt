@@ -7,7 +7,7 @@ ghost use Rattle.slate_model.specs.Externals.{owned, external, shared_by};
 use crate::external_db::ExternalDb;
 use crate::manifest::Manifest;
 use slate_ids::{DbPath, OutOfMemory};
-use slate_tables::SsTableId;
+use slate_model_tables::SsTableId;
 use std::alloc::Global;
 
 // Whether two ids are of one table.

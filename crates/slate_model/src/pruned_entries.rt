@@ -8,7 +8,7 @@ use crate::manifest::Manifest;
 use crate::manifest_core::ManifestCore;
 use crate::owned_tables::same_table;
 use slate_ids::Listed;
-use slate_tables::SsTableId;
+use slate_model_tables::SsTableId;
 use std::mem;
 
 // Whether a view of any tree is of this table.

@@ -7,7 +7,7 @@ ghost use Rattle.slate_model.specs.Lending.{LendsTree};
 use crate::lsm_tree_state::LsmTreeState;
 use bytes::Bytes;
 use slate_ids::{OutOfMemory, Ulid, clone_both};
-use slate_tables::{Plain, SortedRun, SsTableView};
+use slate_model_tables::{Plain, SortedRun, SsTableView};
 use std::alloc::Global;
 use std::collections::VecDeque;
 use std::marker::Model;

@@ -5,8 +5,8 @@ ghost use Rattle.slate_ids.specs.Keys.{pointed};
 ghost use Rattle.slate_model.specs.Segments.{IsAscending};
 ghost use Rattle.slate_model.specs.Selection as selection;
 ghost use Rattle.slate_model.specs.Selection.{are_apart, meets, selected};
-ghost use Rattle.slate_model.specs.Reach as reach;
-ghost use Rattle.slate_model.specs.Reach.{StartsWithBytes};
+ghost use Rattle.slate_model.specs.SegmentReach as reach;
+ghost use Rattle.slate_model.specs.SegmentReach.{StartsWithBytes};
 
 use crate::manifest_core::ManifestCore;
 use crate::nesting::begins_with;

@@ -15,7 +15,7 @@ use crate::segment::Segment;
 use crate::segment_search::{place_of, segment_of};
 use bytes::Bytes;
 use slate_ids::{OutOfMemory, SlateDBError};
-use slate_tables::{Plain, are_same, copies};
+use slate_model_tables::{Plain, are_same, copies};
 use std::alloc::Global;
 use std::marker::Model;
 

@@ -1,11 +1,11 @@
 //! Moments of sequence numbers.
-ghost use Rattle.std.specs.Prelude.{◌≡◌, ◌<◌, ◌++◌, ◌∷◌, [], OnOk, OnErr, IsTrue, ◌↔◌, Some, None, true, if◌then◌else◌, length};
+ghost use Rattle.std.specs.Prelude.{◌≡◌, ◌<◌, ◌++◌, ◌∷◌, [], OnOk, OnErr, IsTrue, Some, None, true, if◌then◌else◌, length};
 ghost use Rattle.std.specs.List.{last_or, list_all};
 ghost use Rattle.slate_model.specs.Sequences.{IsTracker, is_kept, is_pair, in_order, may_follow, with_room, inserted, ts_of, seq_of, last_to_seq, first_from_seq, last_to_ts, first_from_ts};
 
 use crate::find_option::FindOption;
 use slate_ids::{Millis, OutOfMemory};
-use slate_tables::Plain;
+use slate_model_tables::Plain;
 use std::alloc::Global;
 use std::marker::Model;
 

@@ -10,7 +10,7 @@ use crate::segment::Segment;
 use crate::segment_search::segment_of;
 use crate::sequence_tracker::SequenceTracker;
 use slate_ids::{OutOfMemory, Text, Ulid};
-use slate_tables::{Plain, SortedRun, SsTableView};
+use slate_model_tables::{Plain, SortedRun, SsTableView};
 use std::alloc::Global;
 use std::collections::VecDeque;
 use std::marker::Model;

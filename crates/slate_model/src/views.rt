@@ -7,7 +7,7 @@ ghost use Rattle.slate_model.specs.Walks.{views_left, parts_left, parts_of_tree,
 use crate::lsm_tree_state::LsmTreeState;
 use crate::manifest_core::ManifestCore;
 use crate::segment::Segment;
-use slate_tables::{SortedRun, SsTableView};
+use slate_model_tables::{SortedRun, SsTableView};
 use std::marker::Model;
 
 // What is left of a walk: views, the others of their tree's L0, its runs, and the segments whose trees come then.
@@ -70,7 +70,7 @@ pub struct Views<'a> {
 
 impl<'a> Model for Views<'a> {
     ghost use Rattle.std.specs.Prelude.{List};
-    ghost use Rattle.slate_tables.specs.Views.{View};
+    ghost use Rattle.slate_model_tables.specs.Views.{View};
     ghost use Rattle.slate_model.specs.Walks.{views_left};
 
     ghost Value = { List View };

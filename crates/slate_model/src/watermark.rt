@@ -6,7 +6,7 @@ ghost use Rattle.slate_model.specs.Watermark.{timed_id, timed_ids, flushed_of_tr
 use crate::lsm_tree_state::LsmTreeState;
 use crate::manifest_core::ManifestCore;
 use slate_ids::Ulid;
-use slate_tables::{SsTableId, SsTableView};
+use slate_model_tables::{SsTableId, SsTableView};
 use std::collections::VecDeque;
 
 // The id of a table that has one.

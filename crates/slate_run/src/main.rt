@@ -5,7 +5,7 @@ mod kept;
 
 use kept::Kept;
 use slate_cluster::{Status, program};
-use slate_hints::Why;
+use slate_run_hints::Why;
 use slate_store::{StdSink, StdSource};
 use std::io::ErrorKind;
 use std::process::ExitCode;

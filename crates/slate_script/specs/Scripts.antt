@@ -3,17 +3,17 @@ use Rattle.std.specs.Prelude.{◌≡◌, ℕ, ◌+◌, nat_lt, List, [], ◌∷�
 use Rattle.std.specs.Str.{is_utf8}
 use Rattle.serde_json.specs.Data.{Data, Items, no_items, item}
 use Rattle.serde_json.specs.Read.{read}
-use Rattle.slate_json.specs.Fields.{◌>>=◌, only, array_in}
-use Rattle.slate_databases.specs.DatabaseFields.{database_in}
-use Rattle.slate_events.specs.declared.event.Event.{Event}
-use Rattle.slate_calls.specs.declared.items.EventItem.{EventItem}
-use Rattle.slate_events.specs.declared.db_spec.DbSpec.{DbSpec}
-use Rattle.slate_events.specs.declared.script.Script.{Script}
-use Rattle.slate_events.specs.declared.script.ScriptPlace.{ScriptPlace}
-use Rattle.slate_events.specs.declared.script.ScriptPlace.TheVariants as place
-use Rattle.slate_events.specs.declared.script.ScriptError.{ScriptError}
-use Rattle.slate_events.specs.declared.script.ScriptError.TheVariants as errors
-use Rattle.slate_calls.specs.Events.{event_item_in, expand, count_of}
+use Rattle.slate_script_json.specs.Fields.{◌>>=◌, only, array_in}
+use Rattle.slate_script_databases.specs.DatabaseFields.{database_in}
+use Rattle.slate_script_events.specs.declared.event.Event.{Event}
+use Rattle.slate_script_calls.specs.declared.items.EventItem.{EventItem}
+use Rattle.slate_script_events.specs.declared.db_spec.DbSpec.{DbSpec}
+use Rattle.slate_script_events.specs.declared.script.Script.{Script}
+use Rattle.slate_script_events.specs.declared.script.ScriptPlace.{ScriptPlace}
+use Rattle.slate_script_events.specs.declared.script.ScriptPlace.TheVariants as place
+use Rattle.slate_script_events.specs.declared.script.ScriptError.{ScriptError}
+use Rattle.slate_script_events.specs.declared.script.ScriptError.TheVariants as errors
+use Rattle.slate_script_calls.specs.ReadEvents.{event_item_in, expand, count_of}
 
 -- A reader answers what the bytes stand for, or the first place, unless memory runs out.
 abbrev pub Fails : {Y : Type 0} → ScriptError → Result Y ScriptPlace → Type 0

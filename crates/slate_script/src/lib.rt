@@ -4,10 +4,10 @@
 mod reading;
 
 pub use reading::read_script;
-pub use slate_events::{
+pub use slate_script_events::{
     Boxed, Call, ClusterCause, DbSpec, Entry, Event, FilterWord, FlushTable, PartyKind, Reply,
     Script, ScriptError, ScriptPlace,
 };
-pub use slate_lines::{
+pub use slate_script_lines::{
     entry_line, push_cause, push_entries, push_entry, push_left, push_path, push_place,
 };

@@ -1,19 +1,19 @@
 //! The script that bytes stand for.
-ghost use Rattle.std.specs.Prelude.{◌≡◌, ◌≤◌, ◌<◌, ◌+◌, ◌++◌, IfOk, OnOk, OnErr, length, Option, Some, None};
+ghost use Rattle.std.specs.Prelude.{◌≡◌, ◌≤◌, ◌<◌, ◌+◌, ◌++◌, IfOk, OnOk, Option, Some, None};
 ghost use Rattle.serde_json.specs.Read.{read};
 ghost use Rattle.serde_json.specs.View.{view, items_view};
-ghost use Rattle.slate_json.specs.Fields.{Gives};
-ghost use Rattle.slate_calls.specs.Events.{expand, count_of};
-ghost use Rattle.slate_databases.specs.DatabaseFields.{database_in};
-ghost use Rattle.slate_script.specs.Scripts.{Reads, at_place, databases_from, event_item_at, events_from, event_limit, top_in, parts_in, script_in, json_of, script_of};
-ghost use Rattle.slate_events.specs.declared.script.ScriptPlace.TheVariants.{Database};
+ghost use Rattle.slate_script_json.specs.Fields.{Gives};
+ghost use Rattle.slate_script_calls.specs.ReadEvents.{expand, count_of};
+ghost use Rattle.slate_script_databases.specs.DatabaseFields.{database_in};
+ghost use Rattle.slate_script.specs.Scripts.{Reads, at_place, databases_from, event_item_at, events_from, event_limit, top_in, script_in, json_of, script_of};
+ghost use Rattle.slate_script_events.specs.declared.script.ScriptPlace.TheVariants.{Database};
 
 use serde_json::Value;
-use slate_calls::{EventItem, read_event};
-use slate_databases::read_database;
-use slate_events::{DbSpec, Event, Script, ScriptError, ScriptPlace};
 use slate_ids::{Listed, OutOfMemory};
-use slate_json::{JsonError, array_of, only};
+use slate_script_calls::{EventItem, read_event};
+use slate_script_databases::read_database;
+use slate_script_events::{DbSpec, Event, Script, ScriptError, ScriptPlace};
+use slate_script_json::{JsonError, array_of, only};
 use std::alloc::Global;
 use std::str;
 

@@ -474,7 +474,8 @@ const BAD_FIELDS: &[&str] = &[
     r#""record":{"epoch":0,"compactions":[{"id":"9:1","status":"submitted","views":[],"runs":[4294967296],"outputs":[],"drain":true}]}"#,
     r#""record":{"epoch":0,"compactions":[{"id":"9:1","status":"submitted","views":[],"runs":[],"outputs":[1],"drain":true}]}"#,
     r#""record":{"epoch":0,"compactions":[{"id":"9:1","status":"submitted","views":[],"runs":[],"outputs":"1:1","drain":true}]}"#,
-    r#""record":{"epoch":0,"compactions":[{"id":"1:1","status":"submitted","views":[],"runs":[],"outputs":[],"drain":true},{"id":"01:1","status":"submitted","views":[],"runs":[],"outputs":[],"destination":1}]}"#,
+    "\"record\":{\"epoch\":0,\"compactions\":[{\"id\":\"1:1\",\"status\":\"failed\",\"views\":[],\"runs\":[],\"outputs\":[],\"drain\":true},\
+     {\"id\":\"01:1\",\"status\":\"failed\",\"views\":[],\"runs\":[],\"outputs\":[],\"drain\":true}]}",
     r#""more":0"#,
     r#""initialized":0"#,
     r#""initialized":"true""#,

@@ -1,8 +1,8 @@
 //! Filters of passes that scripts say, asked which of some candidates may go.
 
 use crate::test_scripts::script_within;
+use slate_gc_picks::GcFilter;
 use slate_ids::{DbPath, ObjectPath};
-use slate_picks::GcFilter;
 use slate_script::{Call, Event};
 use slate_store::ObjectMetadata;
 use std::alloc::Global;

@@ -2,10 +2,8 @@
 //! their rules and their merges. All of it stands in the crates that are named here, and is passed on.
 #![tactic(auto)]
 
-pub use slate_compactor::LocalState;
-pub use slate_compactor_state::{CompactorStateReader, CompactorStateView, ReadViewMachine};
-pub use slate_compactor_writer::{CompactorStateMachine, CompactorStateWriter, OpenStateMachine};
-pub use slate_db_holders::{
+pub use slate_state_compactor::LocalState;
+pub use slate_state_holders::{
     CheckpointMachine, CreateCompactionsMachine, CreateDbMachine, DeleteCheckpointMachine,
     FenceableCompactions, FenceableManifest, FencedCheckpointMachine,
     FencedDeleteCheckpointMachine, FencedRefreshCompactionsMachine, FencedRefreshManifestMachine,
@@ -15,8 +13,14 @@ pub use slate_db_holders::{
     TryLoadManifestMachine, UpdateCompactionsMachine, UpdateManifestMachine,
     checkpoint_stands_in_new, checkpoint_stands_in_old,
 };
-pub use slate_db_logs::{DbLog, ManifestNames, Manifests, NoNames, Records, records_are_plain};
-pub use slate_db_stores::{
+pub use slate_state_logs::{DbLog, ManifestNames, Manifests, NoNames, Records, records_are_plain};
+pub use slate_state_merges::{
+    LocalTrees, TreeMerge, merge_remote_manifest, merge_segments_from_compactor,
+    merge_segments_from_writer, merge_writer_and_compactor,
+};
+pub use slate_state_reader::{CompactorStateReader, CompactorStateView, ReadViewMachine};
+pub use slate_state_record_updates::{CompactionsRules, RecordEpochs, claim, report, submit};
+pub use slate_state_stores::{
     AdvanceBoundaryMachine, AdvanceCompactionsBoundaryMachine, CompactionsStore,
     DeleteCompactionsMachine, DeleteCompactionsUncheckedMachine, DeleteManifestMachine,
     DeleteUncheckedMachine, LatestCompactionsMachine, LatestManifestMachine,
@@ -25,10 +29,6 @@ pub use slate_db_stores::{
     TryLatestCompactionsMachine, TryLatestManifestMachine, TryReadCompactionsMachine,
     TryReadManifestMachine,
 };
-pub use slate_merges::{
-    LocalTrees, TreeMerge, merge_remote_manifest, merge_segments_from_compactor,
-    merge_segments_from_writer, merge_writer_and_compactor,
-};
-pub use slate_record_updates::{CompactionsRules, RecordEpochs, claim, report, submit};
+pub use slate_state_updates::{ManifestEpochs, ManifestRules, l0_ulid_cutoff};
+pub use slate_state_writer::{CompactorStateMachine, CompactorStateWriter, OpenStateMachine};
 pub use slate_txn::DirtyObject;
-pub use slate_updates::{ManifestEpochs, ManifestRules, l0_ulid_cutoff};

@@ -10,7 +10,7 @@ use Rattle.std.proofs.Common.{◌≡◌, ℕ, Bool, true, false, ◌++◌, [], �
 use Rattle.std.proofs.lemmas.Bool.Decides.{nat_tests}
 use Rattle.std.proofs.lemmas.Map.Text.{is_eq-slice_cmp}
 use Rattle.std.proofs.lemmas.Slice.Eq.{bytes_eq-Decides}
-use Rattle.slate_ids.specs.PathKind.{is_rest, kind_of, numbered, middle, strip_front, strip_end, table_of, single_of}
+use Rattle.slate_ids.specs.PathKind.{is_rest, kind_of, number_in_folder, middle, strip_front, strip_end, table_of, single_of}
 use Rattle.slate_ids.specs.PathText.{front_of, past_of, suffix_of, in_folder, behind, path_text, path_cmp, twenty}
 use Rattle.slate_ids.specs.UlidText.{ulid_text}
 use Rattle.slate_ids.specs.declared.folder.Folder.{Folder}
@@ -29,14 +29,14 @@ same_name = is_eq-slice_cmp
 -- the bounds of a folder have the form of no kind
 
 pub front_is_rest : (folder : Folder) → is_rest (front_of folder) ≡ true
-unfolding is_rest kind_of numbered middle strip_front strip_end table_of single_of
+unfolding is_rest kind_of number_in_folder middle strip_front strip_end table_of single_of
 front_is_rest folders.Manifests = refl
 front_is_rest folders.Records = refl
 front_is_rest folders.Tables = refl
 front_is_rest folders.Wals = refl
 
 pub past_is_rest : (folder : Folder) → is_rest (past_of folder) ≡ true
-unfolding is_rest kind_of numbered middle strip_front strip_end table_of single_of
+unfolding is_rest kind_of number_in_folder middle strip_front strip_end table_of single_of
 past_is_rest folders.Manifests = refl
 past_is_rest folders.Records = refl
 past_is_rest folders.Tables = refl

@@ -3,7 +3,7 @@ use Rattle.std.proofs.Common.{◌≡◌, ◌≤◌, ℕ, ℤ, pos, Bool, true, f
 use Rattle.slate_ids.specs.Limits.{last_number}
 use Rattle.slate_ids.specs.declared.object_path.ObjectPath.{ObjectPath}
 use Rattle.slate_store.specs.Store.{Store, effect, whole, writes, taken, under, removed, put_new}
-use Rattle.slate_store.specs.Calls.{Calls, IsAnswerTo, IfFault, Rose, next_mark}
+use Rattle.slate_store.specs.StoreCalls.{Calls, IsAnswerTo, IfFault, Rose, next_mark}
 use Rattle.slate_store.specs.InMemory.{Memory, told_of, answer_under, answered, faults_after, left_under}
 use Rattle.slate_store.specs.declared.mark.Mark.{Mark}
 use Rattle.slate_store.specs.declared.mark.Mark.TheVariants.{Good, Fail, Lost}

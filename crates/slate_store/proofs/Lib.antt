@@ -1,3 +1,4 @@
 mod Folders
 mod InMemory
 mod Slices
+pub mod LookUps

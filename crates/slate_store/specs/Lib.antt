@@ -1,7 +1,7 @@
 pub mod Folders
 pub mod Store
-pub mod Counts
-pub mod Calls
+pub mod FaultCounts
+pub mod StoreCalls
 pub mod Machines
-pub mod Runs
+pub mod CallRuns
 pub mod InMemory

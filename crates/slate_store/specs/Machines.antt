@@ -6,7 +6,7 @@ use Rattle.slate_store.specs.declared.store_call.StoreCall.{StoreCall}
 use Rattle.slate_store.specs.declared.store_answer.StoreAnswer.{StoreAnswer}
 use Rattle.slate_store.specs.declared.step.Step.{Step}
 use Rattle.slate_store.specs.declared.step.Step.TheVariants.{Again, Done}
-use Rattle.slate_store.specs.Calls.{Told, Makes, moment_of}
+use Rattle.slate_store.specs.StoreCalls.{Told, Makes, moment_of}
 use Rattle.std.proofs.Common.{sym, subst}
 
 -- how a machine goes on: at a phase, or it ends with a reply
@@ -60,7 +60,8 @@ IsEnd (Stay p) = ⊥
 IsEnd (End p r) = Unit {0}
 
 -- one answer more
-pub after-push : {P R : Type 0} (goes : P → StoreAnswer → Goes P R) (from : Goes P R) (answers : List StoreAnswer) (a : StoreAnswer) (p : P) → after goes from answers ≡ Stay p → after goes from (answers ++ a ∷ []) ≡ goes p a
+pub after-push : {P R : Type 0} (goes : P → StoreAnswer → Goes P R) (from : Goes P R) (answers : List StoreAnswer) (a : StoreAnswer) (p : P)
+    → after goes from answers ≡ Stay p → after goes from (answers ++ a ∷ []) ≡ goes p a
 after-push goes from [] a p h = subst (λ (g : Goes _ _). after goes g (a ∷ []) ≡ goes p a) (sym h) refl
 after-push goes (Stay q) (b ∷ answers) a p h = after-push goes (goes q b) answers a p h
 after-push goes (End q r) (b ∷ answers) a p h = absurd (subst (λ (g : Goes _ _). IsEnd g) h tt)

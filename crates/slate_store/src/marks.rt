@@ -1,6 +1,6 @@
 //! The marks of the calls to come.
 ghost use Rattle.std.specs.Prelude.{◌≡◌, ◌∷◌, drop};
-ghost use Rattle.slate_store.specs.Calls.{next_mark};
+ghost use Rattle.slate_store.specs.StoreCalls.{next_mark};
 
 use crate::mark::Mark;
 use std::marker::Model;

@@ -1,12 +1,11 @@
 //! A store in memory.
-ghost use Rattle.std.specs.Prelude.{◌≡◌, ◌≢◌, ◌≤◌, ◌+◌, [], ◌∷◌, drop, map, filter, length, pos, is_some, option_copied, Ok, Err, IfOk, OnOk, OnErr};
+ghost use Rattle.std.specs.Prelude.{◌≡◌, ◌≢◌, ◌≤◌, ◌+◌, [], ◌∷◌, drop, map, length, pos, is_some, option_copied, Ok, Err, IfOk, OnOk, OnErr};
 ghost use Rattle.std.specs.Map.{remove_entry, lookup};
 ghost use Rattle.std.specs.BTreeMap.{is_at, insert_entry};
 ghost use Rattle.slate_ids.specs.PathText.{path_cmp};
-ghost use Rattle.slate_store.specs.Calls.{Calls, next_mark};
+ghost use Rattle.slate_store.specs.StoreCalls.{Calls, next_mark};
 ghost use Rattle.slate_store.specs.InMemory.{told_of, paths_of, answer_under, answered, faulted, left_under, write_mark, tag_under, Writes};
-ghost use Rattle.slate_store.specs.Folders.{is_in};
-ghost use Rattle.slate_store.specs.Store.{object_at, has_tag as HasTag, listed, metadata, stored};
+ghost use Rattle.slate_store.specs.Store.{object_at, has_tag as HasTag, listed, stored};
 ghost use Rattle.slate_store.specs.declared.mark.Mark.TheVariants.{Good};
 ghost use Rattle.slate_store.specs.declared.store.StoreError.TheVariants.{Fault, OutOfMemory as NoMemory};
 ghost use Rattle.slate_store.specs.declared.store_call.StoreCall.TheVariants as calls;

@@ -1,5 +1,5 @@
 //! Store calls that are given as values.
-ghost use Rattle.slate_store.specs.Calls.{Performs};
+ghost use Rattle.slate_store.specs.StoreCalls.{Performs};
 ghost use Rattle.slate_store.specs.declared.store_call.StoreCall.TheVariants as calls;
 
 use crate::list_dir::ListDir;

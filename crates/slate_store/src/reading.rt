@@ -1,7 +1,7 @@
 //! Reading whole inputs.
 ghost use Rattle.std.specs.Prelude.{◌≡◌, ◌≢◌, ℕ, ◌+◌, ◌^◌, ◌<◌, ◌≤◌, List, length, Err, IfOk, OnOk};
 ghost use Rattle.std.specs.Io.KnownBytes.{IsAtEnd, Consumes};
-ghost use Rattle.slate_store.specs.Counts.{Rose};
+ghost use Rattle.slate_store.specs.FaultCounts.{Rose};
 
 use crate::source::Source;
 use std::alloc::{AllocError, Global};

@@ -2,7 +2,7 @@
 ghost use Rattle.std.specs.Prelude.{◌≡◌, ℕ, List, [], length, Option, Some, true, IfOk, IsErr};
 ghost use Rattle.std.specs.Io.{WritesAtMost};
 ghost use Rattle.std.specs.Io.KnownBytes.{WriteAppends};
-ghost use Rattle.slate_store.specs.Counts.{CountsFault, CountsWrite, MemoryEnd, fails_next};
+ghost use Rattle.slate_store.specs.FaultCounts.{CountsFault, CountsWrite, MemoryEnd, fails_next};
 
 use std::alloc::Global;
 use std::marker::Model;
@@ -37,7 +37,7 @@ pub struct MemorySink {
 }
 
 impl Model for MemorySink {
-    ghost use Rattle.slate_store.specs.Counts.{MemoryEnd};
+    ghost use Rattle.slate_store.specs.FaultCounts.{MemoryEnd};
 
     ghost Value = { MemoryEnd };
 

@@ -1,8 +1,8 @@
 //! Where bytes come from.
-ghost use Rattle.std.specs.Prelude.{◌≡◌, ℕ, min, List, [], length, take, drop, Option, Some, is_err};
+ghost use Rattle.std.specs.Prelude.{◌≡◌, ℕ, min, List, length, take, drop, Option, Some, is_err};
 ghost use Rattle.std.specs.Io.{ReadsAtMost};
 ghost use Rattle.std.specs.Io.KnownBytes.{ReadConsumes};
-ghost use Rattle.slate_store.specs.Counts.{CountsFault, MemoryEnd, fails_next};
+ghost use Rattle.slate_store.specs.FaultCounts.{CountsFault, MemoryEnd, fails_next};
 
 use std::marker::Model;
 
@@ -38,7 +38,7 @@ pub struct MemorySource {
 
 impl Model for MemorySource {
     ghost use Rattle.std.specs.Prelude.{◌≤◌, vec_len, drop};
-    ghost use Rattle.slate_store.specs.Counts.{MemoryEnd};
+    ghost use Rattle.slate_store.specs.FaultCounts.{MemoryEnd};
 
     ghost Value = { MemoryEnd };
 

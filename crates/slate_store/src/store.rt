@@ -2,7 +2,7 @@
 ghost use Rattle.std.specs.Prelude.{◌≡◌, pos};
 ghost use Rattle.slate_store.specs.declared.store_call.StoreCall.TheVariants as calls;
 ghost use Rattle.slate_store.specs.declared.store_answer.StoreAnswer.TheVariants as answers;
-ghost use Rattle.slate_store.specs.Calls.{Told, Calls};
+ghost use Rattle.slate_store.specs.StoreCalls.{Told, Calls};
 
 use crate::list_dir::ListDir;
 use crate::object::{ObjectMetadata, StoredObject};

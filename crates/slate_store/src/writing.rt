@@ -1,7 +1,7 @@
 //! Writing whole outputs.
-ghost use Rattle.std.specs.Prelude.{◌≡◌, ℕ, ◌≤◌, length, take, OnOk, OnErr};
+ghost use Rattle.std.specs.Prelude.{ℕ, ◌≤◌, length, take, OnOk, OnErr};
 ghost use Rattle.std.specs.Io.KnownBytes.{Appends};
-ghost use Rattle.slate_store.specs.Counts.{CountsFault};
+ghost use Rattle.slate_store.specs.FaultCounts.{CountsFault};
 
 use crate::sink::{Sink, WriteFault};
 

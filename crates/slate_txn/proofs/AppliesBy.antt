@@ -5,15 +5,15 @@ use denote.Ref.{Bor}
 use Rattle.slate_ids.specs.Answers.{Gives, OrMemory, OrMemory-map, ran_out, is_memory}
 use Rattle.slate_ids.specs.declared.error.SlateDBError.{SlateDBError}
 use Rattle.slate_ids.specs.declared.error.SlateDBError.TheVariants.{Fenced}
-use Rattle.slate_store.specs.Calls.{Told}
+use Rattle.slate_store.specs.StoreCalls.{Told}
 use Rattle.slate_store.specs.Machines.{Stay, End}
 use Rattle.slate_store.specs.declared.store_answer.StoreAnswer.{StoreAnswer}
-use Rattle.slate_log.specs.Change.{wanted}
-use Rattle.slate_log.specs.CommitPhase.{prepared}
-use Rattle.slate_log.specs.Fence.{fence, unless}
-use Rattle.slate_log.specs.ReadPhase.{read_goes, Reply}
-use Rattle.slate_log.specs.declared.commit_phase.CommitPhase.{CommitPhase}
-use Rattle.slate_log.specs.declared.right.Right.{Right}
+use Rattle.slate_txn_log.specs.Change.{wanted}
+use Rattle.slate_txn_log.specs.CommitPhase.{prepared}
+use Rattle.slate_txn_log.specs.Fence.{fence, unless}
+use Rattle.slate_txn_log.specs.ReadPhase.{read_goes, Reply}
+use Rattle.slate_txn_log.specs.declared.commit_phase.CommitPhase.{CommitPhase}
+use Rattle.slate_txn_log.specs.declared.right.Right.{Right}
 use Rattle.slate_txn.proofs.Moves.{ran_of, began_of, ran_more, began_more}
 use Rattle.slate_txn.specs.Apply.{ApplyGoes, Applies, Begins, ApplyStopped, apply_goes, ways_of, renews, read_on, begun}
 use Rattle.slate_txn.specs.ApplyMoves.{RenewedBy, MayWays, ways_by, RenewsBy, ReadMoves, ApplyMoves, AppliedBy, ApplyBeganBy, BeginsBy, ApplyStoppedBy, AppliesBy, MaybeBy}

@@ -3,27 +3,27 @@ use Rattle.std.specs.Prelude.{◌≡◌, ◌≢◌, ◌+◌, ◌==◌, ℕ, Bool
 use Rattle.std.proofs.Common.{◌⊎◌, inl, inr, ap, sym, subst}
 use Rattle.slate_ids.specs.Answers.{is_conflict}
 use Rattle.slate_ids.specs.Limits.{last_number}
-use Rattle.slate_store.specs.Calls.{IsAnswerTo}
+use Rattle.slate_store.specs.StoreCalls.{IsAnswerTo}
 use Rattle.slate_ids.specs.declared.error.SlateDBError.{SlateDBError}
 use Rattle.slate_ids.specs.declared.error.SlateDBError.TheVariants.{StoreFault, Exhausted, LatestTransactionalObjectVersionMissing}
 use Rattle.slate_store.specs.Machines.{Goes, Stay, End, IsEnd}
 use Rattle.slate_store.specs.declared.store_answer.StoreAnswer.{StoreAnswer}
 use Rattle.slate_store.specs.declared.store_answer.StoreAnswer.TheVariants.{Fault}
 use Rattle.slate_txn.specs.Apply.{Ways, FaultFree, renews, begun, read_on, commit_on, apply_asks, apply_goes, state_due}
-use Rattle.slate_log.specs.Change.{wanted, some_commit}
-use Rattle.slate_log.specs.CommitPhase.{commit_goes, commit_due, prepared, checked_commit, encoded_commit}
-use Rattle.slate_log.proofs.Commits.{commit_faults}
-use Rattle.slate_log.proofs.Faults.{OnlyFaults, Fine, fine_stay, fine_ok, fine_err}
+use Rattle.slate_txn_log.specs.Change.{wanted, some_commit}
+use Rattle.slate_txn_log.specs.CommitPhase.{commit_goes, commit_due, prepared, checked_commit, encoded_commit}
+use Rattle.slate_txn_log.proofs.Commits.{commit_faults}
+use Rattle.slate_txn_log.proofs.Faults.{OnlyFaults, Fine, fine_stay, fine_ok, fine_err}
 use Rattle.slate_txn.specs.Holder.{Holder, at_version}
-use Rattle.slate_log.specs.ReadPhase.{read_goes, read_due, Reply}
-use Rattle.slate_log.proofs.ReadFaults.{read_faults}
+use Rattle.slate_txn_log.specs.ReadPhase.{read_goes, read_due, Reply}
+use Rattle.slate_txn_log.proofs.ReadFaults.{read_faults}
 use Rattle.slate_txn.specs.declared.apply.ApplyPhase.{ApplyPhase}
 use Rattle.slate_txn.specs.declared.apply.ApplyPhase.TheVariants.{Reading, Committing}
-use Rattle.slate_log.specs.declared.commit_phase.CommitPhase.{CommitPhase}
-use Rattle.slate_log.specs.declared.commit_phase.CommitPhase.TheVariants.{Putting, Bounding, Over as CommitOver}
-use Rattle.slate_log.specs.declared.read_phase.ReadPhase.{ReadPhase}
-use Rattle.slate_log.specs.declared.read_phase.ReadPhase.TheVariants.{Listing, Getting, Bounding as BoundingRead, Over}
-use Rattle.slate_log.specs.declared.right.Right.{Right}
+use Rattle.slate_txn_log.specs.declared.commit_phase.CommitPhase.{CommitPhase}
+use Rattle.slate_txn_log.specs.declared.commit_phase.CommitPhase.TheVariants.{Putting, Bounding, Over as CommitOver}
+use Rattle.slate_txn_log.specs.declared.read_phase.ReadPhase.{ReadPhase}
+use Rattle.slate_txn_log.specs.declared.read_phase.ReadPhase.TheVariants.{Listing, Getting, Bounding as BoundingRead, Over}
+use Rattle.slate_txn_log.specs.declared.right.Right.{Right}
 
 -- a commit that is made is due
 abbrev pub Due : {T : Type 0} → Result (Option (CommitPhase T)) SlateDBError → Type 0

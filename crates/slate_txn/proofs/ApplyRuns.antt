@@ -3,14 +3,14 @@ use Rattle.std.specs.Prelude.{◌≡◌, true, refl}
 use Rattle.slate_store.specs.declared.step.Step.{Step}
 use Rattle.slate_store.specs.declared.step.Step.TheVariants.{Again, Done}
 use Rattle.slate_txn.specs.Apply.{apply_asks, is_reading_phase}
-use Rattle.slate_log.specs.CommitPhase.{commit_due, is_putting}
-use Rattle.slate_log.specs.Due.{WhereOut}
+use Rattle.slate_txn_log.specs.CommitPhase.{commit_due, is_putting}
+use Rattle.slate_txn_log.specs.Due.{WhereOut}
 use Rattle.slate_txn.specs.Holder.{Holder}
-use Rattle.slate_log.proofs.Steps.{reads_only, is_reading}
+use Rattle.slate_txn_log.proofs.Steps.{reads_only, is_reading}
 use Rattle.slate_txn.specs.declared.apply.ApplyPhase.{ApplyPhase}
 use Rattle.slate_txn.specs.declared.apply.ApplyPhase.TheVariants.{Reading, Committing}
-use Rattle.slate_log.specs.declared.commit_phase.CommitPhase.{CommitPhase}
-use Rattle.slate_log.specs.declared.commit_phase.CommitPhase.TheVariants.{Putting, Bounding, Over}
+use Rattle.slate_txn_log.specs.declared.commit_phase.CommitPhase.{CommitPhase}
+use Rattle.slate_txn_log.specs.declared.commit_phase.CommitPhase.TheVariants.{Putting, Bounding, Over}
 
 -- a put that is due is a call that is due
 pub putting_due : {T : Type 0} (commit : CommitPhase T) → is_putting commit ≡ true → commit_due commit ≡ true

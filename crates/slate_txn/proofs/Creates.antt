@@ -2,7 +2,7 @@
 use Rattle.std.specs.Prelude.{◌≡◌, ℕ, Result, Ok, Err, refl}
 use Rattle.slate_ids.specs.Answers.{ran_out}
 use Rattle.slate_ids.specs.declared.error.SlateDBError.{SlateDBError}
-use Rattle.slate_log.specs.declared.sequenced.Sequenced.{Sequenced}
+use Rattle.slate_txn_log.specs.declared.sequenced.Sequenced.{Sequenced}
 use Rattle.slate_txn.specs.Creating.{created}
 use Rattle.slate_txn.proofs.Standing.{Leaves}
 

@@ -3,21 +3,21 @@ use Rattle.std.proofs.Common.{◌≡◌, ℤ, ℕ, Bool, true, false, List, [], 
 use Rattle.slate_ids.specs.Answers.{ran_out, is_conflict}
 use Rattle.slate_ids.specs.declared.error.SlateDBError.{SlateDBError}
 use Rattle.slate_ids.specs.declared.error.SlateDBError.TheVariants.{Contended, Fenced, LatestTransactionalObjectVersionMissing}
-use Rattle.slate_store.specs.Calls.{Told, Makes, IsAnswerTo, moment_of}
+use Rattle.slate_store.specs.StoreCalls.{Told, Makes, IsAnswerTo, moment_of}
 use Rattle.slate_store.specs.Machines.{Goes, Stay, End}
 use Rattle.slate_store.specs.declared.store_answer.StoreAnswer.{StoreAnswer}
 use Rattle.slate_store.specs.declared.store_call.StoreCall.{StoreCall}
-use Rattle.slate_log.specs.CommitPhase.{commit_goes, prepared}
-use Rattle.slate_log.specs.ReadPhase.{read_goes, Reply}
-use Rattle.slate_log.specs.declared.commit_phase.CommitPhase.{CommitPhase}
-use Rattle.slate_log.specs.declared.read_phase.ReadPhase.TheVariants.{Listing}
+use Rattle.slate_txn_log.specs.CommitPhase.{commit_goes, prepared}
+use Rattle.slate_txn_log.specs.ReadPhase.{read_goes, Reply}
+use Rattle.slate_txn_log.specs.declared.commit_phase.CommitPhase.{CommitPhase}
+use Rattle.slate_txn_log.specs.declared.read_phase.ReadPhase.TheVariants.{Listing}
 use Rattle.slate_txn.proofs.Fences.{Free, commit_free, read_free}
 use Rattle.slate_txn.proofs.AppliesBy.{ByMade, renews_made}
 use Rattle.slate_txn.specs.Apply.{ApplyState, ApplyGoes, apply_asks, begun, commit_on, ways_of}
 use Rattle.slate_txn.specs.ApplyMoves.{MayWays, ways_by, RenewsBy, ReadMoves, ApplyMoves, BeginsBy, AppliesBy}
-use Rattle.slate_log.specs.Change.{wanted}
+use Rattle.slate_txn_log.specs.Change.{wanted}
 use Rattle.slate_txn.specs.FencedApplying.{FenceFree, FencedMay, Unfenced, UnlessMay}
-use Rattle.slate_log.specs.Fence.{fence}
+use Rattle.slate_txn_log.specs.Fence.{fence}
 use Rattle.slate_txn.specs.Fencing.{FencedOnly, NotFenced}
 use Rattle.slate_txn.specs.Holder.{Holder, at_version}
 use Rattle.slate_txn.specs.Moves.{Move, RunBy}

@@ -4,16 +4,16 @@ use Rattle.std.specs.Prelude.{nat_lt}
 use Rattle.slate_ids.specs.Answers.{refused}
 use Rattle.slate_ids.specs.declared.error.SlateDBError.{SlateDBError}
 use Rattle.slate_ids.specs.declared.error.SlateDBError.TheVariants.{Fenced, StoreFault}
-use Rattle.slate_store.specs.Calls.{Told}
+use Rattle.slate_store.specs.StoreCalls.{Told}
 use Rattle.slate_store.specs.Machines.{Steps}
 use Rattle.slate_store.specs.declared.step.Step.{Step}
 use Rattle.slate_store.specs.declared.step.Step.TheVariants.{Again, Done}
-use Rattle.slate_log.specs.Due.{FaultOf, FaultRose}
-use Rattle.slate_log.specs.declared.read_phase.ReadPhase.{ReadPhase}
+use Rattle.slate_txn_log.specs.Due.{FaultOf, FaultRose}
+use Rattle.slate_txn_log.specs.declared.read_phase.ReadPhase.{ReadPhase}
 use Rattle.slate_txn.specs.FencedHolder.{FencedHolder, state_within}
 use Rattle.slate_txn.specs.FencedRefreshing.{FencedRefreshed, fence_after, fence_after_step, fence_within, fenced_refresh_goes}
 use Rattle.slate_txn.specs.Fencing.{held_fence, FencedOnly, FencedStep, NotFenced, NotFencedStep}
-use Rattle.slate_log.specs.Fence.{fence}
+use Rattle.slate_txn_log.specs.Fence.{fence}
 use Rattle.slate_txn.specs.Holder.{Holder}
 use Rattle.slate_txn.specs.Refreshing.{Refreshes, refresh_asks, refresh_goes}
 

@@ -3,19 +3,19 @@ use Rattle.std.proofs.Common.{◌≡◌, ◌≢◌, ℤ, ℕ, true, false, Resul
 use Rattle.slate_ids.specs.Answers.{OrMemory, ran_out}
 use Rattle.slate_ids.specs.declared.error.SlateDBError.{SlateDBError}
 use Rattle.slate_ids.specs.declared.error.SlateDBError.TheVariants.{Fenced}
-use Rattle.slate_store.specs.Calls.{Told}
+use Rattle.slate_store.specs.StoreCalls.{Told}
 use Rattle.slate_store.specs.Machines.{Goes, Stay, End}
 use Rattle.slate_store.specs.declared.step.Step.{Step}
 use Rattle.slate_store.specs.declared.step.Step.TheVariants.{Again, Done}
 use Rattle.slate_txn.proofs.Fences.{Free, ran_free, commit_free}
-use Rattle.slate_log.specs.CommitPhase.{commit_goes}
-use Rattle.slate_log.specs.Commit.{Committed}
+use Rattle.slate_txn_log.specs.CommitPhase.{commit_goes}
+use Rattle.slate_txn_log.specs.Commit.{Committed}
 use Rattle.slate_txn.specs.FencedHolder.{FencedHolder, state_within}
 use Rattle.slate_txn.specs.FencedUpdating.{FencedUpdateSteps, goes_within}
 use Rattle.slate_txn.specs.Fencing.{NotFenced, NotFencedStep}
 use Rattle.slate_txn.specs.Holder.{Holder}
 use Rattle.slate_txn.specs.Updating.{Updated, UpdateBegan, UpdateState, UpdateSteps, done_of, held_goes, update_due}
-use Rattle.slate_log.specs.declared.commit_phase.CommitPhase.{CommitPhase}
+use Rattle.slate_txn_log.specs.declared.commit_phase.CommitPhase.{CommitPhase}
 use Rattle.slate_txn.specs.declared.update.UpdateMachine.{UpdateMachine}
 use Rattle.slate_txn.specs.declared.update.UpdateMachine.TheVariants.{Refused, Nothing, Committing}
 

@@ -5,9 +5,9 @@ use Rattle.slate_ids.specs.Answers.{ran_out}
 use Rattle.slate_ids.specs.declared.error.FormatName.TheVariants.{Boundary as BoundaryFormat}
 use Rattle.slate_ids.specs.declared.error.SlateDBError.{SlateDBError}
 use Rattle.slate_ids.specs.declared.error.SlateDBError.TheVariants.{Contended, Corrupt, Fenced, StoreFault, TransactionalObjectVersionExists}
-use Rattle.slate_store.specs.Calls.{Told, Makes, IsAnswerTo, moment_of}
+use Rattle.slate_store.specs.StoreCalls.{Told, Makes, IsAnswerTo, moment_of}
 use Rattle.slate_store.specs.Machines.{Goes, Stay, End, Steps}
-use Rattle.slate_store.specs.Runs.{Run, Ran}
+use Rattle.slate_store.specs.CallRuns.{Run, Ran}
 use Rattle.slate_store.specs.declared.made.Made.{Made}
 use Rattle.slate_store.specs.declared.object.StoredObject.{StoredObject}
 use Rattle.slate_store.specs.declared.step.Step.{Step}
@@ -15,17 +15,17 @@ use Rattle.slate_store.specs.declared.step.Step.TheVariants.{Again, Done}
 use Rattle.slate_store.specs.declared.store_answer.StoreAnswer.{StoreAnswer}
 use Rattle.slate_store.specs.declared.store_answer.StoreAnswer.TheVariants.{Found, Got, Created, Fault}
 use Rattle.slate_store.specs.declared.store_call.StoreCall.{StoreCall}
-use Rattle.slate_log.specs.Boundary.{boundary_got, greatest}
-use Rattle.slate_log.specs.CommitPhase.{commit_asks, commit_goes, created_goes, bounded_goes}
-use Rattle.slate_log.proofs.Faults.{list_answers, get_answers, create_answers}
+use Rattle.slate_txn_log.specs.Boundary.{boundary_got, greatest}
+use Rattle.slate_txn_log.specs.CommitPhase.{commit_asks, commit_goes, created_goes, bounded_goes}
+use Rattle.slate_txn_log.proofs.Faults.{list_answers, get_answers, create_answers}
 use Rattle.slate_txn.specs.Fencing.{NoFence, NotFenced, NotFencedStep}
-use Rattle.slate_log.specs.LogPaths.{version_path, boundary_path, folder}
-use Rattle.slate_log.specs.ReadPhase.{read_asks, read_goes, listed_goes, decoded_goes, got_goes, boundary_goes}
-use Rattle.slate_log.specs.declared.commit_phase.CommitPhase.{CommitPhase}
-use Rattle.slate_log.specs.declared.commit_phase.CommitPhase.TheVariants.{Putting, Bounding as BoundingCommit, Over as CommitOver}
-use Rattle.slate_log.specs.declared.log_kind.LogKind.{LogKind}
-use Rattle.slate_log.specs.declared.read_phase.ReadPhase.{ReadPhase}
-use Rattle.slate_log.specs.declared.read_phase.ReadPhase.TheVariants.{Listing, Getting, Bounding, Over}
+use Rattle.slate_txn_log.specs.LogPaths.{version_path, boundary_path, folder}
+use Rattle.slate_txn_log.specs.ReadPhase.{read_asks, read_goes, listed_goes, decoded_goes, got_goes, boundary_goes}
+use Rattle.slate_txn_log.specs.declared.commit_phase.CommitPhase.{CommitPhase}
+use Rattle.slate_txn_log.specs.declared.commit_phase.CommitPhase.TheVariants.{Putting, Bounding as BoundingCommit, Over as CommitOver}
+use Rattle.slate_txn_log.specs.declared.log_kind.LogKind.{LogKind}
+use Rattle.slate_txn_log.specs.declared.read_phase.ReadPhase.{ReadPhase}
+use Rattle.slate_txn_log.specs.declared.read_phase.ReadPhase.TheVariants.{Listing, Getting, Bounding, Over}
 
 -- it doesn't end in a fence
 pub record Free {P R : Type 0} (out : Goes P R) : Type 0 where

@@ -3,15 +3,15 @@ use Rattle.std.specs.Prelude.{◌≡◌, ℕ, ℤ, List, Option, Result, Ok, Err
 use Rattle.std.proofs.Common.{inl, inr, ap}
 use Rattle.slate_ids.specs.Answers.{ran_out, is_memory}
 use Rattle.slate_ids.specs.declared.error.SlateDBError.{SlateDBError}
-use Rattle.slate_store.specs.Calls.{Told}
+use Rattle.slate_store.specs.StoreCalls.{Told}
 use Rattle.slate_store.specs.Machines.{Held}
 use Rattle.slate_store.specs.declared.step.Step.{Step}
 use Rattle.slate_store.specs.declared.step.Step.TheVariants.{Again, Done}
-use Rattle.slate_log.specs.ReadPhase.{read_asks}
+use Rattle.slate_txn_log.specs.ReadPhase.{read_asks}
 use Rattle.slate_txn.specs.declared.load.TryLoadMachine.{TryLoadMachine}
 use Rattle.slate_txn.specs.declared.load.TryLoadMachine.TheVariants.{Reading, Over}
-use Rattle.slate_log.specs.declared.read_phase.ReadPhase.{ReadPhase}
-use Rattle.slate_log.specs.declared.sequenced.Sequenced.{Sequenced}
+use Rattle.slate_txn_log.specs.declared.read_phase.ReadPhase.{ReadPhase}
+use Rattle.slate_txn_log.specs.declared.sequenced.Sequenced.{Sequenced}
 use Rattle.slate_txn.specs.Holder.{Holder}
 use Rattle.slate_txn.specs.Loading.{TryLoadSteps, LoadSteps, found, found_goes, found_step}
 

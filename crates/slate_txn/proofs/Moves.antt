@@ -4,16 +4,16 @@ use Rattle.std.proofs.Common.{sym, subst, ap, arith, inl, inr, ◌∙◌}
 use Rattle.slate_ids.specs.Answers.{OrMemory, OrMemory-map}
 use Rattle.slate_ids.specs.declared.error.SlateDBError.{SlateDBError}
 use Rattle.slate_ids.specs.declared.error.SlateDBError.TheVariants.{Contended}
-use Rattle.slate_store.specs.Calls.{Told, Makes, moment_of}
+use Rattle.slate_store.specs.StoreCalls.{Told, Makes, moment_of}
 use Rattle.slate_store.specs.Machines.{Goes, Stay, End, Held}
-use Rattle.slate_store.specs.Runs.{one_if, made_by, Run, turns, Ran, Began}
+use Rattle.slate_store.specs.CallRuns.{one_if, made_by, Run, turns, Ran, Began}
 use Rattle.slate_store.specs.declared.made.Made.{Made}
 use Rattle.slate_store.specs.declared.step.Step.{Step}
 use Rattle.slate_store.specs.declared.step.Step.TheVariants.{Again, Done}
 use Rattle.slate_store.specs.declared.store_answer.StoreAnswer.{StoreAnswer}
 use Rattle.slate_store.specs.declared.store_call.StoreCall.{StoreCall}
-use Rattle.slate_log.specs.Due.{WhereOut}
-use Rattle.slate_log.proofs.Steps.{is_reading, reads_keep}
+use Rattle.slate_txn_log.specs.Due.{WhereOut}
+use Rattle.slate_txn_log.proofs.Steps.{is_reading, reads_keep}
 use Rattle.slate_txn.specs.Moves.{SteppedBy, StepsBy, GoesOnBy, Move, RunBy, turns_of, RanBy, BeganBy}
 
 abbrev pub moved : {P R : Type 0} → StoreCall → StoreAnswer → Goes P R → Move P R

@@ -6,25 +6,25 @@ use Rattle.slate_ids.specs.Answers.{OrMemory, ran_out, is_memory}
 use Rattle.slate_ids.specs.Limits.{next_count}
 use Rattle.slate_ids.specs.declared.error.SlateDBError.{SlateDBError}
 use Rattle.slate_ids.specs.declared.error.SlateDBError.TheVariants.{StoreFault, Contended, LatestTransactionalObjectVersionMissing}
-use Rattle.slate_store.specs.Calls.{Told, Makes, Rose, IsAnswerTo, moment_of, fault_rose}
+use Rattle.slate_store.specs.StoreCalls.{Told, Makes, Rose, IsAnswerTo, moment_of, fault_rose}
 use Rattle.slate_store.specs.Machines.{Goes, Stay, End, IsEnd}
 use Rattle.slate_store.specs.declared.store_answer.StoreAnswer.{StoreAnswer}
 use Rattle.slate_store.specs.declared.store_answer.StoreAnswer.TheVariants.{Fault}
 use Rattle.slate_store.specs.declared.store_call.StoreCall.{StoreCall}
-use Rattle.slate_log.proofs.Commits.{commit_faults}
-use Rattle.slate_log.proofs.Faults.{Fine, fine_stay, fine_err}
-use Rattle.slate_log.proofs.ReadFaults.{read_faults}
-use Rattle.slate_log.specs.CommitPhase.{is_putting}
-use Rattle.slate_log.specs.Due.{FaultOf}
-use Rattle.slate_log.specs.ReadPhase.{read_due, read_goes, Reply}
-use Rattle.slate_log.specs.declared.commit_phase.CommitPhase.{CommitPhase}
-use Rattle.slate_log.specs.declared.read_phase.ReadPhase.{ReadPhase}
-use Rattle.slate_log.specs.declared.read_phase.ReadPhase.TheVariants.{Listing, Getting, Bounding as BoundingRead, Over}
+use Rattle.slate_txn_log.proofs.Commits.{commit_faults}
+use Rattle.slate_txn_log.proofs.Faults.{Fine, fine_stay, fine_err}
+use Rattle.slate_txn_log.proofs.ReadFaults.{read_faults}
+use Rattle.slate_txn_log.specs.CommitPhase.{is_putting}
+use Rattle.slate_txn_log.specs.Due.{FaultOf}
+use Rattle.slate_txn_log.specs.ReadPhase.{read_due, read_goes, Reply}
+use Rattle.slate_txn_log.specs.declared.commit_phase.CommitPhase.{CommitPhase}
+use Rattle.slate_txn_log.specs.declared.read_phase.ReadPhase.{ReadPhase}
+use Rattle.slate_txn_log.specs.declared.read_phase.ReadPhase.TheVariants.{Listing, Getting, Bounding as BoundingRead, Over}
 use Rattle.slate_txn.proofs.ApplyFaults.{Due, due_wanted, fine_begun, sound_commit}
 use Rattle.slate_txn.proofs.ApplyRuns.{putting_due}
 use Rattle.slate_txn.specs.Apply.{FaultFree, ApplyGoes, apply_asks, state_due, ways_of}
 use Rattle.slate_txn.proofs.AppliesBy.{ByMade, Within, renewed_more, renews_made, with_may}
-use Rattle.slate_log.specs.declared.right.Right.{Right}
+use Rattle.slate_txn_log.specs.declared.right.Right.{Right}
 use Rattle.slate_txn.specs.FencedApplying.{FencedMay}
 use Rattle.slate_txn.specs.FencedHolder.{FencedHolder}
 use Rattle.slate_txn.specs.ApplyMoves.{ways_by, MayWays, RenewsBy, ReadMoves, ApplyMoves, AppliedBy, NeverFaults}

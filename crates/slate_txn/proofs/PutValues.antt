@@ -4,18 +4,18 @@ use Rattle.std.specs.Prelude.{nat_le}
 use Rattle.slate_ids.specs.Answers.{ran_out, is_conflict}
 use Rattle.slate_ids.specs.declared.error.SlateDBError.{SlateDBError}
 use Rattle.slate_ids.specs.declared.error.SlateDBError.TheVariants.{TransactionalObjectVersionExists}
-use Rattle.slate_store.specs.Calls.{Told}
+use Rattle.slate_store.specs.StoreCalls.{Told}
 use Rattle.slate_store.specs.Machines.{Goes, Stay, End}
-use Rattle.slate_store.specs.Runs.{Run}
+use Rattle.slate_store.specs.CallRuns.{Run}
 use Rattle.slate_store.specs.declared.made.Made.{Made}
 use Rattle.slate_store.specs.declared.store_answer.StoreAnswer.{StoreAnswer}
 use Rattle.slate_store.specs.declared.store_answer.StoreAnswer.TheVariants.{Found, Got, Created, Replaced, Written, Deleted, Fault}
-use Rattle.slate_log.specs.Boundary.{boundary_got}
-use Rattle.slate_log.specs.CommitPhase.{commit_goes, bounded_goes}
-use Rattle.slate_log.specs.ReadPhase.{read_goes, Reply}
-use Rattle.slate_log.specs.declared.commit_phase.CommitPhase.{CommitPhase}
-use Rattle.slate_log.specs.declared.commit_phase.CommitPhase.TheVariants.{Putting, Bounding, Over}
-use Rattle.slate_log.specs.declared.read_phase.ReadPhase.TheVariants.{Listing}
+use Rattle.slate_txn_log.specs.Boundary.{boundary_got}
+use Rattle.slate_txn_log.specs.CommitPhase.{commit_goes, bounded_goes}
+use Rattle.slate_txn_log.specs.ReadPhase.{read_goes, Reply}
+use Rattle.slate_txn_log.specs.declared.commit_phase.CommitPhase.{CommitPhase}
+use Rattle.slate_txn_log.specs.declared.commit_phase.CommitPhase.TheVariants.{Putting, Bounding, Over}
+use Rattle.slate_txn_log.specs.declared.read_phase.ReadPhase.TheVariants.{Listing}
 use Rattle.slate_txn.specs.Apply.{Ways, ApplyState, ApplyGoes, Applies, Begins, apply_asks, apply_goes, renews, begun, read_on, commit_on}
 use Rattle.slate_txn.specs.Holder.{Holder, at_version}
 use Rattle.slate_txn.specs.declared.apply.ApplyPhase.{ApplyPhase}

@@ -4,15 +4,15 @@ use Rattle.std.specs.Prelude.{OnErr}
 use Rattle.slate_ids.specs.Answers.{OrMemory, ran_out}
 use Rattle.slate_ids.specs.declared.error.SlateDBError.{SlateDBError}
 use Rattle.slate_ids.specs.declared.error.SlateDBError.TheVariants.{Fenced, StoreFault}
-use Rattle.slate_store.specs.Calls.{Told}
+use Rattle.slate_store.specs.StoreCalls.{Told}
 use Rattle.slate_store.specs.Machines.{Steps}
 use Rattle.slate_store.specs.declared.step.Step.{Step}
 use Rattle.slate_store.specs.declared.step.Step.TheVariants.{Again, Done}
-use Rattle.slate_log.specs.Due.{FaultOf, FaultRose, NoFault}
-use Rattle.slate_log.specs.ReadPhase.{read_asks, read_goes}
-use Rattle.slate_log.specs.ReadLatest.{Read, ReadBegan}
-use Rattle.slate_log.specs.declared.read_phase.ReadPhase.{ReadPhase}
-use Rattle.slate_log.specs.declared.sequenced.Sequenced.{Sequenced}
+use Rattle.slate_txn_log.specs.Due.{FaultOf, FaultRose, NoFault}
+use Rattle.slate_txn_log.specs.ReadPhase.{read_asks, read_goes}
+use Rattle.slate_txn_log.specs.ReadLatest.{Read, ReadBegan}
+use Rattle.slate_txn_log.specs.declared.read_phase.ReadPhase.{ReadPhase}
+use Rattle.slate_txn_log.specs.declared.sequenced.Sequenced.{Sequenced}
 use Rattle.slate_txn.proofs.Fences.{ran_free, step_free, read_free}
 use Rattle.slate_txn.specs.Fencing.{NoFence, NotFenced, NotFencedStep}
 use Rattle.slate_txn.specs.Holder.{Holder}

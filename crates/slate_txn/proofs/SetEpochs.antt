@@ -6,11 +6,11 @@ use Rattle.std.proofs.lemmas.Bool.{ltb-true}
 use Rattle.slate_ids.specs.Limits.{last_number}
 use Rattle.slate_ids.specs.declared.error.SlateDBError.{SlateDBError}
 use Rattle.slate_ids.specs.declared.error.SlateDBError.TheVariants.{Exhausted, Fenced}
-use Rattle.slate_store.specs.Calls.{Told}
-use Rattle.slate_log.specs.Change.{wanted, some_commit}
-use Rattle.slate_log.specs.CommitPhase.{prepared, checked_commit, encoded_commit}
-use Rattle.slate_log.specs.Fence.{unless, fence}
-use Rattle.slate_log.specs.declared.right.Right.{Right}
+use Rattle.slate_store.specs.StoreCalls.{Told}
+use Rattle.slate_txn_log.specs.Change.{wanted, some_commit}
+use Rattle.slate_txn_log.specs.CommitPhase.{prepared, checked_commit, encoded_commit}
+use Rattle.slate_txn_log.specs.Fence.{unless, fence}
+use Rattle.slate_txn_log.specs.declared.right.Right.{Right}
 use Rattle.slate_txn.proofs.AppliesBy.{applies_more, computes_fenced}
 use Rattle.slate_txn.proofs.FencedApplies.{applies_fence, unfenced_made}
 use Rattle.slate_txn.proofs.PutValues.{PutsFirst, AlwaysPuts, HoldsSuch, applies_puts}

@@ -5,9 +5,9 @@ use Rattle.slate_ids.specs.Answers.{Gives, OrMemory, ran_out}
 use Rattle.slate_ids.specs.Limits.{last_number}
 use Rattle.slate_ids.specs.declared.error.SlateDBError.{SlateDBError}
 use Rattle.slate_ids.specs.declared.error.SlateDBError.TheVariants.{TransactionalObjectVersionExists, StoreFault}
-use Rattle.slate_store.specs.Calls.{Told, Makes, Answers, contents_after, moment_of}
+use Rattle.slate_store.specs.StoreCalls.{Told, Makes, Answers, contents_after, moment_of}
 use Rattle.slate_store.specs.Machines.{Goes, Stay, End}
-use Rattle.slate_store.specs.Runs.{Run, turns, one_if}
+use Rattle.slate_store.specs.CallRuns.{Run, turns, one_if}
 use Rattle.slate_store.specs.Store.{Store, Outcome, put_new, under, writes, object_at, whole}
 use Rattle.slate_store.specs.declared.made.Made.{Made}
 use Rattle.slate_store.specs.declared.mark.Mark.{Mark}
@@ -18,14 +18,14 @@ use Rattle.slate_store.specs.declared.store_answer.StoreAnswer.TheVariants.{Foun
 use Rattle.slate_store.specs.declared.store_call.StoreCall.{StoreCall}
 use Rattle.slate_store.specs.declared.store_call.StoreCall.TheVariants.{PutNew, Get}
 use Rattle.slate_ids.specs.declared.object_path.ObjectPath.{ObjectPath}
-use Rattle.slate_log.proofs.Steps.{reads_keep}
-use Rattle.slate_log.specs.Boundary.{boundary_got}
-use Rattle.slate_log.specs.CommitPhase.{commit_asks, commit_goes, bounded_goes, is_putting}
-use Rattle.slate_log.specs.Commit.{Committed, CommitBegan, never}
-use Rattle.slate_log.specs.LogPaths.{version_path, boundary_path}
-use Rattle.slate_log.specs.declared.commit_phase.CommitPhase.{CommitPhase}
-use Rattle.slate_log.specs.declared.commit_phase.CommitPhase.TheVariants.{Putting, Bounding, Over}
-use Rattle.slate_log.specs.declared.log_kind.LogKind.{LogKind}
+use Rattle.slate_txn_log.proofs.Steps.{reads_keep}
+use Rattle.slate_txn_log.specs.Boundary.{boundary_got}
+use Rattle.slate_txn_log.specs.CommitPhase.{commit_asks, commit_goes, bounded_goes, is_putting}
+use Rattle.slate_txn_log.specs.Commit.{Committed, CommitBegan, never}
+use Rattle.slate_txn_log.specs.LogPaths.{version_path, boundary_path}
+use Rattle.slate_txn_log.specs.declared.commit_phase.CommitPhase.{CommitPhase}
+use Rattle.slate_txn_log.specs.declared.commit_phase.CommitPhase.TheVariants.{Putting, Bounding, Over}
+use Rattle.slate_txn_log.specs.declared.log_kind.LogKind.{LogKind}
 use Rattle.slate_txn.specs.Holder.{Holder}
 use Rattle.slate_txn.specs.Standing.{SameContents, PutStands, CommitStands, after_put, may_stand, UpdateStands}
 use Rattle.slate_txn.specs.Updating.{done_of}

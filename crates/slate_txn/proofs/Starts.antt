@@ -3,10 +3,10 @@ use Rattle.std.specs.Prelude.{◌≡◌, ℕ, ℤ, List, true, false, Result, Ok
 use Rattle.std.proofs.Common.{inl, inr, sym, subst, ap, ◌∙◌}
 use Rattle.slate_ids.specs.Answers.{Gives, OrMemory, ran_out}
 use Rattle.slate_ids.specs.declared.error.SlateDBError.{SlateDBError}
-use Rattle.slate_store.specs.Calls.{Told}
-use Rattle.slate_log.specs.Commit.{Committed, CommitBegan}
-use Rattle.slate_log.specs.declared.commit_phase.CommitPhase.{CommitPhase}
-use Rattle.slate_log.specs.declared.log_kind.LogKind.{LogKind}
+use Rattle.slate_store.specs.StoreCalls.{Told}
+use Rattle.slate_txn_log.specs.Commit.{Committed, CommitBegan}
+use Rattle.slate_txn_log.specs.declared.commit_phase.CommitPhase.{CommitPhase}
+use Rattle.slate_txn_log.specs.declared.log_kind.LogKind.{LogKind}
 use Rattle.slate_txn.specs.Starts.{Starts, StartRan}
 
 -- a commit that began and ran is a whole one

@@ -4,15 +4,15 @@ use Rattle.std.proofs.Common.{inl, inr, sym, subst, ap}
 use Rattle.slate_ids.specs.Answers.{Gives, OrMemory, ran_out}
 use Rattle.slate_store.specs.declared.store_call.StoreCall.{StoreCall}
 use Rattle.slate_ids.specs.declared.error.SlateDBError.{SlateDBError}
-use Rattle.slate_store.specs.Calls.{Told}
+use Rattle.slate_store.specs.StoreCalls.{Told}
 use Rattle.slate_store.specs.Machines.{Steps}
 use Rattle.slate_store.specs.declared.step.Step.{Step}
 use Rattle.slate_store.specs.declared.step.Step.TheVariants.{Again, Done}
-use Rattle.slate_log.specs.CommitPhase.{commit_asks, commit_goes}
-use Rattle.slate_log.specs.Commit.{Committed, CommitBegan}
+use Rattle.slate_txn_log.specs.CommitPhase.{commit_asks, commit_goes}
+use Rattle.slate_txn_log.specs.Commit.{Committed, CommitBegan}
 use Rattle.slate_txn.proofs.Starts.{started_ran}
 use Rattle.slate_txn.specs.Holder.{Holder}
-use Rattle.slate_log.specs.declared.commit_phase.CommitPhase.{CommitPhase}
+use Rattle.slate_txn_log.specs.declared.commit_phase.CommitPhase.{CommitPhase}
 use Rattle.slate_txn.specs.declared.update.UpdateMachine.{UpdateMachine}
 use Rattle.slate_txn.specs.declared.update.UpdateMachine.TheVariants.{Committing}
 use Rattle.slate_txn.specs.Updating.{done_of, Updated, UpdateBegan, UpdateState, held_goes, update_goes, UpdateSteps, done_step, held_by}

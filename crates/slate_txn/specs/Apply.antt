@@ -3,22 +3,23 @@ use Rattle.std.specs.Prelude.{◌≡◌, ◌≢◌, ℤ, ℕ, ◌+◌, ◌<◌, 
 use Rattle.slate_ids.specs.Answers.{is_conflict, OrMemory}
 use Rattle.slate_ids.specs.declared.error.SlateDBError.{SlateDBError}
 use Rattle.slate_ids.specs.declared.error.SlateDBError.TheVariants.{LatestTransactionalObjectVersionMissing, StoreFault}
-use Rattle.slate_store.specs.Calls.{Told}
-use Rattle.slate_store.specs.Machines.{Goes, Stay, End}
-use Rattle.slate_store.specs.Runs.{Ran, Began}
+use Rattle.slate_store.specs.StoreCalls.{Told}
+use Rattle.slate_store.specs.Machines.{Goes, Stay, End, Steps}
+use Rattle.slate_store.specs.CallRuns.{Ran, Began}
 use Rattle.slate_store.specs.declared.store_call.StoreCall.{StoreCall}
+use Rattle.slate_store.specs.declared.step.Step.{Step}
 use Rattle.slate_store.specs.declared.store_answer.StoreAnswer.{StoreAnswer}
-use Rattle.slate_log.specs.Change.{renewed}
-use Rattle.slate_log.specs.CommitPhase.{commit_asks, commit_goes, commit_due, commit_rank}
-use Rattle.slate_log.specs.Due.{NoFault}
+use Rattle.slate_txn_log.specs.Change.{renewed}
+use Rattle.slate_txn_log.specs.CommitPhase.{commit_asks, commit_goes, commit_due, commit_rank}
+use Rattle.slate_txn_log.specs.Due.{NoFault}
 use Rattle.slate_txn.specs.Holder.{Holder, at_version}
-use Rattle.slate_log.specs.ReadPhase.{read_asks, read_goes, read_due, is_listing, rank}
+use Rattle.slate_txn_log.specs.ReadPhase.{read_asks, read_goes, read_due, is_listing, rank}
 use Rattle.slate_txn.specs.declared.apply.ApplyPhase.{ApplyPhase}
 use Rattle.slate_txn.specs.declared.apply.ApplyPhase.TheVariants.{Reading, Committing}
-use Rattle.slate_log.specs.declared.commit_phase.CommitPhase.{CommitPhase}
-use Rattle.slate_log.specs.declared.read_phase.ReadPhase.{ReadPhase}
-use Rattle.slate_log.specs.declared.read_phase.ReadPhase.TheVariants.{Listing}
-use Rattle.slate_log.specs.declared.right.Right.{Right}
+use Rattle.slate_txn_log.specs.declared.commit_phase.CommitPhase.{CommitPhase}
+use Rattle.slate_txn_log.specs.declared.read_phase.ReadPhase.{ReadPhase}
+use Rattle.slate_txn_log.specs.declared.read_phase.ReadPhase.TheVariants.{Listing}
+use Rattle.slate_txn_log.specs.declared.right.Right.{Right}
 
 -- the phase and the holder
 abbrev pub ApplyState : Type 0 → Type 0 → Type 0 → Type 0
@@ -42,7 +43,8 @@ pub record Ways (T C R : Type 0) : Type 0 where
   pub right : Right
 
 -- the ways of a holder that commits by a change under a right
-abbrev pub ways_of : {T C R : Type 0} → (C → List ℕ → Result T SlateDBError) → (C → T → Result (List ℕ) SlateDBError) → (R → ℕ → T → T → Right → Option SlateDBError) → (ℕ → T → Result (Option T) SlateDBError) → Right → Ways T C R
+abbrev pub ways_of : {T C R : Type 0} → (C → List ℕ → Result T SlateDBError) → (C → T → Result (List ℕ) SlateDBError)
+    → (R → ℕ → T → T → Right → Option SlateDBError) → (ℕ → T → Result (Option T) SlateDBError) → Right → Ways T C R
 ways_of decoded encoded refusal changed right = record { decoded = decoded; encoded = encoded; refusal = refusal; changed = changed; right = right }
 
 -- the commit of what the change makes of a version of this holder's log
@@ -72,6 +74,10 @@ commit_on holder (End commit (Err e)) = if is_conflict e then Stay (Reading List
 abbrev pub apply_goes : {T C R : Type 0} → Ways T C R → ApplyState T C R → StoreAnswer → ApplyGoes T C R
 apply_goes ways (Reading read, holder) answer = read_on holder (renews ways holder) (read_goes holder.sequenced.log (ways.decoded holder.sequenced.codec) read answer)
 apply_goes ways (Committing commit, holder) answer = commit_on holder (commit_goes commit answer)
+
+-- what next does, by these ways at a moment
+abbrev pub ApplySteps : {T C R : Type 0} → Ways T C R → ℤ → Told → Told → ApplyState T C R → ApplyState T C R → Step (Unit {0}) → Type 0
+ApplySteps ways moment old new from to step = Steps old new (apply_asks from) moment (apply_goes ways from) from to step
 
 -- whether a call is due
 abbrev pub apply_due : {T : Type 0} → ApplyPhase T → Bool

@@ -3,16 +3,16 @@ use Rattle.std.specs.Prelude.{◌≡◌, ◌≢◌, ◌⊎◌, ℤ, ℕ, false, 
 use Rattle.slate_ids.specs.Answers.{OrMemory, ran_out}
 use Rattle.slate_ids.specs.declared.error.SlateDBError.{SlateDBError}
 use Rattle.slate_ids.specs.declared.error.SlateDBError.TheVariants.{LatestTransactionalObjectVersionMissing, StoreFault}
-use Rattle.slate_store.specs.Calls.{Told}
+use Rattle.slate_store.specs.StoreCalls.{Told}
 use Rattle.slate_store.specs.Machines.{Goes, Stay, End}
 use Rattle.slate_store.specs.declared.store_answer.StoreAnswer.{StoreAnswer}
-use Rattle.slate_log.specs.Change.{wanted}
-use Rattle.slate_log.specs.CommitPhase.{commit_goes, prepared}
-use Rattle.slate_log.specs.Due.{NoFault}
-use Rattle.slate_log.specs.ReadPhase.{read_goes}
-use Rattle.slate_log.specs.declared.commit_phase.CommitPhase.{CommitPhase}
-use Rattle.slate_log.specs.declared.read_phase.ReadPhase.{ReadPhase}
-use Rattle.slate_log.specs.declared.right.Right.{Right}
+use Rattle.slate_txn_log.specs.Change.{wanted}
+use Rattle.slate_txn_log.specs.CommitPhase.{commit_goes, prepared}
+use Rattle.slate_txn_log.specs.Due.{NoFault}
+use Rattle.slate_txn_log.specs.ReadPhase.{read_goes}
+use Rattle.slate_txn_log.specs.declared.commit_phase.CommitPhase.{CommitPhase}
+use Rattle.slate_txn_log.specs.declared.read_phase.ReadPhase.{ReadPhase}
+use Rattle.slate_txn_log.specs.declared.right.Right.{Right}
 use Rattle.slate_txn.specs.Apply.{ApplyState, ApplyGoes, apply_asks, apply_starts, begun, commit_on}
 use Rattle.slate_txn.specs.Holder.{Holder, at_version}
 use Rattle.slate_txn.specs.Moves.{RanBy, BeganBy}
@@ -22,7 +22,9 @@ use Rattle.slate_txn.specs.declared.apply.ApplyPhase.TheVariants.{Reading, Commi
 use Rattle.slate_txn.specs.declared.update.UpdateMachine.{UpdateMachine}
 
 -- a function gave an answer that it may give of this version, and this is the commit of it: none where it made nothing, and its refusal where it refused
-pub record RenewedBy {T : Type 0} (may : ℕ → T → Result (Option T) SlateDBError → Type 0) (refusal : ℕ → T → T → Right → Option SlateDBError) (encoded : T → Result (List ℕ) SlateDBError) (right : Right) (id : ℕ) (value : T) (start : Result (Option (CommitPhase T)) SlateDBError) : Type 0 where
+pub record RenewedBy {T : Type 0} (may : ℕ → T → Result (Option T) SlateDBError → Type 0) (refusal : ℕ → T → T → Right → Option SlateDBError)
+    (encoded : T → Result (List ℕ) SlateDBError) (right : Right) (id : ℕ) (value : T)
+    (start : Result (Option (CommitPhase T)) SlateDBError) : Type 0 where
   pub reply : Result (Option T) SlateDBError
   pub given : may id value reply
   pub enough : ran_out reply ≡ false
@@ -37,7 +39,8 @@ pub record MayWays (T C R : Type 0) : Type 1 where
   pub right : Right
 
 -- the ways of a holder that commits under a right what a function may answer
-abbrev pub ways_by : {T C R : Type 0} → (C → List ℕ → Result T SlateDBError) → (C → T → Result (List ℕ) SlateDBError) → (R → ℕ → T → T → Right → Option SlateDBError) → (ℕ → T → Result (Option T) SlateDBError → Type 0) → Right → MayWays T C R
+abbrev pub ways_by : {T C R : Type 0} → (C → List ℕ → Result T SlateDBError) → (C → T → Result (List ℕ) SlateDBError)
+    → (R → ℕ → T → T → Right → Option SlateDBError) → (ℕ → T → Result (Option T) SlateDBError → Type 0) → Right → MayWays T C R
 ways_by decoded encoded refusal may right = record { decoded = decoded; encoded = encoded; refusal = refusal; may = may; right = right }
 
 -- a commit of what the function may answer of a version of this holder's log
@@ -67,6 +70,11 @@ abbrev pub ApplyBeganBy : {T C R : Type 0} → MayWays T C R → ℤ → ℕ →
 ApplyBeganBy ways moment tries old new commit from to =
     (phase : ApplyPhase _) × BeganBy apply_starts apply_asks (ApplyMoves ways) moment tries old new (Committing commit, from) (phase, to)
 
+-- from this commit a plain call ran to its end, or memory ran out in it
+abbrev pub DrivenBy : {T C R : Type 0} → MayWays T C R → ℤ → ℕ → Told → Told → CommitPhase T → Holder T C R → Holder T C R → Result (Unit {0}) SlateDBError → Type 0
+DrivenBy ways moment tries old new commit from to result =
+    OrMemory result (ApplyBeganBy ways moment tries old new commit from to) (AppliedBy ways moment tries old new commit from to result)
+
 -- it is refused before any call, or commits nothing, or runs from the commit of the new value
 abbrev pub BeginsBy : {T C R : Type 0} → MayWays T C R → ℤ → ℕ → Told → Told → Result (Option (CommitPhase T)) SlateDBError → Holder T C R → Holder T C R → Result (Unit {0}) SlateDBError → Type 0
 BeginsBy ways moment tries old new (Err e) from to result = (result ≡ Err e) × (new ≡ old) × (to ≡ from)
@@ -93,5 +101,6 @@ pub record NeverFaults {T C R : Type 0} (ways : MayWays T C R) : Type 0 where
   pub renewal : (holder : Holder T C R) (id : ℕ) (value : T) (start : Result (Option (CommitPhase T)) SlateDBError) → RenewsBy ways holder id value start → start ≢ Err StoreFault
 
 -- the machine of a commit of what the function may answer of this version
-abbrev pub MaybeBy : {T : Type 0} → (ℕ → T → Result (Option T) SlateDBError → Type 0) → (ℕ → T → T → Right → Option SlateDBError) → (T → Result (List ℕ) SlateDBError) → Right → ℕ → T → UpdateMachine T → Type 0
+abbrev pub MaybeBy : {T : Type 0} → (ℕ → T → Result (Option T) SlateDBError → Type 0) → (ℕ → T → T → Right → Option SlateDBError)
+    → (T → Result (List ℕ) SlateDBError) → Right → ℕ → T → UpdateMachine T → Type 0
 MaybeBy may refusal encoded right id value machine = (start : Result (Option (CommitPhase _)) SlateDBError) × RenewedBy may refusal encoded right id value start × (machine ≡ maybe_of start)

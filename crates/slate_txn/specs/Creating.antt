@@ -1,14 +1,14 @@
 -- Creating a log: a holder is made by the commit of version 1.
 use Rattle.std.specs.Prelude.{◌≡◌, ℕ, ℤ, Bool, true, false, List, Option, Some, None, Result, Ok, Err}
 use Rattle.slate_ids.specs.declared.error.SlateDBError.{SlateDBError}
-use Rattle.slate_store.specs.Calls.{Told}
+use Rattle.slate_store.specs.StoreCalls.{Told}
 use Rattle.slate_store.specs.Machines.{Goes, Stay, End, Steps, AnswersAtOnce}
 use Rattle.slate_store.specs.declared.step.Step.{Step}
 use Rattle.slate_store.specs.declared.step.Step.TheVariants.{Again, Done}
 use Rattle.slate_store.specs.declared.store_answer.StoreAnswer.{StoreAnswer}
-use Rattle.slate_log.specs.CommitPhase.{encoded_commit, commit_asks, commit_goes, commit_due, commit_version}
-use Rattle.slate_log.specs.declared.commit_phase.CommitPhase.{CommitPhase}
-use Rattle.slate_log.specs.declared.sequenced.Sequenced.{Sequenced}
+use Rattle.slate_txn_log.specs.CommitPhase.{encoded_commit, commit_asks, commit_goes, commit_due, commit_version}
+use Rattle.slate_txn_log.specs.declared.commit_phase.CommitPhase.{CommitPhase}
+use Rattle.slate_txn_log.specs.declared.sequenced.Sequenced.{Sequenced}
 use Rattle.slate_txn.specs.Holder.{Holder, holder_of}
 use Rattle.slate_txn.specs.Starts.{Starts}
 use Rattle.slate_txn.specs.declared.create.CreateMachine.{CreateMachine}

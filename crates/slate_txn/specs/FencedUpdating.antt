@@ -1,18 +1,24 @@
 -- An update of the version that a fenced holder holds.
-use Rattle.std.specs.Prelude.{◌≡◌, ℤ, Ok, Option, Some, None, Result, Err}
-use Rattle.slate_ids.specs.declared.error.SlateDBError.{SlateDBError}
-use Rattle.slate_store.specs.Calls.{Told}
+use Rattle.std.specs.Prelude.{◌≡◌, ℕ, ℤ, Ok}
+use Rattle.slate_store.specs.StoreCalls.{Told}
 use Rattle.slate_store.specs.Machines.{Goes, Stay, End, Steps, AnswersAtOnce}
 use Rattle.slate_store.specs.declared.step.Step.{Step}
 use Rattle.slate_store.specs.declared.step.Step.TheVariants.{Done}
 use Rattle.slate_store.specs.declared.store_answer.StoreAnswer.{StoreAnswer}
-use Rattle.slate_log.specs.CommitPhase.{commit_asks}
-use Rattle.slate_log.specs.declared.commit_phase.CommitPhase.{CommitPhase}
-use Rattle.slate_log.specs.declared.commit_phase.CommitPhase.TheVariants.{Over}
+use Rattle.slate_txn_log.specs.CommitPhase.{commit_asks}
+use Rattle.slate_txn_log.specs.declared.commit_phase.CommitPhase.{CommitPhase}
+use Rattle.slate_txn_log.specs.declared.commit_phase.CommitPhase.TheVariants.{Over}
+use Rattle.slate_txn_log.specs.Fence.{unless}
+use Rattle.slate_txn.specs.Apply.{Ways, renews}
 use Rattle.slate_txn.specs.FencedHolder.{FencedHolder, state_within}
-use Rattle.slate_txn.specs.Updating.{UpdateState, update_goes}
+use Rattle.slate_txn.specs.Fencing.{held_fence}
+use Rattle.slate_txn.specs.Updating.{UpdateState, maybe_of, update_goes}
 use Rattle.slate_txn.specs.declared.update.UpdateMachine.{UpdateMachine}
 use Rattle.slate_txn.specs.declared.update.UpdateMachine.TheVariants.{Refused, Nothing, Committing}
+
+-- the machine of the commit of what these ways make of the version that a fenced holder holds, unless that version refuses it
+abbrev pub fenced_maybe : {T C R E : Type 0} → (E → T → ℕ) → Ways T C R → FencedHolder T C R E → UpdateMachine T
+fenced_maybe epoch ways fenced = maybe_of (unless (held_fence epoch fenced) (renews ways fenced.holder fenced.holder.id fenced.holder.object))
 
 -- the machine and the fenced holder
 abbrev pub FencedUpdateState : Type 0 → Type 0 → Type 0 → Type 0 → Type 0

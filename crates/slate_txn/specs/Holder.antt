@@ -1,6 +1,6 @@
 -- What a holder holds.
 use Rattle.std.specs.Prelude.{ℕ}
-use Rattle.slate_log.specs.declared.sequenced.Sequenced.{Sequenced}
+use Rattle.slate_txn_log.specs.declared.sequenced.Sequenced.{Sequenced}
 
 -- the log, its rules, and the version that was read or committed
 pub record Holder (T C R : Type 0) : Type 0 where

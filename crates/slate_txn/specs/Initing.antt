@@ -1,15 +1,15 @@
 -- The machine that makes a fenced holder in one try.
 use Rattle.std.specs.Prelude.{◌≡◌, ℕ, ℤ, Bool, true, false, Option, Some, None, Result, Ok, Err}
 use Rattle.slate_ids.specs.declared.error.SlateDBError.{SlateDBError}
-use Rattle.slate_store.specs.Calls.{Told}
+use Rattle.slate_store.specs.StoreCalls.{Told}
 use Rattle.slate_store.specs.Machines.{Goes, Stay, End, Steps, AnswersAtOnce}
 use Rattle.slate_store.specs.declared.step.Step.{Step}
 use Rattle.slate_store.specs.declared.step.Step.TheVariants.{Again, Done}
 use Rattle.slate_store.specs.declared.store_answer.StoreAnswer.{StoreAnswer}
-use Rattle.slate_log.specs.CommitPhase.{commit_asks, commit_goes, commit_due, commit_version}
+use Rattle.slate_txn_log.specs.CommitPhase.{commit_asks, commit_goes, commit_due, commit_version}
 use Rattle.slate_txn.specs.FencedHolder.{FencedHolder, fenced_at}
 use Rattle.slate_txn.specs.Holder.{Holder, at_version}
-use Rattle.slate_log.specs.declared.commit_phase.CommitPhase.{CommitPhase}
+use Rattle.slate_txn_log.specs.declared.commit_phase.CommitPhase.{CommitPhase}
 use Rattle.slate_txn.specs.declared.init.InitMachine.{InitMachine}
 use Rattle.slate_txn.specs.declared.init.InitMachine.TheVariants.{Refused, Committing, Over}
 

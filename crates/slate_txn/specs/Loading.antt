@@ -3,18 +3,18 @@ use Rattle.std.specs.Prelude.{◌≡◌, ℕ, ℤ, Bool, false, List, Option, So
 use Rattle.slate_ids.specs.Answers.{OrMemory}
 use Rattle.slate_ids.specs.declared.error.SlateDBError.{SlateDBError}
 use Rattle.slate_ids.specs.declared.error.SlateDBError.TheVariants.{LatestTransactionalObjectVersionMissing}
-use Rattle.slate_store.specs.Calls.{Told}
+use Rattle.slate_store.specs.StoreCalls.{Told}
 use Rattle.slate_store.specs.Machines.{Goes, Stay, End, Steps}
 use Rattle.slate_store.specs.declared.step.Step.{Step}
 use Rattle.slate_store.specs.declared.step.Step.TheVariants.{Again, Done}
 use Rattle.slate_store.specs.declared.store_answer.StoreAnswer.{StoreAnswer}
 use Rattle.slate_txn.specs.Holder.{Holder, holder_of}
-use Rattle.slate_log.specs.ReadLatest.{Read, ReadBegan}
-use Rattle.slate_log.specs.ReadPhase.{read_asks, read_goes, read_due}
+use Rattle.slate_txn_log.specs.ReadLatest.{Read, ReadBegan}
+use Rattle.slate_txn_log.specs.ReadPhase.{read_asks, read_goes, read_due}
 use Rattle.slate_txn.specs.declared.load.TryLoadMachine.{TryLoadMachine}
 use Rattle.slate_txn.specs.declared.load.TryLoadMachine.TheVariants.{Reading, Over}
-use Rattle.slate_log.specs.declared.read_phase.ReadPhase.{ReadPhase}
-use Rattle.slate_log.specs.declared.sequenced.Sequenced.{Sequenced}
+use Rattle.slate_txn_log.specs.declared.read_phase.ReadPhase.{ReadPhase}
+use Rattle.slate_txn_log.specs.declared.sequenced.Sequenced.{Sequenced}
 
 -- the holder of the version that was read, or none where the log has no version
 abbrev pub try_loaded : {T C R : Type 0} → Sequenced T C → R → Result (Option (ℕ × T)) SlateDBError → Result (Option (Holder T C R)) SlateDBError
@@ -33,7 +33,8 @@ abbrev pub loaded : {T C R : Type 0} → Sequenced T C → R → Result (Option 
 loaded sequenced rules reply = found (try_loaded sequenced rules reply)
 
 -- a whole read of the latest version, and what is answered by what was read
-abbrev pub LoadRan : {T C X : Type 0} → (C → List ℕ → Result T SlateDBError) → ℕ → Told → Told → Sequenced T C → (Result (Option (ℕ × T)) SlateDBError → Result X SlateDBError) → Result X SlateDBError → Type 0
+abbrev pub LoadRan : {T C X : Type 0} → (C → List ℕ → Result T SlateDBError) → ℕ → Told → Told → Sequenced T C
+    → (Result (Option (ℕ × T)) SlateDBError → Result X SlateDBError) → Result X SlateDBError → Type 0
 LoadRan decoded tries old new sequenced answer result =
     OrMemory result (ReadBegan decoded sequenced tries old new) ((reply : Result (Option (ℕ × _)) SlateDBError) × Read decoded sequenced tries old new reply × (answer reply ≡ result))
 

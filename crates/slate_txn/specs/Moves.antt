@@ -3,9 +3,9 @@ use Rattle.std.specs.Prelude.{◌≡◌, ℕ, ◌+◌, ◌<◌, ◌⊎◌, ℤ, 
 use Rattle.slate_ids.specs.Answers.{OrMemory}
 use Rattle.slate_ids.specs.declared.error.SlateDBError.{SlateDBError}
 use Rattle.slate_ids.specs.declared.error.SlateDBError.TheVariants.{Contended}
-use Rattle.slate_store.specs.Calls.{Told, Makes, moment_of}
+use Rattle.slate_store.specs.StoreCalls.{Told, Makes, moment_of}
 use Rattle.slate_store.specs.Machines.{Goes, Stay, End, Held, AtMost}
-use Rattle.slate_store.specs.Runs.{one_if}
+use Rattle.slate_store.specs.CallRuns.{one_if}
 use Rattle.slate_store.specs.declared.made.Made.{Made}
 use Rattle.slate_store.specs.declared.step.Step.{Step}
 use Rattle.slate_store.specs.declared.step.Step.TheVariants.{Again, Done}
@@ -46,7 +46,8 @@ turns_of is_start [] = 0
 turns_of is_start (m ∷ ms) = one_if is_start m.went + turns_of is_start ms
 
 -- a plain call of so many tries made these calls: it ends with the machine's reply, or each try started again, and the last call led back to a start
-pub record RanBy {P R : Type 0} (is_start : P → Bool) (asks : P → StoreCall) (may : P → StoreAnswer → Goes P R → Type 0) (moment : ℤ) (tries : ℕ) (old new : Told) (start to : P) (result : Result R SlateDBError) : Type 0 where
+pub record RanBy {P R : Type 0} (is_start : P → Bool) (asks : P → StoreCall) (may : P → StoreAnswer → Goes P R → Type 0) (moment : ℤ) (tries : ℕ)
+    (old new : Told) (start to : P) (result : Result R SlateDBError) : Type 0 where
   pub moves : List (Move P R)
   pub out : Goes P R
   pub run : RunBy asks may moment old new moves (Stay start) out

@@ -4,11 +4,11 @@ use Rattle.slate_ids.specs.Answers.{is_memory}
 use Rattle.slate_ids.specs.declared.error.SlateDBError.{SlateDBError}
 use Rattle.slate_ids.specs.declared.error.SlateDBError.TheVariants.{TransactionalObjectVersionExists, StoreFault, Corrupt}
 use Rattle.slate_ids.specs.declared.error.FormatName.TheVariants.{Boundary as BoundaryFormat}
-use Rattle.slate_store.specs.Calls.{Told, contents_after}
+use Rattle.slate_store.specs.StoreCalls.{Told, contents_after}
 use Rattle.slate_store.specs.declared.mark.Mark.TheVariants.{Good}
-use Rattle.slate_log.specs.CommitPhase.{commit_asks}
-use Rattle.slate_log.specs.declared.commit_phase.CommitPhase.{CommitPhase}
-use Rattle.slate_log.specs.declared.log_kind.LogKind.{LogKind}
+use Rattle.slate_txn_log.specs.CommitPhase.{commit_asks}
+use Rattle.slate_txn_log.specs.declared.commit_phase.CommitPhase.{CommitPhase}
+use Rattle.slate_txn_log.specs.declared.log_kind.LogKind.{LogKind}
 use Rattle.slate_txn.specs.Holder.{Holder}
 
 -- the store's contents are as before

@@ -3,10 +3,10 @@ use Rattle.std.specs.Prelude.{◌≡◌, ℕ, ℤ, List, Result, Ok, Err}
 use Rattle.std.proofs.Common.{◌⊎◌}
 use Rattle.slate_ids.specs.Answers.{OrMemory}
 use Rattle.slate_ids.specs.declared.error.SlateDBError.{SlateDBError}
-use Rattle.slate_store.specs.Calls.{Told}
-use Rattle.slate_log.specs.Commit.{Committed, CommitBegan}
-use Rattle.slate_log.specs.declared.commit_phase.CommitPhase.{CommitPhase}
-use Rattle.slate_log.specs.declared.log_kind.LogKind.{LogKind}
+use Rattle.slate_store.specs.StoreCalls.{Told}
+use Rattle.slate_txn_log.specs.Commit.{Committed, CommitBegan}
+use Rattle.slate_txn_log.specs.declared.commit_phase.CommitPhase.{CommitPhase}
+use Rattle.slate_txn_log.specs.declared.log_kind.LogKind.{LogKind}
 
 -- a commit that is refused at once makes no call; else it ran, and this is the answer to what it replied
 abbrev pub StartRan : {T X : Type 0} → List ℕ → LogKind → (Result (ℕ × T) SlateDBError → Result X SlateDBError) → ℤ → Told → Told → Result (CommitPhase T) SlateDBError → Result X SlateDBError → Type 0

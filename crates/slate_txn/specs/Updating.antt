@@ -3,23 +3,24 @@ use Rattle.std.specs.Prelude.{◌≡◌, ℕ, ℤ, ◌==◌, Bool, true, false, 
 use Rattle.slate_ids.specs.Answers.{OrMemory}
 use Rattle.slate_ids.specs.declared.error.SlateDBError.{SlateDBError}
 use Rattle.slate_ids.specs.declared.error.SlateDBError.TheVariants.{TransactionalObjectVersionExists}
-use Rattle.slate_store.specs.Calls.{Told}
+use Rattle.slate_store.specs.StoreCalls.{Told}
 use Rattle.slate_store.specs.Machines.{Goes, Stay, End, Steps, AnswersAtOnce}
 use Rattle.slate_store.specs.declared.step.Step.{Step}
 use Rattle.slate_store.specs.declared.step.Step.TheVariants.{Again, Done}
 use Rattle.slate_store.specs.declared.store_answer.StoreAnswer.{StoreAnswer}
-use Rattle.slate_log.specs.CommitPhase.{prepared, commit_asks, commit_goes, commit_due}
+use Rattle.slate_txn_log.specs.CommitPhase.{prepared, commit_asks, commit_goes, commit_due}
 use Rattle.slate_txn.specs.Holder.{Holder, at_version}
 use Rattle.slate_txn.specs.Starts.{StartRan, StartBegan}
-use Rattle.slate_log.specs.declared.commit_phase.CommitPhase.{CommitPhase}
-use Rattle.slate_log.specs.declared.commit_phase.CommitPhase.TheVariants.{Over}
+use Rattle.slate_txn_log.specs.declared.commit_phase.CommitPhase.{CommitPhase}
+use Rattle.slate_txn_log.specs.declared.commit_phase.CommitPhase.TheVariants.{Over}
 use Rattle.slate_txn.specs.declared.stored.DirtyObject.{DirtyObject}
-use Rattle.slate_log.specs.declared.right.Right.{Right}
+use Rattle.slate_txn_log.specs.declared.right.Right.{Right}
 use Rattle.slate_txn.specs.declared.update.UpdateMachine.{UpdateMachine}
 use Rattle.slate_txn.specs.declared.update.UpdateMachine.TheVariants.{Refused, Nothing, Committing}
 
 -- an update begins where the dirty value's number is the holder's: then it is the commit of that value
-abbrev pub started : {T C R : Type 0} → (R → ℕ → T → T → Right → Option SlateDBError) → (C → T → Result (List ℕ) SlateDBError) → Holder T C R → DirtyObject T → Right → Result (CommitPhase T) SlateDBError
+abbrev pub started : {T C R : Type 0} → (R → ℕ → T → T → Right → Option SlateDBError) → (C → T → Result (List ℕ) SlateDBError) → Holder T C R
+    → DirtyObject T → Right → Result (CommitPhase T) SlateDBError
 started refusal encoded holder dirty right =
     if dirty.id == holder.id then prepared (refusal holder.rules) (encoded holder.sequenced.codec) holder.id holder.object dirty.value right else Err (TransactionalObjectVersionExists dirty.id None)
 
@@ -42,7 +43,8 @@ abbrev pub UpdateBegan : {T C R : Type 0} → Holder T C R → ℤ → Told → 
 UpdateBegan holder moment old new start = StartBegan holder.sequenced.db holder.sequenced.log moment old new start
 
 -- a whole update of a holder
-abbrev pub Updates : {T C R : Type 0} → (R → ℕ → T → T → Right → Option SlateDBError) → (C → T → Result (List ℕ) SlateDBError) → ℤ → Told → Told → Holder T C R → DirtyObject T → Right → Result (Unit {0}) SlateDBError → Type 0
+abbrev pub Updates : {T C R : Type 0} → (R → ℕ → T → T → Right → Option SlateDBError) → (C → T → Result (List ℕ) SlateDBError) → ℤ → Told → Told
+    → Holder T C R → DirtyObject T → Right → Result (Unit {0}) SlateDBError → Type 0
 Updates refusal encoded moment old new holder dirty right result =
     OrMemory result (UpdateBegan holder moment old new (started refusal encoded holder dirty right)) (Updated holder moment old new (started refusal encoded holder dirty right) result)
 

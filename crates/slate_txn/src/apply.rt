@@ -1,20 +1,20 @@
 //! Committing what a function makes of the version held, after a conflict too.
 ghost use Rattle.std.specs.Prelude.{◌≡◌, ◌<◌, ◌⊎◌, IfOk, IfSome, true};
-ghost use Rattle.slate_ids.specs.Answers.{Gives, OrMemory, ran_out};
-ghost use Rattle.slate_store.specs.Machines.{Steps, GoesOn, IsAgain};
-ghost use Rattle.slate_log.specs.CommitPhase.{is_putting};
-ghost use Rattle.slate_log.specs.Due.{StillDue, WhereOut, FaultOf, FaultRose};
+ghost use Rattle.slate_ids.specs.Answers.{Gives, ran_out};
+ghost use Rattle.slate_store.specs.Machines.{GoesOn, IsAgain};
+ghost use Rattle.slate_txn_log.specs.CommitPhase.{is_putting};
+ghost use Rattle.slate_txn_log.specs.Due.{StillDue, WhereOut, FaultOf, FaultRose};
 ghost use Rattle.slate_txn.specs.Changing.{ComputesWith, Making, MayWith};
-ghost use Rattle.slate_txn.specs.ApplyMoves.{ways_by, ApplyMoves, RenewedBy, AppliedBy, ApplyBeganBy, AppliesBy, NeverFaults};
+ghost use Rattle.slate_txn.specs.ApplyMoves.{ways_by, ApplyMoves, RenewedBy, DrivenBy, AppliesBy, NeverFaults};
 ghost use Rattle.slate_txn.specs.Moves.{GoesOnBy, StepsBy};
 ghost use Rattle.slate_txn.specs.Apply.{apply_goes, apply_asks, apply_due, is_start, is_reading_phase};
-ghost use Rattle.slate_txn.specs.Apply.{ways_of, ApplyFalls, Applies, FaultFree};
-ghost use Rattle.slate_log.specs.Change.{renewed};
+ghost use Rattle.slate_txn.specs.Apply.{ways_of, ApplyFalls, Applies, ApplySteps, FaultFree};
+ghost use Rattle.slate_txn_log.specs.Change.{renewed};
 
 use crate::stored::Stored;
 use slate_ids::{Millis, ObjectCodec, OutOfMemory, SlateDBError};
-use slate_log::{CommitPhase, ReadPhase, Right, Rules, prepare_change};
 use slate_store::{ObjectStore, Step, StoreAnswer, StoreCall, perform};
+use slate_txn_log::{CommitPhase, ReadPhase, Right, Rules, prepare_change};
 use std::alloc::Global;
 use std::mem;
 
@@ -190,9 +190,8 @@ impl<T: Drop> ApplyPhase<T> {
         requires callable { F.IsAlwaysCallable change.now }
         requires due { apply_due self.now ≡ true }
         ensures steps { (made : Making T) → ComputesWith (F.post change.now) made
-            → Steps (S.told store.old) (S.told store.new) (apply_asks (self.old, holder.old)) moment
-            (apply_goes (ways_of C.decoded C.encoded R.refusal made right.now) (self.old, holder.old))
-            (self.old, holder.old) (self.new, holder.new) result }
+            → ApplySteps (ways_of C.decoded C.encoded R.refusal made right.now) moment
+            (S.told store.old) (S.told store.new) (self.old, holder.old) (self.new, holder.new) result }
         ensures moves { StepsBy (S.told store.old) (S.told store.new) (apply_asks (self.old, holder.old))
             moment (ApplyMoves
             (ways_by C.decoded C.encoded R.refusal (MayWith (F.post change.now)) right.now)
@@ -236,11 +235,9 @@ impl<T: Drop, C: ObjectCodec<T> + Drop, R: Rules<T> + Drop> Stored<T, C, R> {
         requires callable { F.IsAlwaysCallable change.now }
         requires some { 0 < tries }
         requires putting { is_putting commit ≡ true }
-        ensures moves { OrMemory result
-            (ApplyBeganBy (ways_by C.decoded C.encoded R.refusal (MayWith (F.post change.now)) right.now)
-            moment tries (S.told store.old) (S.told store.new) commit self.old self.new)
-            (AppliedBy (ways_by C.decoded C.encoded R.refusal (MayWith (F.post change.now)) right.now)
-            moment tries (S.told store.old) (S.told store.new) commit self.old self.new result) }
+        ensures moves { DrivenBy
+            (ways_by C.decoded C.encoded R.refusal (MayWith (F.post change.now)) right.now)
+            moment tries (S.told store.old) (S.told store.new) commit self.old self.new result }
         ensures never { NeverFaults
             (ways_by C.decoded C.encoded R.refusal (MayWith (F.post change.now)) right.now)
             → FaultOf (S.told store.old) (S.told store.new) result }

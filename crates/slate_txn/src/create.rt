@@ -2,16 +2,16 @@
 ghost use Rattle.std.specs.Prelude.{◌≡◌, ◌≢◌, ◌⊎◌, IfOk, IfErr, IfSome, OnOk, OnErr, Some, Err, true, false};
 ghost use Rattle.slate_ids.specs.Answers.{Gives};
 ghost use Rattle.slate_ids.specs.declared.error.SlateDBError.TheVariants.{StoreFault};
-ghost use Rattle.slate_log.specs.CommitPhase.{is_putting, commit_version};
-ghost use Rattle.slate_log.specs.Due.{FaultOf, FaultRose, StillDue};
+ghost use Rattle.slate_txn_log.specs.CommitPhase.{is_putting, commit_version};
+ghost use Rattle.slate_txn_log.specs.Due.{FaultOf, FaultRose, StillDue};
 ghost use Rattle.slate_txn.specs.Creating.{first_commit, created, Creates, create_of, create_due, create_open, create_version, CreateKeeps, CreateSteps};
 ghost use Rattle.slate_txn.specs.Holder.{holder_of};
 ghost use Rattle.slate_txn.specs.Standing.{SameContents, CommitStands, may_stand};
 
 use crate::stored::Stored;
 use slate_ids::{ByteList, Millis, ObjectCodec, OutOfMemory, SlateDBError};
-use slate_log::{CommitPhase, Rules, Sequenced};
 use slate_store::{ObjectStore, Step};
+use slate_txn_log::{CommitPhase, Rules, Sequenced};
 use std::alloc::Global;
 use std::mem;
 

@@ -2,8 +2,8 @@
 ghost use Rattle.std.specs.Prelude.{◌≡◌, ◌<◌, ◌⊎◌, IfOk, IfErr, IfSome, Some, Err, true};
 ghost use Rattle.slate_ids.specs.Answers.{is_memory};
 ghost use Rattle.slate_txn.specs.Apply.{FaultFree, ways_of};
-ghost use Rattle.slate_log.specs.Due.{FaultOf};
-ghost use Rattle.slate_log.specs.declared.right.Right.TheVariants.{Plain};
+ghost use Rattle.slate_txn_log.specs.Due.{FaultOf};
+ghost use Rattle.slate_txn_log.specs.declared.right.Right.TheVariants.{Plain};
 ghost use Rattle.slate_txn.specs.Fence.{FencedBelow, FencedBy, fenced_of, raising, setting};
 ghost use Rattle.slate_txn.specs.FencedApplying.{FenceFree};
 ghost use Rattle.slate_txn.specs.Fencing.{held_fence};
@@ -12,8 +12,8 @@ ghost use Rattle.slate_txn.specs.Raise.{this_epoch};
 use crate::raise::{raise_copy, set_copy};
 use crate::stored::{DirtyObject, Stored};
 use slate_ids::{Epochs, Millis, ObjectCodec, SlateDBError};
-use slate_log::{Right, Rules, fence};
 use slate_store::ObjectStore;
+use slate_txn_log::{Right, Rules, fence};
 use std::alloc::Global;
 use std::marker::Model;
 

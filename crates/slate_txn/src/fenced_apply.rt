@@ -1,12 +1,12 @@
 //! Committing what a function makes of the version that a fenced holder holds.
 ghost use Rattle.std.specs.Prelude.{◌≡◌, ◌<◌, IfOk, true};
-ghost use Rattle.slate_log.specs.Due.{FaultOf};
+ghost use Rattle.slate_txn_log.specs.Due.{FaultOf};
 ghost use Rattle.slate_txn.specs.Changing.{Computes, Making, May};
 ghost use Rattle.slate_txn.specs.ApplyMoves.{ways_by, AppliesBy, MaybeBy, NeverFaults};
 ghost use Rattle.slate_txn.specs.Apply.{Applies, FaultFree, ways_of};
-ghost use Rattle.slate_log.specs.Change.{renewed};
+ghost use Rattle.slate_txn_log.specs.Change.{renewed};
 ghost use Rattle.slate_txn.specs.FencedApplying.{fenced_made, FencedMay, FenceFree, Unfenced};
-ghost use Rattle.slate_log.specs.Fence.{unless};
+ghost use Rattle.slate_txn_log.specs.Fence.{unless};
 ghost use Rattle.slate_txn.specs.Fencing.{held_fence, FencedOnly};
 ghost use Rattle.slate_txn.specs.Updating.{maybe_of, update_open};
 
@@ -14,8 +14,8 @@ use crate::fenced::Fenced;
 use crate::fenced_update::FencedUpdateMachine;
 use crate::update::UpdateMachine;
 use slate_ids::{Epochs, Millis, ObjectCodec, OutOfMemory, SlateDBError};
-use slate_log::{Right, Rules, fence};
 use slate_store::ObjectStore;
+use slate_txn_log::{Right, Rules, fence};
 use std::alloc::Global;
 
 impl<T: Drop, C: ObjectCodec<T> + Drop, R: Rules<T> + Drop, E: Epochs<T> + Drop> Fenced<

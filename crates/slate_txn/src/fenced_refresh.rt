@@ -1,9 +1,9 @@
 //! Refreshing a fenced holder.
 ghost use Rattle.std.specs.Prelude.{◌≡◌, ◌<◌, None, OnOk, true};
 ghost use Rattle.slate_store.specs.Machines.{Steps};
-ghost use Rattle.slate_log.specs.Due.{FaultOf, FaultRose, NoFault, StillDue};
-ghost use Rattle.slate_log.specs.ReadPhase.{read_due};
-ghost use Rattle.slate_log.specs.declared.read_phase.ReadPhase.TheVariants.{Listing};
+ghost use Rattle.slate_txn_log.specs.Due.{FaultOf, FaultRose, NoFault, StillDue};
+ghost use Rattle.slate_txn_log.specs.ReadPhase.{read_due};
+ghost use Rattle.slate_txn_log.specs.declared.read_phase.ReadPhase.TheVariants.{Listing};
 ghost use Rattle.slate_txn.specs.FencedRefreshing.{FencedRefreshed, fence_after, fence_after_step};
 ghost use Rattle.slate_txn.specs.FencedRefreshing.{fenced_refresh_goes};
 ghost use Rattle.slate_txn.specs.Fencing.{held_fence, FencedOnly, FencedStep, NoFence};
@@ -12,8 +12,8 @@ ghost use Rattle.slate_txn.specs.Refreshing.{refresh_asks};
 use crate::fenced::Fenced;
 use crate::refresh::RefreshMachine;
 use slate_ids::{Epochs, Millis, ObjectCodec, SlateDBError};
-use slate_log::Rules;
 use slate_store::{ObjectStore, Step};
+use slate_txn_log::Rules;
 use std::alloc::Global;
 use std::marker::Model;
 
@@ -24,7 +24,7 @@ pub struct FencedRefreshMachine<T> {
 }
 
 impl<T> Model for FencedRefreshMachine<T> {
-    ghost use Rattle.slate_log.specs.declared.read_phase.ReadPhase.{ReadPhase};
+    ghost use Rattle.slate_txn_log.specs.declared.read_phase.ReadPhase.{ReadPhase};
 
     ghost Value = { ReadPhase T };
 

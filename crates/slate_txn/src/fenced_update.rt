@@ -1,10 +1,10 @@
 //! An update of the version that a fenced holder holds.
 ghost use Rattle.std.specs.Prelude.{◌≡◌, ◌≢◌, ◌+◌, ◌⊎◌, IfOk, IfErr, OnOk, OnErr, Err, true, false};
 ghost use Rattle.slate_ids.specs.declared.error.SlateDBError.TheVariants.{StoreFault};
-ghost use Rattle.slate_log.specs.Due.{FaultOf, FaultRose, StillDue};
+ghost use Rattle.slate_txn_log.specs.Due.{FaultOf, FaultRose, StillDue};
 ghost use Rattle.slate_txn.specs.FencedHolder.{fenced_version};
 ghost use Rattle.slate_txn.specs.FencedUpdating.{FencedUpdateSteps};
-ghost use Rattle.slate_log.specs.Fence.{unless};
+ghost use Rattle.slate_txn_log.specs.Fence.{unless};
 ghost use Rattle.slate_txn.specs.Fencing.{held_fence, UnlessFenced, FencedOnly, NotFenced, NotFencedStep};
 ghost use Rattle.slate_txn.specs.Standing.{SameContents, UpdateStands, may_stand};
 ghost use Rattle.slate_txn.specs.Updating.{started, Updates, update_of, update_due, update_open};
@@ -13,8 +13,8 @@ use crate::fenced::Fenced;
 use crate::stored::DirtyObject;
 use crate::update::UpdateMachine;
 use slate_ids::{Epochs, Millis, ObjectCodec, OutOfMemory, SlateDBError};
-use slate_log::{Right, Rules};
 use slate_store::{ObjectStore, Step};
+use slate_txn_log::{Right, Rules};
 use std::alloc::Global;
 use std::marker::Model;
 

@@ -1,18 +1,18 @@
 //! The machine that makes a fenced holder.
 ghost use Rattle.std.specs.Prelude.{◌≡◌, IfOk, IfSome, Some, true, false};
 ghost use Rattle.slate_ids.specs.Answers.{ran_out};
-ghost use Rattle.slate_log.specs.CommitPhase.{commit_version, is_putting};
-ghost use Rattle.slate_log.specs.Due.{FaultRose, StillDue};
+ghost use Rattle.slate_txn_log.specs.CommitPhase.{commit_version, is_putting};
+ghost use Rattle.slate_txn_log.specs.Due.{FaultRose, StillDue};
 ghost use Rattle.slate_txn.specs.Initing.{init_of, init_due, init_open, init_version, fenced_reply, InitKeeps, InitSteps};
-ghost use Rattle.slate_log.specs.declared.right.Right.TheVariants.{Plain};
+ghost use Rattle.slate_txn_log.specs.declared.right.Right.TheVariants.{Plain};
 ghost use Rattle.slate_txn.specs.Raise.{raised, epoch_commit};
 
 use crate::fenced::Fenced;
 use crate::raise::{prepare_epoch, prepare_raise};
 use crate::stored::Stored;
 use slate_ids::{Epochs, Millis, ObjectCodec, OutOfMemory, SlateDBError};
-use slate_log::{CommitPhase, Right, Rules};
 use slate_store::{ObjectStore, Step};
+use slate_txn_log::{CommitPhase, Right, Rules};
 use std::alloc::Global;
 use std::mem;
 

@@ -25,6 +25,6 @@ pub use load::{LoadMachine, TryLoadMachine};
 pub use raise::{prepare_epoch, prepare_raise};
 pub use refresh::RefreshMachine;
 pub use slate_ids::Epochs;
-pub use slate_log::{LogKind, Right, Rules, Sequenced};
+pub use slate_txn_log::{LogKind, Right, Rules, Sequenced};
 pub use stored::{DirtyObject, Stored};
 pub use update::UpdateMachine;

@@ -1,15 +1,15 @@
 //! Loading a holder of the latest version.
 ghost use Rattle.std.specs.Prelude.{◌≡◌, ◌<◌, true};
-ghost use Rattle.slate_log.specs.Due.{FaultOf, FaultRose, NoFault, StillDue};
+ghost use Rattle.slate_txn_log.specs.Due.{FaultOf, FaultRose, NoFault, StillDue};
 ghost use Rattle.slate_txn.specs.Loading.{loaded, try_loaded, found, found_step, LoadRan};
 ghost use Rattle.slate_txn.specs.Loading.{load_due, LoadSteps, TryLoadSteps};
 ghost use Rattle.slate_txn.specs.declared.load.TryLoadMachine.TheVariants.{Reading};
-ghost use Rattle.slate_log.specs.declared.read_phase.ReadPhase.TheVariants.{Listing};
+ghost use Rattle.slate_txn_log.specs.declared.read_phase.ReadPhase.TheVariants.{Listing};
 
 use crate::stored::Stored;
 use slate_ids::{Millis, ObjectCodec, SlateDBError};
-use slate_log::{ReadPhase, Rules, Sequenced};
 use slate_store::{ObjectStore, Step};
+use slate_txn_log::{ReadPhase, Rules, Sequenced};
 use std::alloc::Global;
 use std::marker::Model;
 use std::mem;

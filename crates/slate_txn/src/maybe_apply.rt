@@ -1,17 +1,17 @@
 //! Committing what a function makes of the version held.
 ghost use Rattle.std.specs.Prelude.{◌≡◌, ◌<◌, IfOk, true};
-ghost use Rattle.slate_log.specs.Due.{FaultOf};
+ghost use Rattle.slate_txn_log.specs.Due.{FaultOf};
 ghost use Rattle.slate_txn.specs.Changing.{Computes, Making, May};
 ghost use Rattle.slate_txn.specs.ApplyMoves.{ways_by, AppliesBy, MaybeBy, NeverFaults};
 ghost use Rattle.slate_txn.specs.Apply.{Applies, FaultFree, ways_of};
-ghost use Rattle.slate_log.specs.Change.{renewed};
+ghost use Rattle.slate_txn_log.specs.Change.{renewed};
 ghost use Rattle.slate_txn.specs.Updating.{maybe_of, update_open};
 
 use crate::stored::Stored;
 use crate::update::UpdateMachine;
 use slate_ids::{Millis, ObjectCodec, OutOfMemory, SlateDBError};
-use slate_log::{Right, Rules};
 use slate_store::ObjectStore;
+use slate_txn_log::{Right, Rules};
 use std::alloc::Global;
 
 impl<T: Drop, C: ObjectCodec<T> + Drop, R: Rules<T> + Drop> Stored<T, C, R> {

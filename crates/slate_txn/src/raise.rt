@@ -1,13 +1,13 @@
 //! The commit of a value read with another epoch.
 ghost use Rattle.std.specs.Prelude.{◌≡◌, ◌+◌, IfOk, Some, true};
 ghost use Rattle.slate_ids.specs.Answers.{Gives};
-ghost use Rattle.slate_log.specs.CommitPhase.{is_putting, commit_version};
-ghost use Rattle.slate_log.specs.Change.{next_epoch as raised_once};
+ghost use Rattle.slate_txn_log.specs.CommitPhase.{is_putting, commit_version};
+ghost use Rattle.slate_txn_log.specs.Change.{next_epoch as raised_once};
 ghost use Rattle.slate_txn.specs.FencedApplying.{fenced_made};
 ghost use Rattle.slate_txn.specs.Raise.{raised, epoch_commit, this_epoch};
 
 use slate_ids::{Epochs, ObjectCodec, OutOfMemory, SlateDBError};
-use slate_log::{CommitPhase, Right, Rules, fence, next_epoch, prepare};
+use slate_txn_log::{CommitPhase, Right, Rules, fence, next_epoch, prepare};
 use std::alloc::Global;
 
 // A copy of the value with this epoch.

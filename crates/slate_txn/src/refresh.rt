@@ -1,17 +1,17 @@
 //! Refreshing a holder.
 ghost use Rattle.std.specs.Prelude.{◌≡◌, ◌<◌, OnErr, true};
 ghost use Rattle.slate_store.specs.Machines.{Steps};
-ghost use Rattle.slate_log.specs.Due.{FaultOf, FaultRose, NoFault, StillDue};
-ghost use Rattle.slate_log.specs.ReadPhase.{read_due};
-ghost use Rattle.slate_log.specs.declared.read_phase.ReadPhase.TheVariants.{Listing};
+ghost use Rattle.slate_txn_log.specs.Due.{FaultOf, FaultRose, NoFault, StillDue};
+ghost use Rattle.slate_txn_log.specs.ReadPhase.{read_due};
+ghost use Rattle.slate_txn_log.specs.declared.read_phase.ReadPhase.TheVariants.{Listing};
 ghost use Rattle.slate_txn.specs.Fencing.{NoFence, NotFenced, NotFencedStep};
 ghost use Rattle.slate_txn.specs.Refreshing.{Refreshes, refreshed, held_after};
 ghost use Rattle.slate_txn.specs.Refreshing.{refreshed_step, held_after_step, refresh_asks, refresh_goes};
 
 use crate::stored::Stored;
 use slate_ids::{Millis, ObjectCodec, SlateDBError};
-use slate_log::{ReadPhase, Rules};
 use slate_store::{ObjectStore, Step};
+use slate_txn_log::{ReadPhase, Rules};
 use std::alloc::Global;
 use std::marker::Model;
 
@@ -22,7 +22,7 @@ pub struct RefreshMachine<T> {
 }
 
 impl<T> Model for RefreshMachine<T> {
-    ghost use Rattle.slate_log.specs.declared.read_phase.ReadPhase.{ReadPhase};
+    ghost use Rattle.slate_txn_log.specs.declared.read_phase.ReadPhase.{ReadPhase};
 
     ghost Value = { ReadPhase T };
 

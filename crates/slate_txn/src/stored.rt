@@ -4,7 +4,7 @@ ghost use Rattle.slate_ids.specs.Answers.{is_memory};
 ghost use Rattle.slate_txn.specs.Holder.{at_version};
 
 use slate_ids::{ObjectCodec, SlateDBError};
-use slate_log::{Rules, Sequenced};
+use slate_txn_log::{Rules, Sequenced};
 use std::alloc::Global;
 use std::marker::Model;
 

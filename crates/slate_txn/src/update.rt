@@ -2,8 +2,8 @@
 ghost use Rattle.std.specs.Prelude.{◌≡◌, ◌+◌, ◌⊎◌, IfOk, IfErr, OnOk, OnErr, Some, Err, ◌≢◌, true, false};
 ghost use Rattle.slate_ids.specs.Answers.{Gives};
 ghost use Rattle.slate_ids.specs.declared.error.SlateDBError.TheVariants.{StoreFault};
-ghost use Rattle.slate_log.specs.CommitPhase.{is_putting, commit_version};
-ghost use Rattle.slate_log.specs.Due.{FaultOf, FaultRose, StillDue};
+ghost use Rattle.slate_txn_log.specs.CommitPhase.{is_putting, commit_version};
+ghost use Rattle.slate_txn_log.specs.Due.{FaultOf, FaultRose, StillDue};
 ghost use Rattle.slate_txn.specs.Holder.{at_version};
 ghost use Rattle.slate_txn.specs.Standing.{SameContents, UpdateStands, may_stand};
 ghost use Rattle.slate_txn.specs.Updating.{started, Updates, UpdateSteps, update_of, update_due, update_open};
@@ -11,8 +11,8 @@ ghost use Rattle.slate_txn.specs.Updating.{done_of, held_of, done_step, held_by}
 
 use crate::stored::{DirtyObject, Stored};
 use slate_ids::{Millis, ObjectCodec, OutOfMemory, SlateDBError};
-use slate_log::{CommitPhase, Right, Rules, prepare};
 use slate_store::{ObjectStore, Step};
+use slate_txn_log::{CommitPhase, Right, Rules, prepare};
 use std::alloc::Global;
 use std::mem;
 

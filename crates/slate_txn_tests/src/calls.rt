@@ -5,9 +5,9 @@ use crate::test_logs::{
     Codec, FencedHolder, First, Holder, Log, Rising, Value, Versions, db, log, store_with,
 };
 use slate_ids::{NumberRange, ObjectPath, SlateDBError};
-use slate_log::{Right, prepare};
 use slate_store::{MemoryStore, ObjectMetadata};
 use slate_txn::{DirtyObject, Fenced, Stored};
+use slate_txn_log::{Right, prepare};
 use std::alloc::Global;
 use std::cell::Cell;
 use std::ops::Bound;

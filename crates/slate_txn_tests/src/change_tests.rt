@@ -1,15 +1,15 @@
 //! Changes of a log's latest version: the plain call that makes one, and a change under way, step by step.
 ghost use Rattle.std.specs.Prelude.{Ok, Some};
-ghost use Rattle.slate_changes.specs.Changes.{holder_fence};
-ghost use Rattle.slate_log.specs.declared.right.Right.TheVariants.{Plain};
+ghost use Rattle.slate_txn_changes.specs.Changes.{holder_fence};
+ghost use Rattle.slate_txn_log.specs.declared.right.Right.TheVariants.{Plain};
 
 use crate::calls::stands;
 use crate::rival_store::RivalStore;
 use crate::test_logs::{Rising, Value, Versions, ended, goes_on, log, store_marked, store_with};
-use slate_changes::{Change, Changing, LogEnd, change_latest, holder_fence};
 use slate_ids::{Millis, OutOfMemory, SlateDBError};
-use slate_log::Right;
 use slate_store::{Mark, MemoryStore, ObjectStore, Step, perform};
+use slate_txn_changes::{Change, Changing, LogEnd, change_latest, holder_fence};
+use slate_txn_log::Right;
 use std::alloc::Global;
 use std::process::Abort;
 

@@ -5,11 +5,11 @@ use crate::test_logs::{
     Codec, First, Holder, Rising, Value, commit_of, db, end, ended, goes_on, log, puts, store_with,
 };
 use slate_ids::{Listed, ObjectPath, SlateDBError};
-use slate_log::{
-    AdvancePhase, ListPhase, LogKind, Right, TryReadPhase, encode_boundary, next_epoch,
-};
 use slate_store::{MemoryStore, Step, StoreAnswer};
 use slate_txn::{ApplyPhase, Stored, prepare_epoch, prepare_raise};
+use slate_txn_log::{
+    AdvancePhase, ListPhase, LogKind, Right, TryReadPhase, encode_boundary, next_epoch,
+};
 use std::alloc::Global;
 use std::process::Abort;
 

@@ -7,9 +7,9 @@ use crate::calls::{
 use crate::test_logs::{
     Codec, FencedHolder, First, Holder, Rising, Value, commit_of, end, ended, goes_on, log, puts,
 };
-use slate_log::{DeletePhase, Right};
 use slate_store::MemoryStore;
 use slate_txn::{DirtyObject, Fenced, FencedUpdateMachine, InitMachine, Stored, UpdateMachine};
+use slate_txn_log::{DeletePhase, Right};
 use std::alloc::Global;
 use std::process::Abort;
 

@@ -1,13 +1,13 @@
 //! Logs of small numbers over a store in memory, for tests.
 ghost use Rattle.std.specs.Prelude.{refl};
-ghost use Rattle.slate_log.specs.Numbers.{encoded, decoded, refusal, round_trip};
+ghost use Rattle.slate_txn_log.specs.Numbers.{encoded, decoded, refusal, round_trip};
 
 use slate_ids::{
     DbPath, Epochs, FormatName, ObjectCodec, ObjectPath, OutOfMemory, SlateDBError, UpdateRule,
 };
-use slate_log::{CommitPhase, LogKind, Right, Rules, Sequenced, prepare};
 use slate_store::{Mark, MemoryStore, ObjectStore, Step, StoreCall};
 use slate_txn::{Fenced, Stored};
+use slate_txn_log::{CommitPhase, LogKind, Right, Rules, Sequenced, prepare};
 use std::alloc::Global;
 use std::process::Abort;
 

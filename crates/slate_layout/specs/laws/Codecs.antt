@@ -4,17 +4,17 @@ use Rattle.slate_ids.specs.declared.error.SlateDBError.{SlateDBError}
 use Rattle.slate_ids.specs.declared.error.FormatName.{FormatName}
 use Rattle.slate_ids.specs.declared.error.FormatName.TheVariants as format
 use Rattle.slate_model.specs.declared.manifest.Manifest.{Manifest}
-use Rattle.slate_manifest_parts.specs.Decoding.{decoded_manifest}
-use Rattle.slate_encodable.specs.Normal.{normal_manifest}
-use Rattle.slate_manifest_parts.specs.TypedManifests.{is_manifest}
-use Rattle.slate_manifest_encoding.specs.Encoding.{encoded_manifest}
-use Rattle.slate_manifest_encoding.proofs.RoundTrip.{round_trip}
-use Rattle.slate_records.specs.Records.{Record}
+use Rattle.slate_layout_manifests.specs.Decoding.{decoded_manifest}
+use Rattle.slate_layout_encodable.specs.Normal.{normal_manifest}
+use Rattle.slate_layout_manifests.specs.TypedManifests.{is_manifest}
+use Rattle.slate_layout_encoding.specs.Encoding.{encoded_manifest}
+use Rattle.slate_layout_encoding.proofs.RoundTrip.{round_trip}
+use Rattle.slate_model_records.specs.Records.{Record}
 use Rattle.slate_layout.specs.Codec.{if_typed, encoded}
-use Rattle.slate_record_bytes.specs.Records.{decoded_record}
-use Rattle.slate_record_bytes.specs.RecordNormal.{normal_record}
-use Rattle.slate_record_bytes.specs.RecordFields.{is_record, encoded_record}
-use Rattle.slate_record_bytes.proofs.RecordTrip.{record_trip}
+use Rattle.slate_layout_records.specs.RecordBytes.{decoded_record}
+use Rattle.slate_layout_records.specs.RecordNormal.{normal_record}
+use Rattle.slate_layout_records.specs.RecordFields.{is_record, encoded_record}
+use Rattle.slate_layout_records.proofs.RecordTrip.{record_trip}
 use Rattle.slate_layout.specs.RecordCodec.{record_encoded}
 
 pub both_told : (name : FormatName) (typed : Bool) (r : Result (List ℕ) SlateDBError) (bytes : List ℕ) → if_typed name typed r ≡ Ok bytes → (typed ≡ true) × (r ≡ Ok bytes)

@@ -1,5 +1,5 @@
 use Rattle.std.proofs.Common.{List, string_bytes}
-use Rattle.slate_events.specs.declared.db_spec.DbSpec.{DbSpec}
+use Rattle.slate_script_events.specs.declared.db_spec.DbSpec.{DbSpec}
 use Rattle.slate_cluster.proofs.ToldLines.{Telling}
 use Rattle.slate_cluster.proofs.telling.tell.Given as goal
 

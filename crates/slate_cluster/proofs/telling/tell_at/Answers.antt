@@ -1,5 +1,5 @@
 use Rattle.std.proofs.Common.{string_bytes, ◌∙◌}
-use Rattle.slate_protocol.specs.Runs.{run}
+use Rattle.slate_cluster_protocol.specs.Runs.{run}
 use Rattle.slate_cluster.proofs.ToldLines.{told_whole}
 use Rattle.slate_cluster.specs.Told.{from_state}
 use Rattle.slate_cluster.proofs.telling.tell_at.Goals as goal

@@ -1,5 +1,5 @@
-use Rattle.slate_encodable.proofs.NormalLaws.{normal_again, normal_only, normal_told}
-use Rattle.slate_manifest_encoding.proofs.Kept.{encoded_kept}
+use Rattle.slate_layout_encodable.proofs.NormalLaws.{normal_again, normal_only, normal_told}
+use Rattle.slate_layout_encoding.proofs.NormalKept.{encoded_kept}
 use Rattle.slate_layout.proofs.laws.normal_laws.Goals as goal
 
 pub returns-clause-again : goal.returns-clause-again

@@ -1,4 +1,4 @@
-use Rattle.slate_manifest_encoding.proofs.UnequalHandles.{none_gathered}
+use Rattle.slate_layout_encoding.proofs.UnequalHandles.{none_gathered}
 use Rattle.slate_layout.proofs.laws.unequal_handles.Goals as goal
 
 pub returns : goal.returns

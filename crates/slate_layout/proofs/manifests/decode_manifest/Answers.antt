@@ -1,5 +1,5 @@
 use Rattle.std.proofs.Common.{rules, ◌≡◌, Ok}
-use Rattle.slate_manifest_parts.specs.Decoding.{decoded_manifest}
+use Rattle.slate_layout_manifests.specs.Decoding.{decoded_manifest}
 use Rattle.slate_layout.proofs.OnlyWritten.{only_written}
 use Rattle.slate_layout.proofs.manifests.decode_manifest.Goals as goal
 

@@ -1,6 +1,6 @@
 use Rattle.std.proofs.Common.{[], rules}
 use Rattle.std.proofs.lemmas.List.Sorted.{IsPartitionPoint-from_clause}
-use Rattle.slate_model.specs.Reach.{is_over}
+use Rattle.slate_model.specs.SegmentReach.{is_over}
 use Rattle.slate_ids.specs.Keys.{pointed}
 use Rattle.slate_model.proofs.Ascending.{someone}
 use Rattle.slate_model.proofs.Chosen.{partitioned, stays_fallen, over_falls, point_is}

@@ -1,10 +1,10 @@
 use Rattle.std.proofs.Common.{◌≡◌, ℕ, suc, add-one, ◌+◌, ◌<◌, List, [], ◌∷◌, ◌++◌, length, get_or, drop, Result, Ok, Err, refl, sym, ap, ◌∙◌, drop-cons, append_assoc}
 use Rattle.serde_json.specs.View.{view, items_view}
 use Rattle.serde_json.specs.declared.value.Value.{Value}
-use Rattle.slate_databases.specs.DatabaseFields.{database_in}
-use Rattle.slate_events.specs.declared.db_spec.DbSpec.{DbSpec}
-use Rattle.slate_events.specs.declared.script.ScriptPlace.{ScriptPlace}
-use Rattle.slate_events.specs.declared.script.ScriptPlace.TheVariants.{Database}
+use Rattle.slate_script_databases.specs.DatabaseFields.{database_in}
+use Rattle.slate_script_events.specs.declared.db_spec.DbSpec.{DbSpec}
+use Rattle.slate_script_events.specs.declared.script.ScriptPlace.{ScriptPlace}
+use Rattle.slate_script_events.specs.declared.script.ScriptPlace.TheVariants.{Database}
 use Rattle.slate_script.specs.Scripts.{at_place, and_then, with_front, databases_from}
 use Rattle.slate_script.proofs.reading.databases.Goals as goal
 

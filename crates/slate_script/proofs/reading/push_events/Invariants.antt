@@ -1,5 +1,5 @@
 use Rattle.std.proofs.Common.{◌≡◌, ◌++◌, replicate}
-use Rattle.slate_events.specs.declared.event.Event.TheVariants.{Step}
+use Rattle.slate_script_events.specs.declared.event.Event.TheVariants.{Step}
 use Rattle.slate_script.proofs.reading.push_events.Given as goal
 
 abbrev pub invariant-loop : goal.invariant-loop

@@ -1,6 +1,6 @@
 use Rattle.std.proofs.Common.{◌++◌, subst}
-use Rattle.slate_protocol.specs.Lawful.{Lawful}
-use Rattle.slate_protocol.specs.Runs.{Course}
+use Rattle.slate_cluster_protocol.specs.Lawful.{Lawful}
+use Rattle.slate_cluster_protocol.specs.Runs.{Course}
 use Rattle.slate_cluster.proofs.Events.{one_each}
 use Rattle.slate_cluster.proofs.Reached.{has_run}
 use Rattle.slate_cluster.proofs.cluster.Cluster.run.Goals as goal

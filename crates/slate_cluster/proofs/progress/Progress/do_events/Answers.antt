@@ -1,5 +1,5 @@
 use Rattle.std.proofs.Common.{List, ◌++◌, ◌∷◌, [], ap, ◌∙◌}
-use Rattle.slate_events.specs.declared.entry.Entry.{Entry}
+use Rattle.slate_script_events.specs.declared.entry.Entry.{Entry}
 use Rattle.slate_cluster.proofs.Events.{goes_further}
 use Rattle.slate_cluster.proofs.progress.Progress.do_events.Goals as goal
 

@@ -1,7 +1,7 @@
 use Rattle.std.proofs.Common.{◌≡◌, pos, List, ap, ◌∙◌, subst}
 use Rattle.slate_ids.specs.declared.object_path.ObjectPath.{ObjectPath}
 use Rattle.slate_store.specs.Store.{removed}
-use Rattle.slate_store.specs.Calls.{Calls, next_mark}
+use Rattle.slate_store.specs.StoreCalls.{Calls, next_mark}
 use Rattle.slate_store.specs.InMemory.{Memory, told_of, left_under}
 use Rattle.slate_store.specs.declared.mark.Mark.{Mark}
 use Rattle.slate_store.specs.declared.object.StoredObject.{StoredObject}

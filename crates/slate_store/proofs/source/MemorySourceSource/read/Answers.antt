@@ -1,5 +1,5 @@
 use Rattle.std.proofs.Common.{length, ap, sym, ◌∙◌}
-use Rattle.slate_store.specs.Counts.{MemoryEnd}
+use Rattle.slate_store.specs.FaultCounts.{MemoryEnd}
 use Rattle.slate_store.proofs.Slices.{front_and_rest, nothing_left}
 use Rattle.slate_store.proofs.source.MemorySourceSource.read.Goals as goal
 

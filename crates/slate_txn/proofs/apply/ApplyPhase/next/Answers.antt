@@ -3,8 +3,8 @@ use Rattle.std.proofs.lemmas.Int.{to_z-of_z}
 use Rattle.slate_txn.proofs.ApplyFaults.{apply_faults}
 use Rattle.slate_txn.proofs.ApplyRuns.{where_reads}
 use Rattle.slate_txn.proofs.Moves.{steps_by}
-use Rattle.slate_log.proofs.Faults.{step_rose}
-use Rattle.slate_log.proofs.Steps.{steps_where}
+use Rattle.slate_txn_log.proofs.Faults.{step_rose}
+use Rattle.slate_txn_log.proofs.Steps.{steps_where}
 use Rattle.slate_txn.proofs.apply.ApplyPhase.next.Goals as goal
 
 pub returns-in-Ok-performed-clause-steps : goal.returns-in-Ok-performed-clause-steps

@@ -1,6 +1,6 @@
 use Rattle.std.proofs.Common.{sym, rules, w64}
 use Rattle.std.proofs.lemmas.Int.{to_z-of_z}
-use Rattle.slate_log.specs.Change.{next_epoch}
+use Rattle.slate_txn_log.specs.Change.{next_epoch}
 use Rattle.slate_txn.proofs.fenced.Fenced.init.Goals as goal
 
 pub returns-clause-fenced : goal.returns-clause-fenced

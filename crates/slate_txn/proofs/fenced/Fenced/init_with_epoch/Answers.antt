@@ -1,6 +1,6 @@
 use Rattle.std.proofs.Common.{sym, rules, w64}
 use Rattle.std.proofs.lemmas.Int.{to_z-of_z}
-use Rattle.slate_log.specs.declared.right.Right.TheVariants.{Plain}
+use Rattle.slate_txn_log.specs.declared.right.Right.TheVariants.{Plain}
 use Rattle.slate_txn.proofs.SetEpochs.{set_own, set_below}
 use Rattle.slate_txn.specs.FencedApplying.{fenced_made}
 use Rattle.slate_txn.specs.Raise.{this_epoch}

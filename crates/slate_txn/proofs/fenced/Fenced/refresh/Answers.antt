@@ -1,5 +1,5 @@
 use Rattle.std.proofs.Common.{subst}
-use Rattle.slate_log.specs.Due.{NoFault}
+use Rattle.slate_txn_log.specs.Due.{NoFault}
 use Rattle.slate_txn.proofs.FencedRefreshes.{after_fence, codec_within, fenced_fault, refreshed_within}
 use Rattle.slate_txn.specs.Fencing.{FencedOnly, NoFence}
 use Rattle.slate_txn.proofs.fenced.Fenced.refresh.Goals as goal

@@ -1,6 +1,6 @@
 use Rattle.std.proofs.Common.{subst, w64, ap, ◌∙◌}
 use Rattle.std.proofs.lemmas.Int.{to_z-of_z}
-use Rattle.slate_log.specs.Due.{NoFault}
+use Rattle.slate_txn_log.specs.Due.{NoFault}
 use Rattle.slate_txn.proofs.FencedRefreshes.{after_fence_step, codec_within, fenced_step_fault, fenced_refresh_next}
 use Rattle.slate_txn.specs.FencedRefreshing.{fence_after_step}
 use Rattle.slate_txn.specs.Fencing.{FencedStep, NoFence}

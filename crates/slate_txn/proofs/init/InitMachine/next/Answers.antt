@@ -3,7 +3,7 @@ use Rattle.slate_ids.specs.Answers.{is_memory}
 use Rattle.std.proofs.lemmas.Int.{to_z-of_z}
 use Rattle.slate_store.specs.Machines.{Steps}
 use Rattle.slate_store.specs.declared.step.Step.TheVariants.{Done}
-use Rattle.slate_log.specs.CommitPhase.{commit_asks, commit_goes}
+use Rattle.slate_txn_log.specs.CommitPhase.{commit_asks, commit_goes}
 use Rattle.slate_txn.specs.Holder.{Holder}
 use Rattle.slate_txn.specs.Initing.{InitSteps}
 use Rattle.slate_txn.proofs.Inits.{init_ends}

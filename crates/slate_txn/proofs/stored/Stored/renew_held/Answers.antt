@@ -1,6 +1,6 @@
 use Rattle.std.proofs.Common.{subst}
 use Rattle.slate_ids.specs.Answers.{Gives}
-use Rattle.slate_log.specs.Change.{renewed}
+use Rattle.slate_txn_log.specs.Change.{renewed}
 use Rattle.slate_txn.proofs.AppliesBy.{renewed_within}
 use Rattle.slate_txn.specs.Holder.{Holder}
 use Rattle.slate_txn.proofs.stored.Stored.renew_held.Goals as goal

@@ -1,7 +1,7 @@
 use Rattle.std.proofs.Common.{w64, subst}
 use Rattle.std.proofs.lemmas.Int.{to_z-of_z}
 use Rattle.slate_ids.specs.Answers.{OrMemory}
-use Rattle.slate_log.specs.Commit.{Committed, CommitBegan}
+use Rattle.slate_txn_log.specs.Commit.{Committed, CommitBegan}
 use Rattle.slate_txn.specs.Holder.{Holder}
 use Rattle.slate_txn.proofs.Standing.{not_before, update_left}
 use Rattle.slate_txn.proofs.Updates.{updated}

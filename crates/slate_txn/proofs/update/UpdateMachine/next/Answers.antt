@@ -1,7 +1,7 @@
 use Rattle.std.proofs.Common.{subst, w64}
 use Rattle.std.proofs.lemmas.Int.{to_z-of_z}
 use Rattle.slate_store.specs.Machines.{Steps}
-use Rattle.slate_log.specs.CommitPhase.{commit_asks, commit_goes}
+use Rattle.slate_txn_log.specs.CommitPhase.{commit_asks, commit_goes}
 use Rattle.slate_txn.specs.Holder.{Holder}
 use Rattle.slate_txn.proofs.Updates.{update_next}
 use Rattle.slate_txn.proofs.update.UpdateMachine.next.Goals as goal

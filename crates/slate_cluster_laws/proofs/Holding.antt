@@ -1,0 +1,255 @@
+-- What the parties of a run hold.
+use Rattle.std.proofs.Common.{◌≡◌, ℕ, ◌<◌, ◌≤◌, ◌^◌, ℤ, nat_le, true, List, [], ◌∷◌, ◌++◌, Option, Some, None, Result, Ok, Err, refl, sym, ap, ◌∙◌, subst, arith}
+use Rattle.std.proofs.lemmas.Bool.Decides.{nat_tests}
+use Rattle.std.specs.Prelude.{if◌then◌else◌}
+use Rattle.slate_txn_changes.specs.LogWorks.{WorkGoes, commit_on, work_asks as changes_ask, work_goes}
+use Rattle.slate_txn_changes.specs.declared.log_work.LogWork.{LogWork}
+use Rattle.slate_txn_changes.specs.declared.log_work.LogWork.TheVariants.{Reading, Committing}
+use Rattle.slate_state_calls.specs.Commits.{ManifestChanging, RecordChanging, manifest_put, record_put}
+use Rattle.slate_state_calls.specs.Opening.{on_record as open_record, raising}
+use Rattle.slate_state_calls.specs.StateSteps.{on_manifest as state_manifest, on_record as state_record, state_asks}
+use Rattle.slate_state_calls.specs.declared.compactor.Compactor.{Compactor}
+use Rattle.slate_state_calls.specs.declared.open_phase.OpenPhase.TheVariants as opening
+use Rattle.slate_state_calls.specs.declared.state_phase.StatePhase.{StatePhase}
+use Rattle.slate_state_calls.specs.declared.state_phase.StatePhase.TheVariants as compacting
+use Rattle.slate_ids.specs.declared.error.SlateDBError.{SlateDBError}
+use Rattle.slate_ids.specs.declared.error.SlateDBError.TheVariants.{InvalidDBState, TransactionalObjectVersionExists, StoreFault}
+use Rattle.slate_ids.specs.declared.error.StateCause.TheVariants.{NotOpen}
+use Rattle.slate_layout.specs.Codec.{encoded}
+use Rattle.slate_layout_manifests.specs.Decoding.{decoded_manifest}
+use Rattle.slate_gc_passes.specs.GcPhase.{removed_goes}
+use Rattle.slate_layout_records.specs.RecordBytes.{decoded_record}
+use Rattle.slate_store.specs.declared.store_answer.StoreAnswer.{StoreAnswer}
+use Rattle.slate_store.specs.declared.store_call.StoreCall.{StoreCall}
+use Rattle.slate_state_updates.specs.ManifestChanges.{commit_of}
+use Rattle.slate_state_updates.specs.declared.manifest_change.ManifestChange.TheVariants.{DropExpired}
+use Rattle.slate_ids.specs.declared.object_path.ObjectPath.{ObjectPath}
+use Rattle.slate_store.specs.Machines.{End}
+use Rattle.slate_store.specs.Store.{Store, effect}
+use Rattle.slate_store.specs.declared.mark.Mark.{Mark}
+use Rattle.slate_store.specs.declared.mark.Mark.TheVariants.{Good, Fail, Lost}
+use Rattle.slate_script_events.specs.declared.call.Call.{Call}
+use Rattle.slate_script_events.specs.declared.db_spec.DbSpec.{DbSpec}
+use Rattle.slate_script_events.specs.declared.event.Event.{Event}
+use Rattle.slate_ids.specs.declared.gc_message.GcMessage.{GcMessage}
+use Rattle.slate_gc_passes.specs.declared.gc_phase.GcPhase.TheVariants as gc
+use Rattle.slate_gc_passes.specs.declared.pass_phase.PassPhase.{PassPhase}
+use Rattle.slate_gc_passes.specs.declared.pass_phase.PassPhase.TheVariants as passing
+use Rattle.slate_txn_log.specs.Advance.{boundary_at}
+use Rattle.slate_txn_log.specs.CommitPhase.{CommitGoes, commit_asks, commit_goes, bounded_goes}
+use Rattle.slate_txn_log.specs.LogPaths.{version_path}
+use Rattle.slate_txn_log.specs.ReadPhase.{Reply, read_asks, read_goes}
+use Rattle.slate_txn_log.specs.declared.commit_phase.CommitPhase.{CommitPhase}
+use Rattle.slate_txn_log.specs.declared.commit_phase.CommitPhase.TheVariants.{Putting, Bounding, Over}
+use Rattle.slate_txn_log.specs.declared.log_kind.LogKind.{LogKind}
+use Rattle.slate_txn_log.specs.declared.log_kind.LogKind.TheVariants as logs
+use Rattle.slate_txn_log.specs.declared.read_phase.ReadPhase.{ReadPhase}
+use Rattle.slate_cluster_protocol.specs.Chains.{Link, Log, bound_in, AgreesAt}
+use Rattle.slate_cluster_protocol.specs.Holding.{Fits, IsVersion, IsMadeOf, Each, IsManifestThat, IsRefused, picks_in, due_in}
+use Rattle.slate_cluster_protocol.specs.Holding.IsMadeOf.{OfVersion as Makes, OfNone as Begins}
+use Rattle.slate_cluster_protocol.specs.Lawful.{IsAccepted, AreGood, chains_at_end, course_after, gone_after}
+use Rattle.slate_cluster_protocol.specs.Logs.{Held, Chain, Chains, Author, Phrase, Puts, OfManifest, change_phrase, log_of, manifest_phrase, manifest_puts, manifests, phrase_of, record_phrase, record_puts, state_phrase, world_after}
+use Rattle.slate_cluster_protocol.specs.Logs.Phrase.{Reads, Commits, Collects}
+use Rattle.slate_cluster_protocol.specs.Owners.{owner_of}
+use Rattle.slate_cluster_protocol.specs.Owners.Owner.{Version}
+use Rattle.slate_cluster_protocol.specs.Reach.{IsSpare}
+use Rattle.slate_cluster_protocol.specs.Rows.{compactor_on, manifest_on, moved, open_on, pass_on, record_on, state_on}
+use Rattle.slate_cluster_protocol.specs.Runs.{opening}
+use Rattle.slate_cluster_protocol.specs.Safe.{IsCollected, AllCollected}
+use Rattle.slate_cluster_protocol.specs.Specs.{opening_world}
+use Rattle.slate_cluster_protocol.specs.Works.{asks}
+use Rattle.slate_cluster_protocol.specs.World.{World, HasDb, party_of}
+use Rattle.slate_cluster_protocol.specs.declared.party.Facts.{Facts}
+use Rattle.slate_cluster_protocol.specs.declared.party.Party.{Party}
+use Rattle.slate_cluster_protocol.specs.declared.party.State.TheVariants.{Busy}
+use Rattle.slate_cluster_protocol.specs.declared.party.Task.{Task}
+use Rattle.slate_cluster_protocol.specs.declared.work.Work.{Work}
+use Rattle.slate_cluster_protocol.specs.declared.work.Work.TheVariants.{Manifests, Records, PutTable, Pass, Opening, Compacting}
+use Rattle.slate_cluster_laws.proofs.AfterEvents.{after_inv, course_collected}
+use Rattle.slate_cluster_laws.proofs.Calls.{WorkKnows}
+use Rattle.slate_cluster_laws.proofs.Facts.{IsSound, IsMade, ReadKnows, ReadBrings}
+use Rattle.slate_cluster_laws.proofs.Facts.IsMade.{OfVersion, OfNone}
+use Rattle.slate_cluster_laws.proofs.GoingOn.{run_world}
+use Rattle.slate_cluster_laws.proofs.Manifests.{log_laws}
+use Rattle.slate_cluster_laws.proofs.Passes.{PassKnows, each_is}
+use Rattle.slate_cluster_laws.proofs.Paths.{version_owner}
+use Rattle.slate_cluster_laws.proofs.Removals.{good_run}
+use Rattle.slate_cluster_laws.proofs.Runs.{Inv, StateKnows}
+use Rattle.slate_cluster_laws.proofs.Steps.{PhraseKnows, db_in, work_db}
+use Rattle.slate_cluster_laws.proofs.Stores.{IsTidy}
+use Rattle.slate_cluster_laws.proofs.Turns.{read_step}
+
+pub above_bound : (specs : List DbSpec) (events : List Event) (k : LogKind) (db : List ℕ) (bound number : ℕ) → IsAccepted specs → HasDb (world_after events (opening_world specs)) db
+    → bound_in (log_of k) db (world_after events (opening_world specs)).store ≡ Some bound → bound < number → number < 2 ^ 64
+    → AgreesAt (log_of k) db (world_after events (opening_world specs)).store (chains_at_end specs events k db) number
+above_bound specs events k db bound number accepted has read lt small =
+    let log = (after_inv specs events accepted).logs k db has in
+    let same : bound ≡ log.bound = cc (log.read, read) in
+    log.above number (subst (λ b. b < number) same lt) small
+
+-- ---- reads
+
+-- the end of a read answers a committed version
+module _ {V A : Type 0} (log : Log V A) (db : List ℕ) (s : Store) (c : List (Link V A)) where
+  answered : (g : Reply V) (to : ReadPhase V) (number : ℕ) (v : V) → g ≡ End to (Ok (Some (number, v))) → ReadBrings log db s c g → IsVersion c number v
+  answered g to number v e b = let it = subst (λ (x : Reply V). ReadBrings log db s c x) e b in record { link = it.link; at = it.at; value = it.value }
+
+answers_of : (k : LogKind) (db : List ℕ) (s : Store) (c : Chain k) → IsSound (log_of k) db s c → IsTidy s.objects → (phase : ReadPhase (Held k)) (mark : Mark) (moment : ℤ) → ReadKnows (log_of k) db s c phase
+    → (to : ReadPhase (Held k)) (number : ℕ) (v : Held k) → read_goes k (log_of k).decoded phase (effect mark (read_asks db k phase) moment s).answer ≡ End to (Ok (Some (number, v))) → IsVersion c number v
+answers_of logs.Manifest db s c i tidy phase mark moment h to number v e =
+    answered (log_of logs.Manifest) db s c _ to number v e (read_step (log_of logs.Manifest) (log_laws logs.Manifest) db s c i tidy phase mark moment h).brings
+answers_of logs.Compactions db s c i tidy phase mark moment h to number v e =
+    answered (log_of logs.Compactions) db s c _ to number v e (read_step (log_of logs.Compactions) (log_laws logs.Compactions) db s c i tidy phase mark moment h).brings
+
+-- ---- a commit whose number was collected
+
+-- a commit that ended with a refusal
+record CommitFails {T : Type 0} (g : CommitGoes T) : Type 0 where
+  pub phase : CommitPhase T
+  pub error : _
+  pub is : g ≡ End phase (Err error)
+
+at_most : (n b : ℕ) → n ≤ b → nat_le n b ≡ true
+at_most n b h = grind (arith, nat_tests)
+
+-- a change under way that ended so
+record ChangeFails {V : Type 0} (g : WorkGoes V) : Type 0 where
+  pub work : LogWork V
+  pub error : _
+  pub is : g ≡ End work (Err error)
+
+-- at or below the boundary it is refused, whatever the mark
+bound_fails : {T : Type 0} (db : List ℕ) (k : LogKind) (n : ℕ) (v : T) (s : Store) (moment : ℤ) (mark : Mark) (b : ℕ) → boundary_at db k s ≡ Some b → n ≤ b
+    → CommitFails (commit_goes (Bounding n v) (effect mark (commit_asks db k (Bounding n v)) moment s).answer)
+bound_fails db k n v s moment Good b read le = record {
+  phase = Over;
+  error = TransactionalObjectVersionExists n (Some b);
+  is = ap (bounded_goes n v) read ∙ ap (λ t. if t then End Over (Err (TransactionalObjectVersionExists n (Some b))) else End Over (Ok (n, v))) (at_most n b le);
+}
+bound_fails db k n v s moment Fail b read le = record { phase = Over; error = StoreFault; is = refl }
+bound_fails db k n v s moment Lost b read le = record { phase = Over; error = StoreFault; is = refl }
+
+-- a phrase that is a commit whose step ends with a refusal
+abbrev PhraseFails : Store → ℤ → Mark → Phrase → Type 0
+PhraseFails s moment mark (Commits k db puts now phase) = CommitFails (commit_goes phase (effect mark (commit_asks db k phase) moment s).answer)
+PhraseFails s moment mark _ = ⊥
+
+-- then the call ends with it
+module _ (s : Store) (moment : ℤ) (mark : Mark) (facts : Facts) (call : Call) where
+  abbrev answered_by : StoreCall → StoreAnswer
+  answered_by asked = (effect mark asked moment s).answer
+
+  -- the refusal of a commit is that of the change under way
+  change_fails : (k : LogKind) (db : List ℕ) (puts : Puts) (commit_of : ℤ → ℕ → Held k → Result (Option (CommitPhase (Held k))) SlateDBError) (work : LogWork (Held k)) → PhraseFails s moment mark (change_phrase k db puts work)
+      → ChangeFails (work_goes k (log_of k).decoded commit_of moment work (answered_by (changes_ask db k work)))
+  change_fails k db puts commit_of (Reading phase) h = absurd h
+  change_fails k db puts commit_of (Committing made phase) h = record { work = Committing made h.phase; error = h.error; is = ap (commit_on made) h.is }
+
+  manifest_fails : (db : List ℕ) (p : ManifestChanging) → PhraseFails s moment mark (manifest_phrase db p) → ChangeFails (work_goes logs.Manifest decoded_manifest (manifest_put p.change) moment p.work (answered_by (changes_ask db logs.Manifest p.work)))
+  manifest_fails db p h = change_fails logs.Manifest db (manifest_puts p.change) (manifest_put p.change) p.work h
+
+  record_fails : (db : List ℕ) (p : RecordChanging) → PhraseFails s moment mark (record_phrase db p) → ChangeFails (work_goes logs.Compactions decoded_record (record_put p.change) moment p.work (answered_by (changes_ask db logs.Compactions p.work)))
+  record_fails db p h = change_fails logs.Compactions db (record_puts p.change) (record_put p.change) p.work h
+
+  compactor_fails : (db : List ℕ) (phase : StatePhase) (o : Option Compactor) → PhraseFails s moment mark (state_phrase db phase) → IsRefused (compactor_on facts db moment phase (answered_by (state_asks db phase)) o).next
+  compactor_fails db phase None h = record { error = InvalidDBState NotOpen; is = refl }
+  compactor_fails db (compacting.OnRecord step p) (Some c) h = let f = record_fails db p h in record { error = f.error; is = ap (λ g. (state_on facts db (state_record step moment c p g)).next) f.is }
+  compactor_fails db (compacting.OnManifest step p) (Some c) h = let f = manifest_fails db p h in record { error = f.error; is = ap (λ g. (state_on facts db (state_manifest step moment c p g)).next) f.is }
+  compactor_fails db compacting.Over (Some c) h = absurd h
+
+  work_fails : (work : Work) → PhraseFails s moment mark (phrase_of work) → IsRefused (moved facts call work moment (answered_by (asks work))).next
+  work_fails (Manifests db p) h = let f = manifest_fails db p h in record { error = f.error; is = ap (λ g. (manifest_on facts call db p g).next) f.is }
+  work_fails (Records db p) h = let f = record_fails db p h in record { error = f.error; is = ap (λ g. (record_on facts db p g).next) f.is }
+  work_fails (PutTable db upload bytes) h = absurd h
+  work_fails (Pass db settings filter (gc.Removing work)) h =
+      let f = change_fails logs.Manifest db (OfManifest DropExpired) (commit_of encoded DropExpired) work h in
+      record { error = f.error; is = ap (λ g. (pass_on facts db settings filter (removed_goes settings.pass g)).next) f.is }
+  work_fails (Pass db settings filter (gc.Collecting at phase)) h = absurd h
+  work_fails (Opening db (opening.Raising p)) h = let f = manifest_fails db p h in record { error = f.error; is = ap (λ g. (open_on facts db (raising p g)).next) f.is }
+  work_fails (Opening db (opening.OnRecord step m p)) h = let f = record_fails db p h in record { error = f.error; is = ap (λ g. (open_on facts db (open_record step m moment p g)).next) f.is }
+  work_fails (Opening db opening.Over) h = absurd h
+  work_fails (Compacting db phase) h = compactor_fails db phase facts.compactor h
+
+-- what was removed up to now was collected
+gone_collected : (specs : List DbSpec) (events : List Event) → IsAccepted specs → AreGood specs events → AllCollected (world_after events (opening_world specs)) (chains_at_end specs events) (gone_after specs events)
+gone_collected specs events accepted good =
+    subst (λ (w : World). AllCollected w (chains_at_end specs events) (gone_after specs events)) (run_world events 0 (opening specs) (course_after specs events) (good_run specs events good))
+    (course_collected specs events accepted good)
+
+one_collected : (w : World) (chains : Chains) (front : List ObjectPath) (path : ObjectPath) (back : List ObjectPath) → AllCollected w chains (front ++ path ∷ back) → IsCollected w chains path
+one_collected w chains [] path back h = h.0
+one_collected w chains (x ∷ front) path back h = one_collected w chains front path back h.1
+
+-- ---- the parties
+
+module _ (specs : List DbSpec) (events : List Event) (n : ℕ) (p : Party) (task : Task) (accepted : IsAccepted specs) (at : party_of n (world_after events (opening_world specs)).parties ≡ Some p) (is : p.state ≡ Busy task) where
+  abbrev w : World
+  w = world_after events (opening_world specs)
+
+  abbrev chains : Chains
+  chains = chains_at_end specs events
+
+  i : Inv w chains
+  i = after_inv specs events accepted
+
+  known : WorkKnows w.store chains n p.facts task.call task.work
+  known = subst (λ s. StateKnows w.store chains n p.facts s) is (i.parties n p at).knows
+
+  knows : (phrase : Phrase) → phrase_of task.work ≡ phrase → PhraseKnows w.store chains n phrase
+  knows phrase e = subst (λ ph. PhraseKnows w.store chains n ph) e known.knows
+
+  -- what it puts is what its facts and its call say
+  pub work_fits : Fits p.facts task.call task.work
+  work_fits = known.fits
+
+  made_of : (k : LogKind) (c : Chain k) (author : Author) (number : ℕ) (v : Held k) → IsMade (log_of k) c author number v → IsMadeOf k c author number v
+  made_of k c author number v (OfVersion old at number_is makes lawful passed) = Makes old at number_is makes
+  made_of k c author number v (OfNone number_is first) = Begins number_is first
+
+  pub commit_holds : (k : LogKind) (db : List ℕ) (puts : Puts) (now : ℤ) (number : ℕ) (bytes : List ℕ) (v : Held k) → phrase_of task.work ≡ Commits k db puts now (Putting number bytes v)
+      → IsMadeOf k (chains k db) (record { party = n; puts = puts; now = now }) number v
+  commit_holds k db puts now number bytes v e = made_of k (chains k db) _ number v (knows (Commits k db puts now (Putting number bytes v)) e).made
+
+  all_spare : (db : List ℕ) (phase : PassPhase) → PassKnows w.store (chains logs.Manifest db) db phase → Each (IsManifestThat db (IsSpare manifests (chains logs.Manifest db))) (picks_in phase)
+  all_spare db (passing.Advancing phase left counts) h = each_is db _ (IsSpare manifests (chains logs.Manifest db)) (λ k w. w.1) left h.1
+  all_spare db (passing.Deleting left counts) h = each_is db _ (IsSpare manifests (chains logs.Manifest db)) (λ k w. w.1) left h
+  all_spare db _ h = tt
+
+  pub spare_picks : (db : List ℕ) (pass : GcMessage) (phase : PassPhase) → phrase_of task.work ≡ Collects db pass phase → Each (IsManifestThat db (IsSpare manifests (chains logs.Manifest db))) (picks_in phase)
+  spare_picks db pass phase e = all_spare db phase (knows (Collects db pass phase) e).1
+
+  all_bounded : (db : List ℕ) (bound : ℕ) → bound_in manifests db w.store ≡ Some bound → (phase : PassPhase) → PassKnows w.store (chains logs.Manifest db) db phase → Each (IsManifestThat db (λ k. k ≤ bound)) (due_in phase)
+  all_bounded db bound read (passing.Deleting left counts) h = each_is db _ (λ k. k ≤ bound) (λ k w. w.0.reached bound read) left h
+  all_bounded db bound read _ h = tt
+
+  pub bounded_due : (db : List ℕ) (pass : GcMessage) (phase : PassPhase) (bound : ℕ) → phrase_of task.work ≡ Collects db pass phase → bound_in manifests db w.store ≡ Some bound → Each (IsManifestThat db (λ k. k ≤ bound)) (due_in phase)
+  bounded_due db pass phase bound e read = all_bounded db bound read phase (knows (Collects db pass phase) e).1
+
+  -- the database of a phrase is one of the cluster
+  has_db : (phrase : Phrase) → phrase_of task.work ≡ phrase → HasDb w (db_in phrase)
+  has_db phrase e = subst (λ d. HasDb w d) (sym known.own ∙ (sym (work_db task.work) ∙ ap db_in e)) (i.parties n p at).has
+
+  pub read_answers : (k : LogKind) (db : List ℕ) (phase : ReadPhase (Held k)) (mark : Mark) (moment : ℤ) (to : ReadPhase (Held k)) (number : ℕ) (v : Held k) → phrase_of task.work ≡ Reads k db phase
+      → read_goes k (log_of k).decoded phase (effect mark (read_asks db k phase) moment w.store).answer ≡ End to (Ok (Some (number, v))) → IsVersion (chains k db) number v
+  read_answers k db phase mark moment to number v e answer = answers_of k db w.store (chains k db) (i.logs k db (has_db (Reads k db phase) e)) i.tidy phase mark moment (knows (Reads k db phase) e) to number v answer
+
+  -- the step of a commit whose number was collected ends the call with a refusal
+  pub late_refused : (k : LogKind) (db : List ℕ) (puts : Puts) (now : ℤ) (number : ℕ) (v : Held k) (front back : List ObjectPath) (mark : Mark) (moment : ℤ) → phrase_of task.work ≡ Commits k db puts now (Bounding number v)
+      → AreGood specs events → gone_after specs events ≡ front ++ version_path k db number ∷ back → IsRefused (moved p.facts task.call task.work moment (effect mark (asks task.work) moment w.store).answer).next
+  late_refused k db puts now number v front back mark moment e good gone =
+      let all = subst (λ (paths : List ObjectPath). AllCollected w chains paths) gone (gone_collected specs events accepted good) in
+      work_fails w.store moment mark p.facts task.call task.work (subst (PhraseFails w.store moment mark) (sym e) (by_log k db number v (one_collected w chains front (version_path k db number) back all)))
+    where
+      by_log : (k : LogKind) (db : List ℕ) (number : ℕ) (v : Held k) → IsCollected w chains (version_path k db number) → CommitFails (commit_goes (Bounding number v) (effect mark (commit_asks db k (Bounding number v)) moment w.store).answer)
+      by_log k db number v h =
+          let same : Version h.log h.db h.number ≡ Version k db number = sym (version_owner h.log h.db h.number) ∙ (ap owner_of (sym h.is) ∙ version_owner k db number) in
+          let same_log : h.log ≡ k = cc (same) in
+          let same_db : h.db ≡ db = cc (same) in
+          let same_number : h.number ≡ number = cc (same) in
+          let log = i.logs h.log h.db h.has in
+          let read : boundary_at db k w.store ≡ Some log.bound = subst (λ d. boundary_at d k w.store ≡ Some log.bound) same_db (subst (λ j. boundary_at h.db j w.store ≡ Some log.bound) same_log (by_kind h.log h.db log.bound log.read)) in
+          bound_fails db k number v w.store moment mark log.bound read (subst (λ j. j ≤ log.bound) same_number (h.bounded log.bound log.read))
+        where
+          by_kind : (k : LogKind) (db : List ℕ) (b : ℕ) → bound_in (log_of k) db w.store ≡ Some b → boundary_at db k w.store ≡ Some b
+          by_kind logs.Manifest db b e = e
+          by_kind logs.Compactions db b e = e

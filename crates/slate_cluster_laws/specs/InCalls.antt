@@ -1,0 +1,64 @@
+-- What holds of a party in a call at the end of a run.
+use Rattle.std.specs.Prelude.{◌≡◌, ℕ, ℤ, ◌≤◌, List, ◌∷◌, ◌++◌, Some, Ok}
+use Rattle.slate_ids.specs.declared.gc_message.GcMessage.{GcMessage}
+use Rattle.slate_ids.specs.declared.object_path.ObjectPath.{ObjectPath}
+use Rattle.slate_store.specs.Machines.{End}
+use Rattle.slate_store.specs.Store.{effect}
+use Rattle.slate_store.specs.declared.mark.Mark.{Mark}
+use Rattle.slate_txn_log.specs.LogPaths.{version_path}
+use Rattle.slate_txn_log.specs.ReadPhase.{read_asks, read_goes}
+use Rattle.slate_txn_log.specs.declared.commit_phase.CommitPhase.TheVariants.{Putting, Bounding}
+use Rattle.slate_txn_log.specs.declared.log_kind.LogKind.{LogKind}
+use Rattle.slate_txn_log.specs.declared.log_kind.LogKind.TheVariants as logs
+use Rattle.slate_txn_log.specs.declared.read_phase.ReadPhase.{ReadPhase}
+use Rattle.slate_gc_passes.specs.declared.pass_phase.PassPhase.{PassPhase}
+use Rattle.slate_script_events.specs.declared.db_spec.DbSpec.{DbSpec}
+use Rattle.slate_script_events.specs.declared.event.Event.{Event}
+use Rattle.slate_cluster_protocol.specs.Chains.{bound_in}
+use Rattle.slate_cluster_protocol.specs.Holding.{IsVersion, IsMadeOf, Each, IsManifestThat, IsRefused, picks_in, due_in}
+use Rattle.slate_cluster_protocol.specs.Lawful.{chains_at_end, gone_after, world_at_end}
+use Rattle.slate_cluster_protocol.specs.Logs.{Held, Puts, log_of, manifests, phrase_of}
+use Rattle.slate_cluster_protocol.specs.Logs.Phrase.{Reads, Commits, Collects}
+use Rattle.slate_cluster_protocol.specs.Reach.{IsSpare}
+use Rattle.slate_cluster_protocol.specs.Rows.{moved}
+use Rattle.slate_cluster_protocol.specs.Works.{asks}
+use Rattle.slate_cluster_protocol.specs.World.{party_of}
+use Rattle.slate_cluster_protocol.specs.declared.party.Party.{Party}
+use Rattle.slate_cluster_protocol.specs.declared.party.State.TheVariants.{Busy}
+use Rattle.slate_cluster_protocol.specs.declared.party.Task.{Task}
+
+-- where this party is in this call, that holds
+abbrev pub InCall : List DbSpec → List Event → ℕ → Party → Task → Type 0 → Type 0
+InCall specs events n p task Holds = party_of n (world_at_end specs events).parties ≡ Some p → p.state ≡ Busy task → Holds
+
+-- a version that is about to be committed is what the party makes of the committed version before, by what it puts
+abbrev pub CommitsHold : List DbSpec → List Event → ℕ → Task → Type 0
+CommitsHold specs events n task =
+    (k : LogKind) (db : List ℕ) (puts : Puts) (now : ℤ) (number : ℕ) (bytes : List ℕ) (v : Held k) → phrase_of task.work ≡ Commits k db puts now (Putting number bytes v)
+    → IsMadeOf k (chains_at_end specs events k db) (record { party = n; puts = puts; now = now }) number v
+
+-- a version that the end of a read answers is a committed one, whatever the step was marked
+abbrev pub ReadsAnswer : List DbSpec → List Event → Task → Type 0
+ReadsAnswer specs events task =
+    (k : LogKind) (db : List ℕ) (phase : ReadPhase (Held k)) (mark : Mark) (moment : ℤ) (to : ReadPhase (Held k)) (number : ℕ) (v : Held k) → phrase_of task.work ≡ Reads k db phase
+    → read_goes k (log_of k).decoded phase (effect mark (read_asks db k phase) moment (world_at_end specs events).store).answer ≡ End to (Ok (Some (number, v)))
+    → IsVersion (chains_at_end specs events k db) number v
+
+-- what is picked, and what is left of it, are manifests below the greatest committed version, and that version names none of them
+abbrev pub PicksSpare : List DbSpec → List Event → Task → Type 0
+PicksSpare specs events task =
+    (db : List ℕ) (pass : GcMessage) (phase : PassPhase) → phrase_of task.work ≡ Collects db pass phase
+    → Each (IsManifestThat db (IsSpare manifests (chains_at_end specs events logs.Manifest db))) (picks_in phase)
+
+-- what is left of the picks is at or below the boundary
+abbrev pub DueBounded : List DbSpec → List Event → Task → Type 0
+DueBounded specs events task =
+    (db : List ℕ) (pass : GcMessage) (phase : PassPhase) (bound : ℕ) → phrase_of task.work ≡ Collects db pass phase
+    → bound_in manifests db (world_at_end specs events).store ≡ Some bound → Each (IsManifestThat db (λ number. number ≤ bound)) (due_in phase)
+
+-- where the object of a number was removed, the step that reads the boundary to commit this number ends the call with a refusal, whatever the mark
+abbrev pub LatePutsAreRefused : List DbSpec → List Event → Party → Task → Type 0
+LatePutsAreRefused specs events p task =
+    (k : LogKind) (db : List ℕ) (puts : Puts) (now : ℤ) (number : ℕ) (v : Held k) (front back : List ObjectPath) (mark : Mark) (moment : ℤ)
+    → phrase_of task.work ≡ Commits k db puts now (Bounding number v) → gone_after specs events ≡ front ++ version_path k db number ∷ back
+    → IsRefused (moved p.facts task.call task.work moment (effect mark (asks task.work) moment (world_at_end specs events).store).answer).next

@@ -1,0 +1,3 @@
+pub mod LogsAtEnd
+pub mod InCalls
+pub mod PassPicks

@@ -1,0 +1,34 @@
+//! Runs: how they begin, how they go on, and what holds of each.
+ghost use Rattle.std.specs.Prelude.{◌≡◌, ℕ, List, Some, None};
+ghost use Rattle.slate_script_events.specs.declared.db_spec.DbSpec.{DbSpec};
+ghost use Rattle.slate_script_events.specs.declared.event.Event.{Event};
+ghost use Rattle.slate_cluster_protocol.specs.Lawful.{IsAccepted, IsRun, Lawful};
+ghost use Rattle.slate_cluster_protocol.specs.Runs.{Course, opening, run};
+
+use slate_state_record_updates::records_stand;
+
+/// Whatever happens in a run of accepted databases and events, at each moment of it: the commits of each log are one chain, each
+/// stands in the store above the boundary, no fenced writer or compactor committed, each step made the call that its row names, each
+/// reply is the row's, and nothing that was deleted is reachable. Between two moments no boundary falls.
+pub fn lawful()
+    ensures { (specs : List DbSpec) (events : List Event) → IsAccepted specs → Lawful specs events }
+{
+    records_stand();
+}
+
+/// Accepted databases begin a run.
+pub fn begins()
+    ensures { (specs : List DbSpec) → IsAccepted specs → IsRun (opening specs) }
+{}
+
+/// Events of which none is bad go on with it.
+pub fn goes_on()
+    ensures { (old new : Course) (events : List Event)
+        → IsRun old → run events 0 old ≡ record { course = new; bad = None } → IsRun new }
+{}
+
+/// So do events before a bad one.
+pub fn stops()
+    ensures { (old new : Course) (events : List Event) (place : ℕ)
+        → IsRun old → run events 0 old ≡ record { course = new; bad = Some place } → IsRun new }
+{}

@@ -1,0 +1,71 @@
+//! Safety: what stands behind the promise that nothing reachable is deleted.
+ghost use Rattle.std.specs.Prelude.{◌≡◌, ℕ, ◌<◌, ◌^◌, List, Some};
+ghost use Rattle.slate_script_events.specs.declared.db_spec.DbSpec.{DbSpec};
+ghost use Rattle.slate_script_events.specs.declared.event.Event.{Event};
+ghost use Rattle.slate_txn_log.specs.declared.log_kind.LogKind.{LogKind};
+ghost use Rattle.slate_cluster_protocol.specs.Holding.{EpochsStand, Fits};
+ghost use Rattle.slate_cluster_protocol.specs.Lawful.{IsAccepted, AreGood, chains_at_end, world_at_end};
+ghost use Rattle.slate_cluster_protocol.specs.World.{HasDb, party_of};
+ghost use Rattle.slate_cluster_protocol.specs.declared.party.Party.{Party};
+ghost use Rattle.slate_cluster_protocol.specs.declared.party.State.TheVariants.{Busy};
+ghost use Rattle.slate_cluster_protocol.specs.declared.party.Task.{Task};
+ghost use Rattle.slate_cluster_laws.specs.InCalls.{CommitsHold, DueBounded, InCall, LatePutsAreRefused, PicksSpare, ReadsAnswer};
+ghost use Rattle.slate_cluster_laws.specs.LogsAtEnd.{bound_at_end, AgreesAtEnd};
+
+/// An object that stands above the boundary has the bytes that were committed at its number, and no other stands there.
+pub fn above_boundary()
+    ensures { (specs : List DbSpec) (events : List Event) (k : LogKind) (db : List ℕ) (bound number : ℕ)
+        → IsAccepted specs → HasDb (world_at_end specs events) db
+        → bound_at_end specs events k db ≡ Some bound
+        → bound < number → number < 2 ^ 64
+        → AgreesAtEnd specs events k db number }
+{}
+
+/// A party that is about to commit a version holds what it makes of the committed version before, by what it puts.
+pub fn commits_hold()
+    ensures { (specs : List DbSpec) (events : List Event) (n : ℕ) (p : Party) (task : Task)
+        → IsAccepted specs → InCall specs events n p task (CommitsHold specs events n task) }
+{}
+
+/// What a party in a call puts is what its facts and its call say: the change of the call, and of a compactor that of the step, with its epoch
+/// and what it holds.
+pub fn changes_fit()
+    ensures { (specs : List DbSpec) (events : List Event) (n : ℕ) (p : Party) (task : Task)
+        → IsAccepted specs → party_of n (world_at_end specs events).parties ≡ Some p → p.state ≡ Busy task
+        → Fits p.facts task.call task.work }
+{}
+
+/// A version that the end of a read answers is a committed one, whatever its party's step was marked.
+pub fn reads_answer()
+    ensures { (specs : List DbSpec) (events : List Event) (n : ℕ) (p : Party) (task : Task)
+        → IsAccepted specs → InCall specs events n p task (ReadsAnswer specs events task) }
+{}
+
+/// What a pass picked, and what is left of it, are manifests below the greatest committed version, and that version names none of
+/// them.
+pub fn picks_spare()
+    ensures { (specs : List DbSpec) (events : List Event) (n : ℕ) (p : Party) (task : Task)
+        → IsAccepted specs → InCall specs events n p task (PicksSpare specs events task) }
+{}
+
+/// What is left of the picks of a pass is at or below the boundary.
+pub fn due_bounded()
+    ensures { (specs : List DbSpec) (events : List Event) (n : ℕ) (p : Party) (task : Task)
+        → IsAccepted specs → InCall specs events n p task (DueBounded specs events task) }
+{}
+
+/// Where the object of a number was removed, the step of a party that reads the boundary to commit this number ends its call with a
+/// refusal, whatever the mark: no call whose put was collected is answered as committed.
+pub fn late_put_is_refused()
+    ensures { (specs : List DbSpec) (events : List Event) (n : ℕ) (p : Party) (task : Task)
+        → IsAccepted specs → AreGood specs events → InCall specs events n p task (LatePutsAreRefused specs events p task) }
+{}
+
+/// The epochs that a party holds stand: what an open of a compactor has raised is at most the compactor epoch of the greatest manifest
+/// of its database, and at most the epoch of the greatest record once it was given to that, before its reset ended; where a compactor is
+/// open, its epoch is at most both; these versions are there.
+pub fn epochs_stand()
+    ensures { (specs : List DbSpec) (events : List Event) (n : ℕ) (p : Party)
+        → IsAccepted specs → party_of n (world_at_end specs events).parties ≡ Some p
+        → EpochsStand (chains_at_end specs events) p }
+{}

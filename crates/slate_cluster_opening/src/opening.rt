@@ -1,0 +1,106 @@
+//! The state as a run begins, or why databases can't begin one.
+ghost use Rattle.std.specs.Prelude.{◌≡◌, [], true, IfOk, option_map};
+ghost use Rattle.std.specs.List.{list_all};
+ghost use Rattle.slate_cluster_protocol.specs.Specs as opens;
+ghost use Rattle.slate_cluster_protocol.specs.Specs.{is_named_spec};
+ghost use Rattle.slate_ids.specs.Ulids.{is_id};
+ghost use Rattle.slate_cluster_opening.specs.Opened.{OpensState};
+
+use crate::carried::Carried;
+use crate::causes::cause_beside;
+use crate::ids::are_ulids_fine;
+use crate::new_error::NewError;
+use crate::objects::{open_objects, open_store};
+use crate::opening_ids::open_carried;
+use crate::tallies::Tallies;
+use slate_cluster_protocol::Tally;
+use slate_ids::{OutOfMemory, Ulid};
+use slate_model::SsTableInfo;
+use slate_script_events::{ClusterCause, DbSpec};
+use slate_store::MemoryStore;
+use std::alloc::Global;
+
+/// What stands as a run begins.
+#[derive(Drop)]
+pub struct Opening {
+    /// The databases by path, each with its first manifest committed, and its first record where it has one.
+    pub tallies: Tallies,
+    /// The ids that the databases carry, which nobody brings.
+    pub carried: Carried,
+    /// The first manifests, the first records and the tables.
+    pub store: MemoryStore,
+}
+
+// What is committed of a database as a run begins.
+fn first_tally(spec: &DbSpec) -> Tally
+    ensures { result ≡ opens.first_tally spec.now }
+{
+    Tally {
+        manifest: 1,
+        compactions: match &spec.compactions {
+            None => 0,
+            Some(_) => 1,
+        },
+    }
+}
+
+// The ids of tables are ids.
+fn ids_fit(tables: &[(Ulid, SsTableInfo)])
+    ensures { list_all (λ t. is_id t.0) tables.now ≡ true }
+{
+    for table in tables {
+        let _ = table.0.timestamp_ms();
+        let _ = table.0.tail();
+    }
+}
+
+/// Each database has a name, and the ids of its tables are ids.
+pub fn names(specs: &[DbSpec])
+    ensures { list_all is_named_spec specs.now ≡ true }
+{
+    for spec in specs {
+        let _ = spec.path.letters();
+        ids_fit(spec.tables.as_slice());
+    }
+}
+
+// The databases by path, each with its first numbers. None where a path comes twice.
+fn open_tallies(alloc: Global, specs: &[DbSpec]) -> Result<Option<Tallies>, OutOfMemory>
+    ensures { IfOk result (λ o. option_map (λ t. t.entries) o ≡ opens.tallies_from [] specs.now) }
+{
+    let mut tallies = Tallies::new(alloc);
+    for spec in specs {
+        if tallies.contains_key(&spec.path) {
+            return Ok(None);
+        }
+        tallies.insert(spec.path, first_tally(spec))?;
+    }
+    Ok(Some(tallies))
+}
+
+/// What stands as a run of these databases begins, or the first cause that refuses them.
+pub fn opened(alloc: Global, specs: &[DbSpec]) -> Result<Opening, NewError>
+    ensures { OpensState specs.now result }
+{
+    let Some(tallies) = open_tallies(alloc, specs)? else {
+        return Err(NewError::BadCluster(ClusterCause::Path));
+    };
+    let Some(carried) = open_carried(alloc, specs)? else {
+        return Err(NewError::BadCluster(ClusterCause::Ids));
+    };
+    if !are_ulids_fine(alloc, specs)? {
+        return Err(NewError::BadCluster(ClusterCause::Ids));
+    }
+    let Some(objects) = open_objects(alloc, specs)? else {
+        return Err(NewError::BadCluster(ClusterCause::Value));
+    };
+    if let Some(cause) = cause_beside(&objects, specs) {
+        return Err(NewError::BadCluster(cause));
+    }
+    let store = open_store(alloc, &objects)?;
+    Ok(Opening {
+        tallies,
+        carried,
+        store,
+    })
+}

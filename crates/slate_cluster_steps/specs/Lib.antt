@@ -1,0 +1,4 @@
+pub mod Onward
+pub mod PutWorks
+pub mod Followed
+pub mod PartySteps

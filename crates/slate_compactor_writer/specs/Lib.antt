@@ -1,4 +1,0 @@
-pub mod Writer
-pub mod Opening
-pub mod StateCalls
-pub mod StateLaws

@@ -1,5 +1,0 @@
-use Rattle.slate_complete.proofs.OtherCalls.{version_aside, boundary_aside}
-use Rattle.slate_complete.proofs.elsewhere.paths_aside.Goals as goal
-
-pub returns : goal.returns
-returns c = record { version = version_aside; boundary = boundary_aside }

@@ -1,5 +1,0 @@
-use Rattle.slate_complete.proofs.OtherCalls.{run_ready}
-use Rattle.slate_complete.proofs.elsewhere.run_elsewhere.Goals as goal
-
-pub returns : goal.returns
-returns g c = λ db log named asks goes moment old new calls from out run all before. run_ready db log named asks goes moment old new calls from out run all before

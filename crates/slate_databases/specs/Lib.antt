@@ -1,5 +1,0 @@
-pub mod Databases
-pub mod Groups
-pub mod RecordFields
-pub mod OpeningRecords
-pub mod DatabaseFields

@@ -1,9 +1,0 @@
-use Rattle.slate_db_complete.proofs.CheckedWalks.{checked_ends, checked_inside}
-use Rattle.slate_db_complete.proofs.checked_deletes.checked_delete_ends.Goals as goal
-
-pub returns : goal.returns
-returns g c = record {
-  answers = λ decoded names sequenced n tries old new s result ran some serves ready. (checked_ends decoded names sequenced n tries old new s result ran some serves ready).0;
-  ready = λ decoded names sequenced n tries old new s result ran some serves ready. (checked_ends decoded names sequenced n tries old new s result ran some serves ready).1;
-  inside = λ decoded names sequenced n tries old new s result ran some serves ready inside. checked_inside (decoded sequenced.codec) names sequenced.db sequenced.log s new n result inside (checked_ends decoded names sequenced n tries old new s result ran some serves ready).0;
-}

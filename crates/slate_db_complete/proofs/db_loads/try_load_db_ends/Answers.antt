@@ -1,8 +1,0 @@
-use Rattle.slate_db_complete.proofs.DbCalls.{try_load_db, try_load_inside}
-use Rattle.slate_db_complete.proofs.db_loads.try_load_db_ends.Goals as goal
-
-pub returns-clause-answers : goal.returns-clause-answers
-returns-clause-answers g c = λ db tries old new s result ran some serves ready. try_load_db g.L.Codec.ObjectCodec.decoded g.L.Codec.ObjectCodec.encoded g.L.Rules.Rules.refusal g.met.L.DbLog.plain g.L.DbLog.its_kind db tries old new s some serves ready result ran
-
-pub returns-clause-inside : goal.returns-clause-inside
-returns-clause-inside g c = λ db tries old new s result ran some serves ready. try_load_inside g.L.Codec.ObjectCodec.decoded g.L.Codec.ObjectCodec.encoded g.L.Rules.Rules.refusal g.met.L.DbLog.plain g.L.DbLog.its_kind db tries old new s some serves ready result ran

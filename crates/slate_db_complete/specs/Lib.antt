@@ -1,6 +1,0 @@
-pub mod CheckedDeleting
-pub mod ReadingNamed
-pub mod ChangeWays
-pub mod Checkpointing
-pub mod Taken
-pub mod FencedUpdates

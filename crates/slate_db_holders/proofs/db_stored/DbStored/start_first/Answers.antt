@@ -1,7 +1,0 @@
-use Rattle.slate_db_holders.specs.Holders.{LogOf}
-use Rattle.slate_db_holders.proofs.db_stored.DbStored.start_first.Goals as goal
-
-pub returns-clause-create : goal.returns-clause-create
-returns-clause-create g c =
-    let of : LogOf g.row.L-Value.Denot g.row.L-Codec.Denot g.row.L-Rules.Denot g.L.DbLog.its_kind c.args.db = record { log = c.log_of.result; rules = c.rules.result; at = c.log_of.ensures.db; of_kind = c.log_of.ensures.log } in
-    (of, c.in_ok-create.ensures.machine)

@@ -1,3 +1,0 @@
-pub mod Manifests
-pub mod Records
-pub mod laws

@@ -1,0 +1,10 @@
+pub mod GcPass
+pub mod Ended
+pub mod PassTurns
+pub mod PlainStages
+pub mod Ticks
+pub mod Options
+pub mod Stats
+pub mod Faults
+pub mod Collector
+pub mod Taking

@@ -1,0 +1,9 @@
+pub mod Defaults
+pub mod PassCounts
+pub mod Ways
+pub mod Rows
+pub mod Candidates
+pub mod Pass
+pub mod GcPhase
+pub mod Stages
+pub mod Exact

@@ -1,0 +1,9 @@
+pub mod Ages
+pub mod Queue
+pub mod VersionPicks
+pub mod TablePicks
+pub mod WalRanges
+pub mod WalFiles
+pub mod WalPicks
+pub mod Filter
+pub mod ListedKeys

@@ -1,9 +1,0 @@
-use Rattle.slate_protocol.specs.Lawful.{chains_at_end}
-use Rattle.slate_protocol.specs.Logs.{world_after}
-use Rattle.slate_protocol.specs.Specs.{opening_world}
-use Rattle.slate_laws.proofs.Changes.{event_changes}
-use Rattle.slate_laws.proofs.AfterEvents.{after_inv}
-use Rattle.slate_laws.proofs.chains.changed.Goals as goal
-
-pub returns : goal.returns
-returns c = λ specs events event k db accepted has. event_changes (world_after events (opening_world specs)) (chains_at_end specs events) event (after_inv specs events accepted) k db has

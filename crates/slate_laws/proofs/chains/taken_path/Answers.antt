@@ -1,5 +1,0 @@
-use Rattle.slate_laws.proofs.Changes.{taken_path}
-use Rattle.slate_laws.proofs.chains.taken_path.Goals as goal
-
-pub returns : goal.returns
-returns c = taken_path

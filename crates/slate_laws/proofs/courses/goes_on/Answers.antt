@@ -1,5 +1,0 @@
-use Rattle.slate_laws.proofs.GoingOn.{is_run_on}
-use Rattle.slate_laws.proofs.courses.goes_on.Goals as goal
-
-pub returns : goal.returns
-returns c = is_run_on

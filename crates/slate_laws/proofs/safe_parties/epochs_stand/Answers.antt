@@ -1,5 +1,0 @@
-use Rattle.slate_laws.proofs.OpenedEpochs.{epochs_of_run}
-use Rattle.slate_laws.proofs.safe_parties.epochs_stand.Goals as goal
-
-pub returns : goal.returns
-returns c = λ specs events n p accepted at. epochs_of_run specs events n p accepted at

@@ -1,5 +1,0 @@
-use Rattle.slate_laws.proofs.Holding.{spare_picks}
-use Rattle.slate_laws.proofs.safe_parties.picks_spare.Goals as goal
-
-pub returns : goal.returns
-returns c = λ specs events n p task db pass phase accepted at is e. spare_picks specs events n p task accepted at is db pass phase e

@@ -1,0 +1,15 @@
+pub mod TablesOfViews
+pub mod Bytes
+pub mod Reading
+pub mod Reads
+pub mod Shortcut
+pub mod Texts
+pub mod RangeParts
+pub mod InfoParts
+pub mod InfoCodec
+pub mod ViewParts
+pub mod RecordParts
+pub mod Lengths
+pub mod Typed
+pub mod TypedCompactions
+pub mod laws

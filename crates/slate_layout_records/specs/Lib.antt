@@ -1,0 +1,5 @@
+pub mod RecordBytes
+pub mod RecordNormal
+pub mod RecordFields
+pub mod RecordWritten
+pub mod NormalRecords

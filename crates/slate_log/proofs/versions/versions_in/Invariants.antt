@@ -1,6 +1,0 @@
-use Rattle.std.proofs.Common.{◌≡◌, drop}
-use Rattle.slate_log.specs.Versions as spec
-use Rattle.slate_log.proofs.versions.versions_in.Given as goal
-
-abbrev pub invariant-loop-metadata : goal.invariant-loop-metadata
-invariant-loop-metadata l = spec.versions_from l.log l.range l.kept.items (drop l.metadata-index l.found) ≡ spec.versions_in l.log l.range l.found

@@ -1,9 +1,0 @@
-use Rattle.std.proofs.Common.{◌≡◌, ◌-◌}
-use Rattle.slate_parts.specs.Reading.{items_in}
-use Rattle.slate_manifest_parts.specs.OldManifests.{old_view_in}
-use Rattle.slate_parts.proofs.Items.{with_front}
-use Rattle.slate_manifest_decoding.proofs.first_version.read_items.Given as goal
-
--- the values so far, and those that are still to be read
-abbrev pub invariant-loop : goal.invariant-loop
-invariant-loop l = with_front l.items (items_in old_view_in (l.count - l.counter) l.left) ≡ items_in old_view_in l.count l.fn.from

@@ -1,9 +1,0 @@
-use Rattle.std.proofs.Common.{◌≡◌, drop}
-use Rattle.std.specs.List.{list_all}
-use Rattle.slate_parts.specs.Tables.{table_id}
-use Rattle.slate_manifest_parts.specs.UsedTables.{has}
-use Rattle.slate_manifest_parts.proofs.used_tables.are_among.Given as goal
-
--- the tables that are left decide
-abbrev pub invariant-loop-table : goal.invariant-loop-table
-invariant-loop-table l = list_all (λ h. has l.ids (table_id h.id)) (drop l.table-index l.handles) ≡ list_all (λ h. has l.ids (table_id h.id)) l.handles

@@ -1,5 +1,0 @@
-pub mod Merging
-pub mod SegmentMerging
-pub mod ManifestMerging
-pub mod SideBySide
-pub mod Trees

@@ -1,0 +1,4 @@
+mod Ordered
+mod Inserted
+mod TrimKept
+pub mod PutLast

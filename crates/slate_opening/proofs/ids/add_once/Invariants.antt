@@ -1,7 +1,0 @@
-use Rattle.std.proofs.Common.{◌≡◌, drop}
-use Rattle.slate_protocol.specs.Specs.{seen_from}
-use Rattle.slate_opening.proofs.ids.add_once.Given as goal
-
--- the ids so far and those that are left
-abbrev pub invariant-loop-id : goal.invariant-loop-id
-invariant-loop-id l = seen_from l.seen.keys (drop l.id-index l.ids) ≡ seen_from l.fn.seen.keys l.ids

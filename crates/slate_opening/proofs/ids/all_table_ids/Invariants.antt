@@ -1,8 +1,0 @@
-use Rattle.std.proofs.Common.{◌≡◌, ◌++◌, drop}
-use Rattle.std.specs.List.{flat_map}
-use Rattle.slate_protocol.specs.Specs.{table_ids}
-use Rattle.slate_opening.proofs.ids.all_table_ids.Given as goal
-
--- the ids so far and the databases that are left
-abbrev pub invariant-loop-spec : goal.invariant-loop-spec
-invariant-loop-spec l = l.ids.items ++ flat_map table_ids (drop l.spec-index l.specs) ≡ flat_map table_ids l.specs

@@ -1,7 +1,0 @@
-use Rattle.std.proofs.Common.{◌≡◌, drop}
-use Rattle.slate_protocol.specs.Specs.{all_tables_from}
-use Rattle.slate_opening.proofs.objects.add_all_tables.Given as goal
-
--- the objects so far and the databases that are left
-abbrev pub invariant-loop-spec : goal.invariant-loop-spec
-invariant-loop-spec l = all_tables_from l.objects.entries (drop l.spec-index l.specs) ≡ all_tables_from l.fn.objects.entries l.specs

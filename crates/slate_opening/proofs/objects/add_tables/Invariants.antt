@@ -1,7 +1,0 @@
-use Rattle.std.proofs.Common.{◌≡◌, drop}
-use Rattle.slate_protocol.specs.Specs.{tables_from}
-use Rattle.slate_opening.proofs.objects.add_tables.Given as goal
-
--- the objects so far and the tables that are left
-abbrev pub invariant-loop-table : goal.invariant-loop-table
-invariant-loop-table l = tables_from l.objects.entries l.spec (drop l.table-index l.tables) ≡ tables_from l.fn.objects.entries l.spec l.tables

@@ -1,6 +1,0 @@
-use Rattle.std.proofs.Common.{◌≡◌, [], drop}
-use Rattle.slate_protocol.specs.Specs.{firsts_from}
-use Rattle.slate_opening.proofs.objects.open_firsts.Given as goal
-
-abbrev pub invariant-loop-spec : goal.invariant-loop-spec
-invariant-loop-spec l = firsts_from l.firsts.entries (drop l.spec-index l.specs) ≡ firsts_from [] l.specs

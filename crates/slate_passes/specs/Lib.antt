@@ -1,9 +1,0 @@
-pub mod Defaults
-pub mod Counts
-pub mod Ways
-pub mod Rows
-pub mod Candidates
-pub mod Pass
-pub mod GcPhase
-pub mod Stages
-pub mod Exact

@@ -1,3 +1,0 @@
-mod Kept
-mod LeastIds
-mod Sets

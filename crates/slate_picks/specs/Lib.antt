@@ -1,9 +1,0 @@
-pub mod Ages
-pub mod Queue
-pub mod Versions
-pub mod Tables
-pub mod WalRanges
-pub mod WalFiles
-pub mod WalPicks
-pub mod Filter
-pub mod Keys

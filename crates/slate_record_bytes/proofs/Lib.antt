@@ -1,5 +1,0 @@
-mod RecordOrder
-mod RecordFitting
-pub mod RecordTrip
-mod RecordKept
-pub mod RecordOnly

@@ -1,7 +1,0 @@
-use Rattle.std.proofs.Common.{◌≡◌, ◌∷◌, drop}
-use Rattle.slate_record_bytes.specs.Records.{raws_ascend}
-use Rattle.slate_record_bytes.proofs.record_reading.are_in_order.Given as goal
-
--- the last compaction and those that are left decide
-abbrev pub invariant-loop-raw : goal.invariant-loop-raw
-invariant-loop-raw l = raws_ascend (l.last ∷ drop l.raw-index l.others) ≡ raws_ascend l.raws

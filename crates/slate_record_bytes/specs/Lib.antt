@@ -1,4 +1,0 @@
-pub mod Records
-pub mod RecordNormal
-pub mod RecordFields
-pub mod RecordWritten

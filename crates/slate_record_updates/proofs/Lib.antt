@@ -1,2 +1,0 @@
-mod LeastIds
-mod MappedRecords

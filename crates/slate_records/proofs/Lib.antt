@@ -1,3 +1,0 @@
-mod Ordered
-mod Inserted
-mod Kept

@@ -1,6 +1,0 @@
-use Rattle.std.proofs.Common.{◌∙◌}
-use Rattle.slate_records.proofs.Ordered.{found}
-use Rattle.slate_records.proofs.entries.find.Goals as goal
-
-pub returns : goal.returns
-returns c = c.get.ensures.value ∙ found c.args.id c.args.entries.now.entries c.requires

@@ -1,0 +1,5 @@
+pub mod Databases
+pub mod PrefixGroups
+pub mod FirstRecordFields
+pub mod OpeningRecords
+pub mod DatabaseFields

@@ -1,0 +1,5 @@
+pub mod Fields
+pub mod WrittenIds
+pub mod Words
+pub mod ReadCheckpoints
+pub mod ReadFlushedTables

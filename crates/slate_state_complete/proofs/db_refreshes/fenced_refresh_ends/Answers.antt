@@ -1,0 +1,8 @@
+use Rattle.slate_state_complete.proofs.HolderCalls.{fenced_refresh, fenced_refresh_inside}
+use Rattle.slate_state_complete.proofs.db_refreshes.fenced_refresh_ends.Goals as goal
+
+pub returns-clause-answers : goal.returns-clause-answers
+returns-clause-answers g c = λ tries from to some old new s result ran serves ready. fenced_refresh g.L.Codec.ObjectCodec.decoded g.L.Codec.ObjectCodec.encoded g.L.Rules.Rules.refusal g.met.L.DbLog.plain g.L.Epochs.Epochs.epoch tries old new s from to result ran some serves ready
+
+pub returns-clause-inside : goal.returns-clause-inside
+returns-clause-inside g c = λ tries from to some old new s result ran serves ready. fenced_refresh_inside g.L.Codec.ObjectCodec.decoded g.L.Codec.ObjectCodec.encoded g.L.Rules.Rules.refusal g.met.L.DbLog.plain g.L.Epochs.Epochs.epoch tries old new s from to result ran some serves ready

@@ -1,0 +1,9 @@
+pub mod CheckedDeleting
+pub mod ReadingNamed
+pub mod ChangeWays
+pub mod Checkpointing
+pub mod Taken
+pub mod FencedUpdates
+pub mod FencedRefreshes
+pub mod Holding
+pub mod ReadingVersions

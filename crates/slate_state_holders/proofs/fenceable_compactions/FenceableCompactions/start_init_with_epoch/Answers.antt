@@ -1,0 +1,4 @@
+use Rattle.slate_state_holders.proofs.fenceable_compactions.FenceableCompactions.start_init_with_epoch.Goals as goal
+
+pub returns-clause-init : goal.returns-clause-init
+returns-clause-init c = (_, c.in_ok-start_fence_at.ensures.init)

@@ -1,0 +1,6 @@
+use Rattle.std.proofs.Common.{w64}
+use Rattle.std.proofs.lemmas.Int.{to_z-of_z}
+use Rattle.slate_state_holders.proofs.stored_compactions.StoredCompactions.create.Goals as goal
+
+pub returns-clause-create : goal.returns-clause-create
+returns-clause-create g c = rw c.new-first.ensures at (rw (to_z-of_z w64 c.args.moment c.ranges.moment) at c.create_first.ensures.create)

@@ -1,0 +1,5 @@
+pub mod Holders
+pub mod ManifestHolders
+pub mod RecordHolders
+pub mod CheckpointMachines
+pub mod AboutCheckpoints

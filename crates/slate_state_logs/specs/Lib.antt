@@ -1,0 +1,3 @@
+pub mod ManifestLog
+pub mod RecordLog
+pub mod laws

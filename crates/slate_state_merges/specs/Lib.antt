@@ -1,0 +1,5 @@
+pub mod Merging
+pub mod SegmentMerging
+pub mod ManifestMerging
+pub mod SideBySide
+pub mod LocalTrees

@@ -1,0 +1,2 @@
+mod BothFaults
+mod Viewed

@@ -1,0 +1,2 @@
+pub mod BothReads
+pub mod StateViews

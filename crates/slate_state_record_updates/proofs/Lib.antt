@@ -1,0 +1,2 @@
+pub mod LeastIds
+mod MappedRecords

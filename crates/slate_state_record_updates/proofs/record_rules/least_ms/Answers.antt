@@ -1,0 +1,6 @@
+use Rattle.std.proofs.Common.{◌∙◌}
+use Rattle.slate_state_record_updates.proofs.LeastIds.{least_is}
+use Rattle.slate_state_record_updates.proofs.record_rules.least_ms.Goals as goal
+
+pub returns-in-Some-clause-least : goal.returns-in-Some-clause-least
+returns-in-Some-clause-least c = c.timestamp_ms.ensures.value ∙ least_is c.in-Some.id c.args.compactions.now.entries c.in-Some.ensures.first c.in-Some.ensures.least

@@ -1,0 +1,18 @@
+use Rattle.slate_model_records.proofs.PutLast.{put_last}
+use Rattle.std.specs.Prelude.{◌≡◌, ◌++◌, ◌∷◌, map}
+use Rattle.std.proofs.Common.{rules, ap, ◌∙◌}
+use Rattle.slate_model_records.specs.Records.{Record, inserted}
+use Rattle.slate_state_record_updates.specs.EntrySteps.{with_local_status}
+use Rattle.slate_state_record_updates.proofs.MappedRecords.{local_ascend}
+use Rattle.slate_state_record_updates.proofs.whole_records.all_with_local_status.Goals as goal
+
+pub loop-compaction-preserved : goal.loop-compaction-preserved
+loop-compaction-preserved c =
+    let local = c.args.local.now.entries in
+    let rest = map (with_local_status local) c.next.new.self in
+    let made = c.in_ok-with_local_status.field-0 in
+    let before : c.loop-compaction.made.entries ++ made ∷ rest ≡ map (with_local_status local) c.args.entries = search rules in
+    let after : c.insert.new.self ≡ record { compactor_epoch = c.loop-compaction.made.compactor_epoch; entries = inserted made c.loop-compaction.made.entries } = c.in_ok-insert.ensures.ok in (
+      ap (λ (r : Record). r.compactor_epoch) after ∙ c.loop-compaction.invariant.0,
+      ap (λ (r : Record). r.entries ++ rest) after ∙ put_last made c.loop-compaction.made.entries rest (map (with_local_status local) c.args.entries) before (local_ascend local c.args.entries c.requires.ascending),
+    )

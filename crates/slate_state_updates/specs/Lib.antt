@@ -1,0 +1,12 @@
+pub mod Checkpoints
+pub mod NamedSets
+pub mod TableSets
+pub mod ExternalEntries
+pub mod FlushedTables
+pub mod RunTables
+pub mod Prefixes
+pub mod Rules
+pub mod RuleLaws
+pub mod Writers
+pub mod Flushes
+pub mod ManifestChanges

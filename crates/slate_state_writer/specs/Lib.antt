@@ -1,0 +1,4 @@
+pub mod Writer
+pub mod PlainOpening
+pub mod StateCalls
+pub mod StateLaws

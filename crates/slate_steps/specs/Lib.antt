@@ -1,4 +1,0 @@
-pub mod Onward
-pub mod Works
-pub mod Followed
-pub mod PartySteps

@@ -1,7 +1,0 @@
-use Rattle.std.proofs.Common.{◌≡◌, drop}
-use Rattle.slate_tables.specs.Runs.{ascend}
-use Rattle.slate_tables.proofs.order.ascend.Given as goal
-
--- the views ascend exactly where those from here on do
-abbrev pub invariant-loop-i : goal.invariant-loop-i
-invariant-loop-i l = ascend l.views ≡ ascend (drop l.i l.views)

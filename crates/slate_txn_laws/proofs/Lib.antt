@@ -1,0 +1,20 @@
+pub mod Told
+pub mod PlainCommits
+pub mod Turns
+mod Entries
+pub mod Tops
+pub mod LatestReads
+mod Places
+mod CommitWalks
+mod Renewals
+pub mod ApplyWalks
+pub mod UpdateWalks
+mod Asides
+mod OtherCalls
+pub mod Leavings
+mod BoundaryWalks
+pub mod HolderReads
+pub mod Inside
+pub mod OneCalls
+pub mod FirstVersions
+pub mod PlainInside

@@ -1,0 +1,17 @@
+pub mod Replies
+pub mod Plain
+pub mod Serving
+pub mod Ready
+pub mod Reading
+pub mod Committing
+pub mod Changing
+pub mod Applying
+pub mod Advancing
+pub mod Deleting
+pub mod Updating
+pub mod Outside
+pub mod Creating
+pub mod Elsewhere
+pub mod Codecs
+pub mod Ending
+pub mod Fencing

@@ -1,7 +1,0 @@
-use Rattle.std.proofs.Common.{◌≡◌, ◌++◌, drop}
-use Rattle.slate_updates.specs.Entries.{tables_with}
-use Rattle.slate_updates.proofs.entries.tables_with.Given as goal
-
--- the tables so far and those of the entries that are left
-abbrev pub invariant-loop-entry : goal.invariant-loop-entry
-invariant-loop-entry l = l.ids ++ tables_with l.old (drop l.entry-index l.new) ≡ tables_with l.old l.new

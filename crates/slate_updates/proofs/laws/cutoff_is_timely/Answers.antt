@@ -1,5 +1,0 @@
-use Rattle.slate_updates.proofs.Lawful.{timely}
-use Rattle.slate_updates.proofs.laws.cutoff_is_timely.Goals as goal
-
-pub returns : goal.returns
-returns c = timely

@@ -1,5 +1,0 @@
-use Rattle.slate_updates.proofs.Lawful.{causes}
-use Rattle.slate_updates.proofs.laws.rules_refuse_so.Goals as goal
-
-pub returns : goal.returns
-returns c = causes

@@ -1,5 +1,0 @@
-use Rattle.slate_updates.proofs.Unchanged.{passes}
-use Rattle.slate_updates.proofs.laws.unchanged_trees_pass.Goals as goal
-
-pub returns : goal.returns
-returns c = passes
