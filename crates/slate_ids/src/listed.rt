@@ -67,6 +67,13 @@ impl<T> Listed<T> {
         self.items.push(item)?;
         Ok(())
     }
+
+    /// Gives back the room that the values don't need.
+    pub fn shrink_to_fit(&mut self)
+        ensures { self.new ≡ self.old }
+    {
+        self.items.shrink_to_fit();
+    }
 }
 
 /// Two lists are equal where their values are, one by one.

@@ -144,7 +144,7 @@ fn add_copies<'a, T: Plain + Drop + 'a, W: Walk<'a, T>>(
     Ok(())
 }
 
-/// A list of values equal to those of a walk.
+/// A list of values equal to those of a walk, in the room that they need.
 pub fn copies<'a, T: Plain + Drop + 'a, W: Walk<'a, T> + Drop>(
     alloc: Global,
     walk: W,
@@ -156,7 +156,10 @@ pub fn copies<'a, T: Plain + Drop + 'a, W: Walk<'a, T> + Drop>(
     let added = add_copies(alloc, &mut copied, &mut walk);
     drop(walk);
     match added {
-        Ok(()) => Ok(copied),
+        Ok(()) => {
+            copied.shrink_to_fit();
+            Ok(copied)
+        }
         Err(e) => {
             drop(copied);
             Err(e)

@@ -114,6 +114,7 @@ fn read_each<'a, T: Drop, F: Form<T>>(
             }
         }
     }
+    items.shrink_to_fit();
     Ok(Some((items, left)))
 }
 

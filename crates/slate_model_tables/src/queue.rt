@@ -88,6 +88,13 @@ impl<T> Queue<T> {
         self.items.push_front(item)?;
         Ok(())
     }
+
+    /// Gives back the room that the values don't need.
+    pub fn shrink_to_fit(&mut self)
+        ensures { self.new ≡ self.old }
+    {
+        self.items.shrink_to_fit();
+    }
 }
 
 impl<T: Plain + Drop> Plain for Queue<T> {

@@ -78,7 +78,8 @@ pub fn merge_writer_and_compactor(
     ensures tree { IfOk result (λ tree. tree ≡ merged writer.now compactor.now) }
     ensures front { IfOk result (λ tree. IsFront compactor.now writer.now.l0 tree.l0) }
 {
-    let l0 = front(alloc, compactor, &writer.l0)?;
+    let mut l0 = front(alloc, compactor, &writer.l0)?;
+    l0.shrink_to_fit();
     match Plain::clone(&compactor.compacted, alloc) {
         Ok(compacted) => Ok(LsmTreeState {
             last_compacted_l0_sst_view_id: compactor.last_compacted_l0_sst_view_id,
