@@ -70,7 +70,8 @@ with_if : (b : Bool) (r : NumberRange) (ws : List Version) (m : ObjectMetadata) 
 with_if true r ws m n e h = record { ascending = ascend_put (n, m) ws h.ascending; within = within_put r (n, m) ws e h.within }
 with_if false r ws m n e h = h
 
-with_one : (r : NumberRange) (ws : List Version) (m : ObjectMetadata) (n : Option ℕ) → Listing r ws → Listing r (kept_with r ws m n)
+-- and with one object more
+pub with_one : (r : NumberRange) (ws : List Version) (m : ObjectMetadata) (n : Option ℕ) → Listing r ws → Listing r (kept_with r ws m n)
 with_one r ws m None h = h
 with_one r ws m (Some n) h = with_if (is_within r n) r ws m n refl h
 

@@ -1,4 +1,5 @@
 mod Ascend
+mod FromTheEnd
 pub mod Steps
 mod Once
 pub mod Faults

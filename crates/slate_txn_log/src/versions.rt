@@ -14,17 +14,18 @@ use slate_ids::{Listed, Millis, NumberRange, OutOfMemory, SlateDBError};
 use slate_store::{ObjectMetadata, ObjectStore, StoreAnswer, StoreCall, perform};
 use std::alloc::Global;
 
-// The place of a number among ascending ones, after its equals.
+// The place of a number among ascending ones, after its equals. It is looked for from the end: a list tells numbers in their order.
 fn place(kept: &[(u64, ObjectMetadata)], number: u64) -> usize
+    requires { Ascending kept.now }
     ensures place { result ≡ place number kept.now }
     ensures within { result ≤ length kept.now }
 {
-    let mut at = 0;
-    for version in kept {
-        if version.0 > number {
+    let mut at = kept.len();
+    while at > 0 {
+        if kept[at - 1].0 <= number {
             return at;
         }
-        at += 1;
+        at -= 1;
     }
     at
 }
@@ -34,6 +35,7 @@ fn put_in(
     number: u64,
     metadata: ObjectMetadata,
 ) -> Result<(), OutOfMemory>
+    requires { Ascending kept.old.items }
     ensures { OnOk result (kept.new.items ≡ put_in (number, metadata) kept.old.items) }
 {
     let at = place(kept.as_slice(), number);
@@ -48,6 +50,7 @@ fn keep(
     kept: &mut Vec<(u64, ObjectMetadata)>,
     metadata: &ObjectMetadata,
 ) -> Result<(), OutOfMemory>
+    requires { Ascending kept.old.items }
     ensures { OnOk result (kept.new.items
         ≡ kept_with range.now kept.old.items metadata.now (number_of log metadata.now.location)) }
 {
