@@ -1,2 +1,3 @@
 mod OneMore
 mod Sets
+mod WalCovered

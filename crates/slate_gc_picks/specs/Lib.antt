@@ -4,6 +4,7 @@ pub mod VersionPicks
 pub mod TablePicks
 pub mod WalRanges
 pub mod WalFiles
+pub mod WalCovers
 pub mod WalPicks
 pub mod Filter
 pub mod ListedKeys

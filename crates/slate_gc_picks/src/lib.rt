@@ -11,6 +11,7 @@ mod records;
 mod retaining;
 mod tables;
 mod versions;
+mod wal_cover;
 mod wal_gc;
 mod wal_picking;
 mod wal_ranges;

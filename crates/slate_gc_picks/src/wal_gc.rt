@@ -1,11 +1,12 @@
 //! What picks the files of the write-ahead log that a pass may delete.
-ghost use Rattle.std.specs.Prelude.{◌≡◌, IfOk};
-ghost use Rattle.std.specs.List.{list_any};
-ghost use Rattle.slate_ids.specs.Ranges.{is_within};
+ghost use Rattle.std.specs.Prelude.{◌≡◌, List, IfOk};
+ghost use Rattle.slate_ids.specs.declared.number_range.NumberRange.{NumberRange as AnyRange};
+ghost use Rattle.slate_gc_picks.specs.WalCovers.{Covers};
 ghost use Rattle.slate_gc_picks.specs.WalFiles as files;
 
 use crate::ages::is_aged;
 use crate::keeping::push_if;
+use crate::wal_cover::{WalSpan, cover_of, has_number};
 use crate::wal_ranges::WalFileRange;
 use slate_ids::{Listed, Millis, ObjectPath, OutOfMemory};
 use slate_store::ObjectMetadata;
@@ -64,19 +65,13 @@ pub struct PlainWalGc {
     pub mode: WalGcMode,
 }
 
-// Whether a number is in one of these ranges.
-fn is_referenced(ranges: &[WalFileRange], number: u64) -> bool
-    ensures { result ≡ list_any (λ r. is_within r number) ranges.now }
-{
-    ranges.iter().any(|range| range.contains(number))
-}
-
-// Whether an object is a file in none of these ranges.
-fn is_unreferenced(ranges: &[WalFileRange], object: &ObjectMetadata) -> bool
-    ensures { result ≡ files.is_unreferenced ranges.now object.now.location }
+// Whether an object is a file in none of the ranges that are covered.
+fn is_unreferenced(cover: &[WalSpan], object: &ObjectMetadata) -> bool
+    ensures { (ranges : List AnyRange) → Covers cover.now ranges
+        → result ≡ files.is_unreferenced ranges object.now.location }
 {
     match &object.location {
-        ObjectPath::Wal(_, number) => !is_referenced(ranges, *number),
+        ObjectPath::Wal(_, number) => !has_number(cover, *number),
         _ => false,
     }
 }
@@ -92,6 +87,16 @@ impl WalGcMode {
         }
     }
 
+    // Whether an object is a file that may go, in none of the ranges that are covered.
+    fn takes(self, cover: &[WalSpan], min_age: u64, now: Millis, object: &ObjectMetadata) -> bool
+        ensures { (ranges : List AnyRange) → Covers cover.now ranges
+            → result ≡ files.is_collected self ranges min_age now object.now }
+    {
+        is_unreferenced(cover, object)
+            && is_aged(min_age, now, object.last_modified)
+            && self.has_size(object.size)
+    }
+
     // Those of the listed files that may go.
     pub(crate) fn collected(
         self,
@@ -104,13 +109,13 @@ impl WalGcMode {
         ensures { IfOk result (λ found. found
             ≡ files.collected self ranges.now listed.now min_age now) }
     {
+        let cover = cover_of(alloc, ranges)?;
         let mut found = Listed::new(alloc);
         for object in listed {
-            let keeps = is_unreferenced(ranges, object)
-                && is_aged(min_age, now, object.last_modified)
-                && self.has_size(object.size);
+            let keeps = self.takes(cover.as_slice(), min_age, now, object);
             push_if(alloc, keeps, &mut found, object)?;
         }
+        drop(cover);
         Ok(found)
     }
 }
