@@ -59,7 +59,8 @@ pub enum WalGcMode {
     Fence,
 }
 
-/// Picks the listed files that no needed version has to keep and that are older than the least age.
+/// Picks the listed files that no needed version has to keep and that are older than the least age. Takes `n log n` steps in files and
+/// ranges.
 #[derive(Clone, Copy, Debug, Drop)]
 pub struct PlainWalGc {
     pub mode: WalGcMode,
