@@ -4,11 +4,11 @@ ghost use Rattle.std.specs.List.{list_any};
 ghost use Rattle.slate_ids.specs.Answers.{Gives};
 ghost use Rattle.slate_state_updates.specs.Checkpoints as made;
 
+use crate::checkpointed::with_checkpoints;
 use crate::lookups::find_checkpoint;
 use slate_ids::{CheckpointId, Listed, Millis, OutOfMemory, SlateDBError, StateCause};
 use slate_model::{Checkpoint, CheckpointOptions, Manifest, Plain};
 use std::alloc::Global;
-use std::mem;
 
 // The number of the version after this one.
 fn number_after(n: u64) -> Result<u64, SlateDBError>
@@ -126,27 +126,6 @@ fn all_expiring(
         kept.push(expiring(alloc, checkpoint, id, expire_time)?)?;
     }
     Ok(kept)
-}
-
-// An equal manifest, with these checkpoints.
-fn with_checkpoints(
-    alloc: Global,
-    checkpoints: Listed<Checkpoint>,
-    manifest: &Manifest,
-) -> Result<Manifest, OutOfMemory>
-    ensures { IfOk result (λ m. m ≡ made.with_checkpoints checkpoints manifest.now) }
-{
-    match manifest.clone(alloc) {
-        Ok(copied) => {
-            let mut new = copied;
-            drop(mem::replace(&mut new.core.checkpoints, checkpoints));
-            Ok(new)
-        }
-        Err(e) => {
-            drop(checkpoints);
-            Err(e)
-        }
-    }
 }
 
 // An equal manifest, with these checkpoints and one more, the last.

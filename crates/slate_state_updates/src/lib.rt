@@ -1,6 +1,7 @@
 //! What each call makes of a manifest, and the rules on new versions.
 #![tactic(auto)]
 
+mod checkpointed;
 mod checkpoints;
 mod entries;
 mod epochs;
