@@ -1,7 +1,6 @@
 //! The trees that a compactor holds.
 ghost use Rattle.std.specs.Prelude.{◌≡◌, ◌⊎◌, IfOk, IfErr, is_some, true, option_copied, Ok, Err};
-ghost use Rattle.slate_state_merges.specs.LocalTrees as trees_spec;
-ghost use Rattle.slate_state_merges.specs.LocalTrees.{manifest_merged, manifest_with, trees_merged, tree_of, trees_of};
+ghost use Rattle.slate_state_merges.specs.LocalTrees.{manifest_merged, manifest_with, trees_merged, tree_of, trees_of, with_tree};
 ghost use Rattle.slate_ids.specs.Answers.{is_memory};
 ghost use Rattle.slate_model.specs.Segments.{IsAscending};
 
@@ -117,35 +116,15 @@ impl LocalTrees {
         }
     }
 
-    /// Equal trees, with another one at a prefix that has one.
+    /// Puts this tree at a prefix that has one, in place of that one. All other trees stay. Takes no memory.
     #[tactic(auto, using(crate::proofs::Trees::replaced))]
-    pub fn with_tree(
-        &self,
-        alloc: Global,
-        prefix: &Bytes,
-        tree: LsmTreeState,
-    ) -> Result<LocalTrees, OutOfMemory>
-        requires there { is_some (tree_of prefix.now self.now) ≡ true }
-        ensures { IfOk result (λ trees. trees ≡ trees_spec.with_tree prefix.now tree self.now) }
+    pub fn set_tree(&mut self, alloc: Global, prefix: &Bytes, tree: LsmTreeState)
+        requires there { is_some (tree_of prefix.now self.old) ≡ true }
+        ensures { self.new ≡ with_tree prefix.now tree self.old }
     {
-        let mut core = match Plain::clone(&self.core, alloc) {
-            Ok(core) => core,
-            Err(e) => {
-                drop(tree);
-                return Err(e);
-            }
-        };
-        match core.maybe_insert_tree(alloc, prefix) {
-            Ok(old) => {
-                drop(mem::replace(old, tree));
-                Ok(LocalTrees { core })
-            }
-            Err(e) => {
-                drop(e);
-                drop(tree);
-                drop(core);
-                Err(OutOfMemory)
-            }
+        match self.core.maybe_insert_tree(alloc, prefix) {
+            Ok(old) => drop(mem::replace(old, tree)),
+            Err(_) => unreachable!(),
         }
     }
 
