@@ -1,3 +1,4 @@
 mod Sets
 mod Placing
 mod Ends
+mod Known

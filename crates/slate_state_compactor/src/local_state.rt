@@ -1,9 +1,13 @@
 //! What a compactor holds between its calls.
-ghost use Rattle.std.specs.Prelude.{◌≡◌, ◌⊎◌, ◌++◌, IfOk, IfErr, OnOk, OnErr, Ok, Err, true, option_copied};
+ghost use Rattle.std.specs.Prelude.{◌≡◌, ◌⊎◌, ◌++◌, IfOk, IfErr, OnOk, OnErr, Ok, Err, true, is_some};
 ghost use Rattle.slate_state_compactor.specs.Local as held;
 ghost use Rattle.slate_state_compactor.specs.Local.{opened, refreshed, scheduled, finished, failed, manifest_committed, pending_outputs, record_committed};
-ghost use Rattle.slate_ids.specs.Answers.{Gives, is_memory};
+ghost use Rattle.slate_ids.specs.Answers.{is_memory};
+ghost use Rattle.slate_model_records.specs.Compactions.{segment_of};
+ghost use Rattle.slate_model_records.specs.Records.{entry_of};
 ghost use Rattle.slate_model_records.specs.Retaining.{has_id};
+ghost use Rattle.slate_state_merges.specs.LocalTrees.{tree_of, with_tree};
+ghost use Rattle.slate_state_record_updates.specs.EntrySteps.{with_entry};
 
 use crate::finishing::finished_tree;
 use slate_ids::{Listed, OutOfMemory, SlateDBError, StateCause, Ulid};
@@ -16,7 +20,8 @@ use slate_state_record_updates::put_local_statuses;
 use std::alloc::Global;
 use std::mem;
 
-/// What a compactor holds between its calls. A refresh and the end of a compaction make another; what a commit put is taken in place.
+/// What a compactor holds between its calls. A refresh makes another; what a commit put and the end of a
+/// compaction change it in place.
 #[derive(Debug, Drop)]
 pub struct LocalState {
     /// Its trees.
@@ -32,72 +37,6 @@ fn is_compacted(status: CompactionStatus) -> bool
     ensures { result ≡ held.is_compacted status }
 {
     matches!(status, CompactionStatus::Compacted)
-}
-
-// The tree of a compaction's segment once it is finished; none where there is no such segment, or its sources are bad.
-fn tree_finished(
-    alloc: Global,
-    compaction: &Compaction,
-    tree: Option<&LsmTreeState>,
-) -> Result<Option<LsmTreeState>, OutOfMemory>
-    ensures { IfOk result (λ made. made ≡ held.tree_finished compaction.now (option_copied tree.entry)) }
-{
-    match tree {
-        None => Ok(None),
-        Some(tree) => finished_tree(
-            alloc,
-            &compaction.spec,
-            compaction.output_ssts.as_slice(),
-            tree,
-        ),
-    }
-}
-
-// Equal ids, and one more.
-fn with_pending(
-    alloc: Global,
-    pending: &Listed<Ulid>,
-    id: Ulid,
-) -> Result<Listed<Ulid>, OutOfMemory>
-    ensures { IfOk result (λ ids. ids ≡ held.one_more_pending pending.now id) }
-{
-    let mut ids = pending.copy(alloc)?;
-    match ids.push(id) {
-        Ok(()) => Ok(ids),
-        Err(e) => {
-            drop(ids);
-            Err(e)
-        }
-    }
-}
-
-// An equal record, in which this compaction has another status.
-fn with_status(
-    alloc: Global,
-    compactions: &Compactions,
-    compaction: &Compaction,
-    status: CompactionStatus,
-) -> Result<Compactions, OutOfMemory>
-    ensures { IfOk result (λ r. r ≡ held.with_entry_status status compaction.now compactions.now) }
-{
-    let mut made = Plain::clone(compaction, alloc)?;
-    made.status = status;
-    match Plain::clone(compactions, alloc) {
-        Ok(copied) => {
-            let mut new = copied;
-            match new.insert(made) {
-                Ok(()) => Ok(new),
-                Err(e) => {
-                    drop(new);
-                    Err(e)
-                }
-            }
-        }
-        Err(e) => {
-            drop(made);
-            Err(e)
-        }
-    }
 }
 
 // Adds the compacted tables of these.
@@ -221,35 +160,62 @@ impl LocalState {
         drop(mem::replace(&mut self.compactions, committed));
     }
 
-    // The end of a compaction that is compacted.
-    fn finish_found(
+    // The tree of a compaction's segment once it is finished.
+    fn tree_after(
         &self,
         alloc: Global,
         compaction: &Compaction,
-    ) -> Result<LocalState, SlateDBError>
-        ensures { Gives result (held.finish_found self.now compaction.now) }
+    ) -> Result<LsmTreeState, SlateDBError>
+        ensures ok { IfOk result (λ tree. held.finish_found self.now compaction.now
+            ≡ Ok (held.with_finished compaction.now self.now (with_tree (segment_of compaction.now.spec) tree self.now.trees))) }
+        ensures there { IfOk result (λ tree. is_some (tree_of (segment_of compaction.now.spec) self.now.trees) ≡ true) }
+        ensures err { IfErr result
+            (λ e. (held.finish_found self.now compaction.now ≡ Err e) ⊎ (is_memory e ≡ true)) }
     {
+        let bad = StateCause::BadSources(compaction.id);
+        let outputs = compaction.output_ssts.as_slice();
         let prefix = compaction.spec.segment();
-        let tree = self.trees.tree_at(prefix.as_slice());
-        match tree_finished(alloc, compaction, tree)? {
-            None => Err(SlateDBError::InvalidDBState(StateCause::BadSources(compaction.id))),
-            Some(tree) => {
-                let trees = self.trees.with_tree(alloc, prefix, tree)?;
-                let completed = CompactionStatus::Completed;
-                let made = with_status(alloc, &self.compactions, compaction, completed);
-                let pending = with_pending(alloc, &self.pending, compaction.id);
-                Ok(whole(trees, made, pending)?)
+        match self.trees.tree_at(prefix.as_slice()) {
+            None => Err(SlateDBError::InvalidDBState(bad)),
+            Some(tree) => match finished_tree(alloc, &compaction.spec, outputs, tree)? {
+                None => Err(SlateDBError::InvalidDBState(bad)),
+                Some(made) => Ok(made),
+            },
+        }
+    }
+
+    // The end of a compaction that is compacted: an equal compaction, and the tree of its segment then.
+    fn end_found(
+        &self,
+        alloc: Global,
+        compaction: &Compaction,
+    ) -> Result<(Compaction, LsmTreeState), SlateDBError>
+        ensures ok { IfOk result (λ end. held.finish_found self.now compaction.now
+            ≡ Ok (held.with_finished end.0 self.now (with_tree (segment_of end.0.spec) end.1 self.now.trees))) }
+        ensures there { IfOk result (λ end. is_some (tree_of (segment_of end.0.spec) self.now.trees) ≡ true) }
+        ensures same { IfOk result (λ end. end.0 ≡ compaction.now) }
+        ensures err { IfErr result
+            (λ e. (held.finish_found self.now compaction.now ≡ Err e) ⊎ (is_memory e ≡ true)) }
+    {
+        let tree = self.tree_after(alloc, compaction)?;
+        match Plain::clone(compaction, alloc) {
+            Ok(copied) => Ok((copied, tree)),
+            Err(_) => {
+                drop(tree);
+                Err(SlateDBError::OutOfMemory)
             }
         }
     }
 
-    /// With the compaction of this id finished: its sources leave the tree of its segment, and a merge's outputs are a run of their own
-    /// there; it is Completed, and pending. Where a source is a view, the newest of these becomes the tree's view marker. Refused with
-    /// `InvalidDBState`: `NoSuchCompaction` where the local record lacks it, `CompactionState` where it isn't Compacted, and `BadSources`
-    /// where there is no such segment, its tree lacks a source, the views among the sources aren't the oldest of its L0, or a run that
-    /// stays has the number of the run that is written.
-    pub fn finished(&self, alloc: Global, id: Ulid) -> Result<LocalState, SlateDBError>
-        ensures { Gives result (finished id self.now) }
+    // The end of the compaction of an id.
+    #[tactic(auto, using(crate::proofs::Known::is_known))]
+    fn end_of(&self, alloc: Global, id: Ulid) -> Result<(Compaction, LsmTreeState), SlateDBError>
+        ensures ok { IfOk result (λ end. finished id self.now
+            ≡ Ok (held.with_finished end.0 self.now (with_tree (segment_of end.0.spec) end.1 self.now.trees))) }
+        ensures there { IfOk result (λ end. is_some (tree_of (segment_of end.0.spec) self.now.trees) ≡ true) }
+        ensures known { IfOk result (λ end. is_some (entry_of end.0.id self.now.compactions.entries) ≡ true) }
+        ensures err { IfErr result
+            (λ e. (finished id self.now ≡ Err e) ⊎ (is_memory e ≡ true)) }
     {
         match self.compactions.get(id) {
             None => Err(SlateDBError::InvalidDBState(StateCause::NoSuchCompaction(id))),
@@ -257,25 +223,64 @@ impl LocalState {
                 if !is_compacted(compaction.status) {
                     return Err(SlateDBError::InvalidDBState(StateCause::CompactionState(id)));
                 }
-                self.finish_found(alloc, compaction)
+                self.end_found(alloc, compaction)
             }
         }
     }
 
-    // The failure of a compaction that isn't over.
-    fn fail_found(&self, alloc: Global, compaction: &Compaction) -> Result<LocalState, SlateDBError>
-        ensures { Gives result (Ok (held.fail_found self.now compaction.now)) }
+    // Takes the end of a compaction: it is Completed, and pending, and its segment has this tree.
+    fn take_end(
+        &mut self,
+        alloc: Global,
+        compaction: Compaction,
+        tree: LsmTreeState,
+    ) -> Result<(), OutOfMemory>
+        requires there { is_some (tree_of (segment_of compaction.spec) self.old.trees) ≡ true }
+        requires known { is_some (entry_of compaction.id self.old.compactions.entries) ≡ true }
+        ensures ok { OnOk result (self.new ≡ held.with_finished compaction self.old
+            (with_tree (segment_of compaction.spec) tree self.old.trees)) }
+        ensures err { OnErr result (self.new ≡ self.old) }
     {
-        let trees = Plain::clone(&self.trees, alloc)?;
-        let status = CompactionStatus::Failed;
-        let made = with_status(alloc, &self.compactions, compaction, status);
-        Ok(whole(trees, made, self.pending.copy(alloc))?)
+        let mut compaction = compaction;
+        match self.pending.push(compaction.id) {
+            Ok(()) => {
+                self.trees.set_tree(alloc, compaction.spec.segment(), tree);
+                compaction.status = CompactionStatus::Completed;
+                match self.compactions.insert(compaction) {
+                    Ok(()) => Ok(()),
+                    Err(_) => unreachable!(),
+                }
+            }
+            Err(e) => {
+                drop(tree);
+                drop(compaction);
+                Err(e)
+            }
+        }
     }
 
-    /// With the compaction of this id Failed. Refused with `InvalidDBState`: `NoSuchCompaction` where the local record lacks it,
-    /// `CompactionState` where it is over.
-    pub fn failed(&self, alloc: Global, id: Ulid) -> Result<LocalState, SlateDBError>
-        ensures { Gives result (failed id self.now) }
+    /// Finishes the compaction of this id: its sources leave the tree of its segment, and a merge's outputs are a run of their own
+    /// there; it is Completed, and pending. Where a source is a view, the newest of these becomes the tree's view marker. Refused with
+    /// `InvalidDBState`: `NoSuchCompaction` where the local record lacks it, `CompactionState` where it isn't Compacted, and `BadSources`
+    /// where there is no such segment, its tree lacks a source, the views among the sources aren't the oldest of its L0, or a run that
+    /// stays has the number of the run that is written. A refusal and running out of memory leave all as it was. It copies that tree and
+    /// the compaction alone.
+    pub fn finish(&mut self, alloc: Global, id: Ulid) -> Result<(), SlateDBError>
+        ensures ok { OnOk result (finished id self.old ≡ Ok self.new) }
+        ensures err { OnErr result (self.new ≡ self.old) }
+        ensures refused { IfErr result
+            (λ e. (finished id self.old ≡ Err e) ⊎ (is_memory e ≡ true)) }
+    {
+        let (compaction, tree) = self.end_of(alloc, id)?;
+        Ok(self.take_end(alloc, compaction, tree)?)
+    }
+
+    // The compaction of an id, Failed.
+    fn failure_of(&self, alloc: Global, id: Ulid) -> Result<Compaction, SlateDBError>
+        ensures ok { IfOk result (λ c. failed id self.now
+            ≡ Ok (record self.now { compactions = with_entry c self.now.compactions })) }
+        ensures err { IfErr result
+            (λ e. (failed id self.now ≡ Err e) ⊎ (is_memory e ≡ true)) }
     {
         match self.compactions.get(id) {
             None => Err(SlateDBError::InvalidDBState(StateCause::NoSuchCompaction(id))),
@@ -283,9 +288,23 @@ impl LocalState {
                 if compaction.status.is_terminal() {
                     return Err(SlateDBError::InvalidDBState(StateCause::CompactionState(id)));
                 }
-                self.fail_found(alloc, compaction)
+                let mut copied = Plain::clone(compaction, alloc)?;
+                copied.status = CompactionStatus::Failed;
+                Ok(copied)
             }
         }
+    }
+
+    /// Makes the compaction of this id Failed. Refused with `InvalidDBState`: `NoSuchCompaction` where the local record lacks it,
+    /// `CompactionState` where it is over. A refusal and running out of memory leave all as it was. It copies that compaction alone.
+    pub fn fail(&mut self, alloc: Global, id: Ulid) -> Result<(), SlateDBError>
+        ensures ok { OnOk result (failed id self.old ≡ Ok self.new) }
+        ensures err { OnErr result (self.new ≡ self.old) }
+        ensures refused { IfErr result
+            (λ e. (failed id self.old ≡ Err e) ⊎ (is_memory e ≡ true)) }
+    {
+        let compaction = self.failure_of(alloc, id)?;
+        Ok(self.compactions.insert(compaction)?)
     }
 
     /// The tables that the manifest with these trees may bring: the outputs of the compactions that are pending. For each compaction it
