@@ -13,7 +13,7 @@ mod opening_ids;
 mod pools;
 mod tallies;
 
-pub use carried::{Carried, are_stale, carry};
+pub use carried::{Carried, Noted, are_stale, carry, uncarry};
 pub use laws::nothing_comes_twice;
 pub use new_error::NewError;
 pub use opening::{Opening, names, opened};

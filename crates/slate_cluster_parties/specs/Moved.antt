@@ -7,7 +7,7 @@ use Rattle.slate_script_events.specs.declared.call.Call.{Call}
 use Rattle.slate_script_events.specs.declared.entry.Entry.{Entry}
 use Rattle.slate_script_events.specs.declared.entry.Entry.TheVariants.{Started, Idle}
 use Rattle.slate_script_events.specs.declared.reply.Reply.{Reply}
-use Rattle.slate_cluster_protocol.specs.Calls.{Next, with_held}
+use Rattle.slate_cluster_protocol.specs.Calls.{Next, Finish}
 use Rattle.slate_cluster_protocol.specs.Rows.{Standing, begin}
 use Rattle.slate_cluster_protocol.specs.World.{settled, state_after, reply_of, halted}
 use Rattle.slate_cluster_protocol.specs.declared.party.Facts.{Facts}
@@ -27,7 +27,7 @@ Begins call next state reply = (state ≡ state_after call next) × (reply ≡ r
 
 -- a start of a party: none where it has a call, or was stopped
 abbrev pub begins_at : Facts → State → Call → Option Begun → Type 0
-begins_at facts Resting call (Some b) = Begins call (begin facts call).next b.state b.reply × ((begin facts call).facts ≡ with_held b.held facts)
+begins_at facts Resting call (Some b) = Begins call (begin facts call).next b.state b.reply × ((begin facts call).facts ≡ facts)
 begins_at facts Resting call None = ⊥
 begins_at facts (Busy task) call o = o ≡ None
 begins_at facts Halted call o = o ≡ None
@@ -40,7 +40,15 @@ start_entry n (Some b) = Started n b.reply
 -- the party after a start
 abbrev pub after_start : Party → Option Begun → Party
 after_start party None = party
-after_start party (Some b) = record { facts = with_held b.held party.facts; state = b.state }
+after_start party (Some b) = record { facts = party.facts; state = b.state }
+
+-- the end of a compaction by a party: it replies at once, unless the party has a call, or was stopped
+abbrev pub ends_in : ℕ → Facts → State → Call → Entry → Party → Type 0
+ends_in n facts Resting call entry new = (reply : Reply) × (begin facts call ≡ record { facts = new.facts; next = Finish reply }) × (entry ≡ Started n (Some reply)) × (new.state ≡ Resting)
+ends_in n facts state call entry new = (entry ≡ Idle n) × (new ≡ record { facts = facts; state = state })
+
+abbrev pub ends_at : ℕ → Party → Call → Entry → Party → Type 0
+ends_at n old call entry new = ends_in n old.facts old.state call entry new
 
 -- ---- a stop
 

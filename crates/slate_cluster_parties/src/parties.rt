@@ -1,15 +1,14 @@
 //! What events do to a party.
-ghost use Rattle.std.specs.Prelude.{◌≡◌, true, IfOk, OnErr};
+ghost use Rattle.std.specs.Prelude.{◌≡◌, true, false, IfOk, OnErr};
 ghost use Rattle.slate_cluster_protocol.specs.World.{newcomer as comes};
-ghost use Rattle.slate_cluster_steps.specs.Onward.{next_of};
-ghost use Rattle.slate_cluster_parties.specs.Moved.{Begins, begins_at, start_entry, after_start};
+ghost use Rattle.slate_cluster_steps.specs.Onward.{is_end as ends_one, next_of};
+ghost use Rattle.slate_cluster_parties.specs.Moved.{Begins, begins_at, ends_at, start_entry, after_start};
 ghost use Rattle.slate_cluster_parties.specs.Moved.{Stops, is_busy, after_reply, StateMoves, StateStepped};
 
 use slate_cluster_protocol::{Facts, Party, State, Task, Uploads};
-use slate_cluster_steps::{Beginning, Onward, PartyStep, begin, step_party, take_held};
+use slate_cluster_steps::{Onward, PartyStep, begin, end, step_party};
 use slate_ids::{DbPath, Millis, OutOfMemory};
 use slate_script_events::{Call, Entry, PartyKind, Reply};
-use slate_state_compactor::LocalState;
 use slate_store::{Mark, MemoryStore};
 use std::alloc::Global;
 use std::mem;
@@ -31,47 +30,42 @@ pub(crate) fn newcomer(alloc: Global, number: u32, kind: PartyKind, db: DbPath) 
     }
 }
 
-/// How a start leaves a party, the reply of a call that has no store call to make, and what the party holds then where the start changes
-/// that.
+/// How a start leaves a party, and the reply of a call that has no store call to make.
 #[derive(Drop)]
 pub(crate) struct Begun {
     pub state: State,
     pub reply: Option<Reply>,
-    pub held: Option<LocalState>,
 }
 
 // A call at its beginning.
-fn at_beginning(call: Call, beginning: Beginning) -> Begun
-    ensures begins { Begins call (next_of beginning.next) result.state result.reply }
-    ensures held { result.held ≡ beginning.held }
+fn at_beginning(call: Call, next: Onward) -> Begun
+    ensures { Begins call (next_of next) result.state result.reply }
 {
-    let held = beginning.held;
-    match beginning.next {
+    match next {
         Onward::Go(work) => Begun {
             state: State::Busy(Task { call, work }),
             reply: None,
-            held,
         },
         Onward::Finish(reply) => {
             drop(call);
             Begun {
                 state: State::Resting,
                 reply: Some(reply),
-                held,
             }
         }
     }
 }
 
-/// How a party starts a call. None where it has one, or was stopped.
+/// How a party starts a call, other than the end of a compaction. None where it has one, or was stopped.
 pub(crate) fn start(alloc: Global, party: &Party, call: &Call) -> Result<Option<Begun>, OutOfMemory>
+    requires { ends_one call.now ≡ false }
     ensures { IfOk result (λ o. begins_at party.now.facts party.now.state call.now o) }
 {
     match &party.state {
         State::Resting => {
             let copied = call.copy(alloc)?;
             match begin(alloc, &party.facts, call) {
-                Ok(beginning) => Ok(Some(at_beginning(copied, beginning))),
+                Ok(next) => Ok(Some(at_beginning(copied, next))),
                 Err(e) => {
                     drop(copied);
                     Err(e)
@@ -97,13 +91,35 @@ pub(crate) fn take_start(number: u32, party: &mut Party, begun: Option<Begun>) -
     match begun {
         None => Entry::Idle { party: number },
         Some(begun) => {
-            take_held(&mut party.facts, begun.held);
             set_state(party, begun.state);
             Entry::Started {
                 party: number,
                 reply: begun.reply,
             }
         }
+    }
+}
+
+/// Ends a compaction in what a party holds, unless it has a call, or was stopped. Running out of memory changes nothing.
+pub(crate) fn end_compaction(
+    alloc: Global,
+    number: u32,
+    party: &mut Party,
+    call: &Call,
+) -> Result<Entry, OutOfMemory>
+    requires { ends_one call.now ≡ true }
+    ensures ok { IfOk result (λ entry. ends_at number party.old call.now entry party.new) }
+    ensures err { OnErr result (party.new ≡ party.old) }
+{
+    match &party.state {
+        State::Resting => {
+            let reply = end(alloc, &mut party.facts, call)?;
+            Ok(Entry::Started {
+                party: number,
+                reply: Some(reply),
+            })
+        }
+        State::Busy(_) | State::Halted => Ok(Entry::Idle { party: number }),
     }
 }
 

@@ -6,10 +6,10 @@ ghost use Rattle.slate_cluster_protocol.specs.World.{World, refuses_start as sta
 ghost use Rattle.slate_cluster_opening.specs.Opened.{world_of};
 ghost use Rattle.slate_cluster_parties.specs.Events.{Happened};
 
-use crate::parties::{newcomer, start, step, stop, take_start};
-use slate_cluster_opening::{Carried, Opening, Tallies, are_stale, carry, count, tally};
+use crate::parties::{end_compaction, newcomer, start, step, stop, take_start};
+use slate_cluster_opening::{Carried, Opening, Tallies, are_stale, carry, count, tally, uncarry};
 use slate_cluster_protocol::{CallIds, Party};
-use slate_cluster_steps::{call_ids, has_call};
+use slate_cluster_steps::{call_ids, has_call, is_end};
 use slate_ids::{DbPath, Millis, OutOfMemory};
 use slate_script_events::{Call, Entry, Event, PartyKind};
 use slate_store::{Mark, MemoryStore};
@@ -127,7 +127,7 @@ impl ClusterState {
     }
 
     // A party starts a call, whose ids are carried.
-    #[tactic(auto, using(crate::proofs::Same::same_party, crate::proofs::Starting::start_happens))]
+    #[tactic(auto, using(crate::proofs::Same::same_party, crate::proofs::Starting::start_happens, crate::proofs::Starting::end_happens))]
     fn start(
         &mut self,
         alloc: Global,
@@ -144,9 +144,25 @@ impl ClusterState {
         if refuses_start(alloc, &self.carried, party, call, &ids)? {
             return Ok(None);
         }
+        if is_end(call) {
+            let noted = carry(alloc, &mut self.carried, number, &ids)?;
+            match end_compaction(alloc, number, party, call) {
+                Ok(entry) => {
+                    drop(noted);
+                    return Ok(Some(entry));
+                }
+                Err(e) => {
+                    uncarry(&mut self.carried, noted);
+                    return Err(e);
+                }
+            }
+        }
         let begun = start(alloc, party, call)?;
         match carry(alloc, &mut self.carried, number, &ids) {
-            Ok(()) => Ok(Some(take_start(number, party, begun))),
+            Ok(noted) => {
+                drop(noted);
+                Ok(Some(take_start(number, party, begun)))
+            }
             Err(e) => {
                 drop(begun);
                 Err(e)

@@ -1,15 +1,16 @@
 //! How calls begin.
-ghost use Rattle.std.specs.Prelude.{◌≡◌, None, true, IfOk};
+ghost use Rattle.std.specs.Prelude.{◌≡◌, true, false, IfOk, OnErr};
 ghost use Rattle.slate_script_events.specs.declared.call.Call.TheVariants.{Upload as UploadCall};
 ghost use Rattle.slate_script_events.specs.declared.call.Call.TheVariants as ends;
 ghost use Rattle.slate_script_events.specs.declared.reply.Reply.TheVariants as reply;
 ghost use Rattle.slate_ids.specs.declared.error.SlateDBError.TheVariants as errors;
 ghost use Rattle.slate_ids.specs.declared.error.StateCause.TheVariants as causes;
 ghost use Rattle.slate_cluster_protocol.specs.Calls as calls;
-ghost use Rattle.slate_cluster_protocol.specs.Calls.{with_held};
 ghost use Rattle.slate_cluster_protocol.specs.Rows as rows;
 ghost use Rattle.slate_cluster_steps.specs.Followed.{Refuses};
-ghost use Rattle.slate_cluster_steps.specs.Onward.{next_of, is_other_call, EndBegins};
+ghost use Rattle.slate_cluster_steps.specs.Onward.{next_of, is_end as ends_one, is_other_call, Ends, Replies};
+ghost use Rattle.slate_ids.specs.Answers.{ran_out};
+ghost use Rattle.slate_state_compactor.specs.Local.{failed, finished};
 
 use crate::table::{first_work, refusal_at_start};
 use bytes::Bytes;
@@ -18,7 +19,7 @@ use slate_ids::{ByteList, OutOfMemory, SlateDBError, StateCause, Ulid};
 use slate_layout::encode_info;
 use slate_model::{Plain, SsTableInfo};
 use slate_script_events::{Call, Reply};
-use slate_state_compactor::LocalState;
+use slate_state_calls::Compactor;
 use std::alloc::Global;
 
 /// How a call goes on.
@@ -28,14 +29,6 @@ pub enum Onward {
     Go(Work),
     /// It ends with this reply.
     Finish(Reply),
-}
-
-/// How a call begins.
-#[derive(Drop)]
-pub struct Beginning {
-    pub next: Onward,
-    /// What the party holds then, where the start changes that.
-    pub held: Option<LocalState>,
 }
 
 /// A refusal is the reply, unless memory ran out.
@@ -93,87 +86,99 @@ fn begin_other(alloc: Global, facts: &Facts, call: &Call) -> Result<Onward, OutO
     }
 }
 
-// How the end of a compaction begins, by what its party holds after it.
-fn ended(held: Result<LocalState, SlateDBError>) -> Result<Beginning, OutOfMemory>
-    ensures { IfOk result (λ b. EndBegins held (next_of b.next) b.held) }
+/// Whether a call is the end of a compaction, which makes no store call and carries no id.
+pub fn is_end(call: &Call) -> bool
+    ensures { result ≡ ends_one call.now }
 {
-    match held {
-        Ok(local) => Ok(Beginning {
-            next: Onward::Finish(Reply::Done),
-            held: Some(local),
-        }),
-        Err(e) => Ok(Beginning {
-            next: Onward::Finish(refuse(e)?),
-            held: None,
-        }),
+    match call {
+        Call::Finish { .. } | Call::Fail { .. } => true,
+        _ => false,
     }
 }
 
-// The end of a compaction by a party that isn't open.
-fn not_open() -> Beginning
-    ensures next { next_of result.next ≡ calls.Finish (reply.Refused (errors.InvalidDBState causes.NotOpen)) }
-    ensures held { result.held ≡ None }
+/// How a call of a party begins, other than the end of a compaction. It changes nothing of what the party holds.
+pub fn begin(alloc: Global, facts: &Facts, call: &Call) -> Result<Onward, OutOfMemory>
+    requires { ends_one call.now ≡ false }
+    ensures { IfOk result (λ next. rows.begin facts.now call.now
+        ≡ record { facts = facts.now; next = next_of next }) }
 {
-    Beginning {
-        next: Onward::Finish(Reply::Refused(SlateDBError::InvalidDBState(StateCause::NotOpen))),
-        held: None,
+    match call {
+        Call::Upload { table, first, last } => begin_upload(alloc, facts, *table, first, last),
+        Call::Finish { .. } | Call::Fail { .. } => unreachable!(),
+        _ => begin_other(alloc, facts, call),
     }
+}
+
+// The reply of an end, unless memory ran out.
+fn replied(ended: Result<(), SlateDBError>) -> Result<Reply, OutOfMemory>
+    ensures ok { IfOk result (λ reply. Replies ended reply) }
+    ensures err { OnErr result (ran_out ended ≡ true) }
+{
+    match ended {
+        Ok(()) => Ok(Reply::Done),
+        Err(e) => refuse(e),
+    }
+}
+
+// A compaction is finished in what a compactor holds.
+fn finish_in(alloc: Global, compactor: &mut Compactor, id: Ulid) -> Result<Reply, OutOfMemory>
+    ensures ok { IfOk result (λ reply. Ends (finished id compactor.old.local) compactor.old compactor.new reply) }
+    ensures err { OnErr result (compactor.new ≡ compactor.old) }
+{
+    replied(compactor.local.finish(alloc, id))
+}
+
+// A compaction fails in it.
+fn fail_in(alloc: Global, compactor: &mut Compactor, id: Ulid) -> Result<Reply, OutOfMemory>
+    ensures ok { IfOk result (λ reply. Ends (failed id compactor.old.local) compactor.old compactor.new reply) }
+    ensures err { OnErr result (compactor.new ≡ compactor.old) }
+{
+    replied(compactor.local.fail(alloc, id))
+}
+
+// The reply of a party that isn't open.
+fn not_open() -> Reply
+    ensures { result ≡ reply.Refused (errors.InvalidDBState causes.NotOpen) }
+{
+    Reply::Refused(SlateDBError::InvalidDBState(StateCause::NotOpen))
 }
 
 // How a compaction is finished.
-fn begin_finish(alloc: Global, facts: &Facts, id: Ulid) -> Result<Beginning, OutOfMemory>
-    ensures { IfOk result (λ b. rows.begin facts.now (ends.Finish id)
-        ≡ record { facts = with_held b.held facts.now; next = next_of b.next }) }
+#[tactic(auto, using(crate::proofs::Endings::finish_begins))]
+fn finish(alloc: Global, facts: &mut Facts, id: Ulid) -> Result<Reply, OutOfMemory>
+    ensures ok { IfOk result (λ reply. rows.begin facts.old (ends.Finish id)
+        ≡ record { facts = facts.new; next = calls.Finish reply }) }
+    ensures err { OnErr result (facts.new ≡ facts.old) }
 {
-    match &facts.compactor {
+    match &mut facts.compactor {
         None => Ok(not_open()),
-        Some(compactor) => ended(compactor.local.finished(alloc, id)),
+        Some(compactor) => finish_in(alloc, compactor, id),
     }
 }
 
 // How a compaction fails.
-fn begin_fail(alloc: Global, facts: &Facts, id: Ulid) -> Result<Beginning, OutOfMemory>
-    ensures { IfOk result (λ b. rows.begin facts.now (ends.Fail id)
-        ≡ record { facts = with_held b.held facts.now; next = next_of b.next }) }
+#[tactic(auto, using(crate::proofs::Endings::fail_begins))]
+fn fail(alloc: Global, facts: &mut Facts, id: Ulid) -> Result<Reply, OutOfMemory>
+    ensures ok { IfOk result (λ reply. rows.begin facts.old (ends.Fail id)
+        ≡ record { facts = facts.new; next = calls.Finish reply }) }
+    ensures err { OnErr result (facts.new ≡ facts.old) }
 {
-    match &facts.compactor {
+    match &mut facts.compactor {
         None => Ok(not_open()),
-        Some(compactor) => ended(compactor.local.failed(alloc, id)),
+        Some(compactor) => fail_in(alloc, compactor, id),
     }
 }
 
-// A call whose start leaves what its party holds.
-fn leaving(next: Onward) -> Beginning
-    ensures next { next_of result.next ≡ next_of next }
-    ensures held { result.held ≡ None }
-{
-    Beginning { next, held: None }
-}
-
-/// How a call of a party begins.
-pub fn begin(alloc: Global, facts: &Facts, call: &Call) -> Result<Beginning, OutOfMemory>
-    ensures { IfOk result (λ b. rows.begin facts.now call.now
-        ≡ record { facts = with_held b.held facts.now; next = next_of b.next }) }
+/// Ends a compaction in what a party holds, and replies to its call. Running out of memory changes nothing.
+pub fn end(alloc: Global, facts: &mut Facts, call: &Call) -> Result<Reply, OutOfMemory>
+    requires { ends_one call.now ≡ true }
+    ensures ok { IfOk result (λ reply. rows.begin facts.old call.now
+        ≡ record { facts = facts.new; next = calls.Finish reply }) }
+    ensures err { OnErr result (facts.new ≡ facts.old) }
 {
     match call {
-        Call::Upload { table, first, last } => {
-            Ok(leaving(begin_upload(alloc, facts, *table, first, last)?))
-        }
-        Call::Finish { id } => begin_finish(alloc, facts, *id),
-        Call::Fail { id } => begin_fail(alloc, facts, *id),
-        _ => Ok(leaving(begin_other(alloc, facts, call)?)),
-    }
-}
-
-/// Takes what the start of a call changed of what its party holds.
-pub fn take_held(facts: &mut Facts, held: Option<LocalState>)
-    ensures { facts.new ≡ with_held held facts.old }
-{
-    if let Some(local) = held {
-        if let Some(compactor) = &mut facts.compactor {
-            compactor.hold_local(local);
-        } else {
-            drop(local);
-        }
+        Call::Finish { id } => finish(alloc, facts, *id),
+        Call::Fail { id } => fail(alloc, facts, *id),
+        _ => unreachable!(),
     }
 }

@@ -10,6 +10,6 @@ mod uploaded;
 mod uploading;
 mod works;
 
-pub use begins::{Beginning, Onward, begin, take_held};
+pub use begins::{Onward, begin, end, is_end};
 pub use party_steps::{PartyStep, step_party};
 pub use table::{call_ids, has_call};
