@@ -70,9 +70,7 @@ impl CompactorStateWriter {
         ensures err { OnErr result (self.new ≡ self.old) }
         ensures refused { IfErr result (λ e. (held.finished id self.old.compactor.local ≡ Err e) ⊎ (is_memory e ≡ true)) }
     {
-        let local = self.compactor.local.finished(alloc, id)?;
-        self.compactor.hold_local(local);
-        Ok(())
+        self.compactor.local.finish(alloc, id)
     }
 
     /// Gives a compaction of the local record up: it is Failed. Refused with `InvalidDBState`: `NoSuchCompaction` where the local record
@@ -83,8 +81,6 @@ impl CompactorStateWriter {
         ensures err { OnErr result (self.new ≡ self.old) }
         ensures refused { IfErr result (λ e. (held.failed id self.old.compactor.local ≡ Err e) ⊎ (is_memory e ≡ true)) }
     {
-        let local = self.compactor.local.failed(alloc, id)?;
-        self.compactor.hold_local(local);
-        Ok(())
+        self.compactor.local.fail(alloc, id)
     }
 }
