@@ -104,9 +104,14 @@ fn refused(cause: StateCause) -> Answer {
     }
 }
 
-fn told(rt: &impl Abort, reply: &Result<LocalState, SlateDBError>, segment: &str) -> Answer {
+fn told(
+    rt: &impl Abort,
+    reply: &Result<(), SlateDBError>,
+    local: &LocalState,
+    segment: &str,
+) -> Answer {
     match reply {
-        Ok(local) => {
+        Ok(()) => {
             let tree = tree_at(rt, local, segment);
             let (l0, runs) = shown(tree);
             Answer::Tree(l0, runs, marker(tree))
@@ -127,14 +132,15 @@ fn end_of(
     fails: bool,
     segment: &str,
 ) -> Answer {
+    let mut local = local;
     let reply = if fails {
-        local.failed(alloc, id(tail))
+        local.fail(alloc, id(tail))
     } else {
-        local.finished(alloc, id(tail))
+        local.finish(alloc, id(tail))
     };
-    drop(local);
-    let answer = told(rt, &reply, segment);
+    let answer = told(rt, &reply, &local, segment);
     drop(reply);
+    drop(local);
     answer
 }
 
@@ -185,10 +191,9 @@ fn statuses_decide(rt: HostRuntime) {
 
 /// What is held once the merge of the view 1 into the run 0 was finished.
 fn after_end(rt: &impl Abort, alloc: Global) -> LocalState {
-    let local = held(rt, alloc, "", &[V1], Some(0), CompactionStatus::Compacted);
-    let after = local.finished(alloc, id(1));
-    drop(local);
-    after.expect(rt, "finished")
+    let mut local = held(rt, alloc, "", &[V1], Some(0), CompactionStatus::Compacted);
+    local.finish(alloc, id(1)).expect(rt, "finished");
+    local
 }
 
 #[test]
@@ -227,10 +232,9 @@ fn a_compaction_that_is_over_or_not_there_does_not_end(rt: HostRuntime) {
 
 /// What is held once the compaction failed.
 fn after_failure(rt: &impl Abort, alloc: Global) -> LocalState {
-    let local = held(rt, alloc, "", &[V1], Some(0), CompactionStatus::Running);
-    let after = local.failed(alloc, id(1));
-    drop(local);
-    after.expect(rt, "failed")
+    let mut local = held(rt, alloc, "", &[V1], Some(0), CompactionStatus::Running);
+    local.fail(alloc, id(1)).expect(rt, "failed");
+    local
 }
 
 #[test]
