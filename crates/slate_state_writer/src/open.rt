@@ -10,7 +10,6 @@ ghost use Rattle.slate_store.specs.Machines.{IsAgain, Steps};
 use crate::compactor_writer::CompactorStateWriter;
 use slate_ids::{DbPath, Millis, SlateDBError};
 use slate_state_calls::{Compactor, OpenPhase};
-use slate_state_logs::records_are_plain;
 use slate_store::{ObjectStore, Step, perform};
 use std::alloc::Global;
 use std::mem;
@@ -78,7 +77,6 @@ impl OpenStateMachine {
         ensures due { StillDue result (open_due self.new.phase) }
         ensures fault { FaultRose (S.told store.old) (S.told store.new) result }
     {
-        records_are_plain();
         match self.phase.asks(alloc, self.db) {
             Ok(call) => {
                 let performed = perform(alloc, store, &call, moment);
@@ -163,7 +161,6 @@ impl CompactorStateWriter {
         ensures opens { Opens db moment tries (S.told store.old) (S.told store.new) result }
         ensures fault { FaultOf (S.told store.old) (S.told store.new) result }
     {
-        records_are_plain();
         let mut turns = OpenTurns {
             machine: CompactorStateWriter::start_new(db),
             is_turned: false,

@@ -10,7 +10,6 @@ ghost use Rattle.slate_store.specs.Machines.{IsAgain, Steps};
 use crate::compactor_writer::CompactorStateWriter;
 use slate_ids::{CheckpointId, Millis, SlateDBError, Ulid};
 use slate_state_calls::{StatePhase, StateStart, TreesWrite};
-use slate_state_logs::records_are_plain;
 use slate_store::{ObjectStore, Step, perform};
 use std::alloc::Global;
 use std::mem;
@@ -108,7 +107,6 @@ impl CompactorStateMachine {
         ensures own { KeepsOwn writer.old writer.new }
         ensures fault { FaultRose (S.told store.old) (S.told store.new) result }
     {
-        records_are_plain();
         match self.phase.asks(alloc, writer.db) {
             Ok(call) => {
                 let performed = perform(alloc, store, &call, moment);
@@ -191,7 +189,6 @@ impl CompactorStateWriter {
         ensures own { KeepsOwn self.old self.new }
         ensures fault { FaultOf (S.told store.old) (S.told store.new) result }
     {
-        records_are_plain();
         let mut turns = StateTurns {
             machine: self.started(&start),
             is_turned: false,

@@ -9,6 +9,7 @@ use Rattle.slate_state_writer.specs.StateCalls.{asks_at, first_turn, state_turni
 use Rattle.slate_ids.specs.Answers.{OrMemory-map}
 use Rattle.slate_txn_log.proofs.Faults.{call_rose, ran_rose}
 use Rattle.slate_store.specs.CallRuns.{begins, done_with, gives_up, goes_further, starts_again}
+use Rattle.slate_state_logs.specs.laws.RecordsPlain.{records_plain}
 use Rattle.slate_state_writer.proofs.compactor_writer.CompactorStateWriter.call.Goals as goal
 
 pub returns-in-Done : goal.returns-in-Done
@@ -20,7 +21,7 @@ returns-in-Done g c =
     record {
       call = OrMemory-map c.in-Done.result (λ began. (to.0.0, to.1, began)) (λ ran. (to.0.0, to.1, ran)) ran;
       own = keeps_on c.loop-result.invariant.own c.in-Done.ensures.own;
-      fault = call_rose c.in-Done.result (turning_faults c.records_are_plain.ensures c.args.self.now.db c.args.start c.args.moment) (start_due c.args.start c.args.self.now.compactor) ran;
+      fault = call_rose c.in-Done.result (turning_faults records_plain c.args.self.now.db c.args.start c.args.moment) (start_due c.args.start c.args.self.now.compactor) ran;
     }
 
 pub returns-then-left-eq1 : goal.returns-then-left-eq1
@@ -32,7 +33,7 @@ returns-then-left-eq1 g c =
     record {
       call = inl (to.0.0, to.1, ran);
       own = keeps_on c.loop-result.invariant.own c.in-Again.ensures.own;
-      fault = ran_rose (turning_faults c.records_are_plain.ensures c.args.self.now.db c.args.start c.args.moment) (start_due c.args.start c.args.self.now.compactor) ran;
+      fault = ran_rose (turning_faults records_plain c.args.self.now.db c.args.start c.args.moment) (start_due c.args.start c.args.self.now.compactor) ran;
     }
 
 pub loop-result-preserved-then-turns : goal.loop-result-preserved-then-turns

@@ -9,6 +9,7 @@ use Rattle.slate_state_writer.specs.PlainOpening.{first_turn, open_turning}
 use Rattle.slate_ids.specs.Answers.{OrMemory-map}
 use Rattle.slate_txn_log.proofs.Faults.{call_rose, ran_rose}
 use Rattle.slate_store.specs.CallRuns.{begins, done_with, gives_up, goes_further, starts_again}
+use Rattle.slate_state_logs.specs.laws.RecordsPlain.{records_plain}
 use Rattle.slate_state_writer.proofs.compactor_writer.CompactorStateWriter.new.Goals as goal
 
 pub returns-in-Done : goal.returns-in-Done
@@ -19,7 +20,7 @@ returns-in-Done g c =
     let ran = rw (to_z-of_z w64 c.args.moment c.ranges.moment) at first in
     record {
       opens = OrMemory-map c.in-Done.result (λ began. (to, began)) (λ ran. (to, ran)) ran;
-      fault = call_rose c.in-Done.result (turning_faults c.records_are_plain.ensures c.args.db c.args.moment) refl ran;
+      fault = call_rose c.in-Done.result (turning_faults records_plain c.args.db c.args.moment) refl ran;
     }
 
 pub returns-then-left-eq1 : goal.returns-then-left-eq1
@@ -30,7 +31,7 @@ returns-then-left-eq1 g c =
     let ran = rw (to_z-of_z w64 c.args.moment c.ranges.moment) at first in
     record {
       opens = inl (to, ran);
-      fault = ran_rose (turning_faults c.records_are_plain.ensures c.args.db c.args.moment) refl ran;
+      fault = ran_rose (turning_faults records_plain c.args.db c.args.moment) refl ran;
     }
 
 pub loop-result-preserved-then-turns : goal.loop-result-preserved-then-turns

@@ -6,6 +6,7 @@ use Rattle.slate_state_writer.specs.Writer.{held_by}
 use Rattle.slate_txn_log.proofs.Faults.{step_rose}
 use Rattle.slate_txn_log.proofs.Steps.{steps_where}
 use Rattle.slate_txn_laws.proofs.Told.{due_as, steps_as}
+use Rattle.slate_state_logs.specs.laws.RecordsPlain.{records_plain}
 use Rattle.slate_state_writer.proofs.open.OpenStateMachine.next.Goals as goal
 
 pub returns-in-Ok-performed : goal.returns-in-Ok-performed
@@ -27,5 +28,5 @@ returns-in-Ok-performed g c =
       falls = λ again. c.goes_on-step.ensures.falls (again_as db step (rw c.held_step.ensures at again));
       db = refl;
       due = rw (sym c.held_step.ensures) at (due_as (held_by db) (held_faithful db) step _ c.goes_on-step.ensures.due);
-      fault = step_rose old new moment from to c.held_step.result (open_faults c.records_are_plain.ensures db moment) c.requires.due steps;
+      fault = step_rose old new moment from to c.held_step.result (open_faults records_plain db moment) c.requires.due steps;
     }

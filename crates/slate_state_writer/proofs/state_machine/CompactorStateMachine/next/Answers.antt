@@ -6,6 +6,7 @@ use Rattle.slate_state_writer.specs.Writer.{Writer}
 use Rattle.slate_store.specs.Machines.{GoesOn, Steps}
 use Rattle.slate_txn_log.proofs.Faults.{step_rose}
 use Rattle.slate_txn_log.proofs.Steps.{steps_where}
+use Rattle.slate_state_logs.specs.laws.RecordsPlain.{records_plain}
 use Rattle.slate_state_writer.proofs.state_machine.CompactorStateMachine.next.Goals as goal
 
 pub returns-in-Ok-performed : goal.returns-in-Ok-performed
@@ -29,5 +30,5 @@ returns-in-Ok-performed g c =
       falls = c.goes_on-step.ensures.falls;
       due = c.goes_on-step.ensures.due;
       own = record { db = ap (λ (w : Writer). w.db) view; epoch = c.goes_on-step.ensures.epoch ∙ ap (λ (w : Writer). w.compactor.epoch) view };
-      fault = step_rose old new moment (phase, c.args.writer.now.compactor) to step (state_faults c.records_are_plain.ensures c.args.writer.now.db moment) c.requires.due steps;
+      fault = step_rose old new moment (phase, c.args.writer.now.compactor) to step (state_faults records_plain c.args.writer.now.db moment) c.requires.due steps;
     }
