@@ -4,3 +4,4 @@ mod PutFaults
 mod OpenFaults
 mod StateFaults
 mod StateLaws
+mod Leaving

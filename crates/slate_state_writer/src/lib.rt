@@ -8,6 +8,6 @@ mod state_calls;
 mod state_machine;
 
 pub use compactor_writer::CompactorStateWriter;
-pub use laws::records_follow_manifests;
+pub use laws::{calls_leave_what_they_made, records_follow_manifests};
 pub use open::OpenStateMachine;
 pub use state_machine::CompactorStateMachine;
