@@ -2,3 +2,4 @@ mod FencedMay
 mod NotBegun
 mod CheckpointsStand
 mod AnswersFence
+mod FirstStand

@@ -1,5 +1,5 @@
 -- Holders of a log of a database: with which log, rules and bytes they, and the machines of their calls, begin.
-use Rattle.std.specs.Prelude.{◌≡◌, ℕ, ℤ, List, Option, Result}
+use Rattle.std.specs.Prelude.{◌≡◌, ℕ, ℤ, List, Option, Result, IsErr}
 use Rattle.slate_ids.specs.declared.error.SlateDBError.{SlateDBError}
 use Rattle.slate_txn_log.specs.declared.log_kind.LogKind.{LogKind}
 use Rattle.slate_txn_log.specs.declared.read_phase.ReadPhase.TheVariants.{Listing}
@@ -12,6 +12,7 @@ use Rattle.slate_txn.specs.Holder.{Holder}
 use Rattle.slate_txn.specs.Initing.{init_of}
 use Rattle.slate_txn.specs.Loading.{LoadRan, loaded, try_loaded}
 use Rattle.slate_txn.specs.Raise.{epoch_commit, raised}
+use Rattle.slate_txn.specs.Standing.{CommitStands}
 use Rattle.slate_txn.specs.declared.create.CreateMachine.{CreateMachine}
 use Rattle.slate_txn.specs.declared.init.InitMachine.{InitMachine}
 use Rattle.slate_txn.specs.declared.load.TryLoadMachine.{TryLoadMachine}
@@ -29,6 +30,14 @@ pub record LogOf (T C R : Type 0) (kind : LogKind) (db : List ℕ) : Type 0 wher
 -- the log was begun: this first value was committed as version 1, and is held
 abbrev pub CreatesDb : {T C R : Type 0} → (C → T → Result (List ℕ) SlateDBError) → LogKind → List ℕ → T → ℤ → Told → Told → Result (Holder T C R) SlateDBError → Type 0
 CreatesDb {T} {C} {R} encoded kind db first moment old new result = (of : LogOf T C R kind db) × Creates encoded moment old new of.log of.rules first result
+
+-- a first value has no bytes
+abbrev pub HasNoBytes : {T C : Type 0} → (C → T → Result (List ℕ) SlateDBError) → T → Type 0
+HasNoBytes {C = C} encoded first = (codec : C) → IsErr (encoded codec first)
+
+-- the put of a first value as version 1 of a database's log stands
+abbrev pub FirstStands : {T C : Type 0} → (C → T → Result (List ℕ) SlateDBError) → LogKind → List ℕ → T → ℤ → Told → Told → Type 0
+FirstStands {C = C} encoded kind db first moment old new = (codec : C) × CommitStands db kind moment old new (first_commit (encoded codec) first)
 
 -- the latest version of a database's log was read, and is held
 abbrev pub LoadsDb : {T C R : Type 0} → (C → List ℕ → Result T SlateDBError) → LogKind → List ℕ → ℕ → Told → Told → Result (Holder T C R) SlateDBError → Type 0

@@ -1,6 +1,6 @@
 //! A holder of a version of a log of a database.
 ghost use Rattle.std.specs.Prelude.{◌≡◌, ◌<◌, ◌+◌, ◌⊎◌, true, false, IfOk, IfErr, OnOk, OnErr};
-ghost use Rattle.slate_state_holders.specs.Holders.{CreatesDb, LoadsDb, TryLoadsDb};
+ghost use Rattle.slate_state_holders.specs.Holders.{CreatesDb, FirstStands, HasNoBytes, LoadsDb, TryLoadsDb};
 ghost use Rattle.slate_ids.specs.Answers.{is_memory};
 ghost use Rattle.slate_txn_log.specs.Due.{FaultOf};
 ghost use Rattle.slate_txn_laws.specs.Plain.{MayNotFault, NeverFaults};
@@ -68,7 +68,8 @@ pub(crate) fn hold_some<L: DbLog>(
 }
 
 impl<L: DbLog> DbStored<L> {
-    // Commits this first value as version 1, in one try, and holds it. A value without bytes is refused before any call.
+    // Commits this first value as version 1, in one try, and holds it. A value without bytes is refused before any call. A refusal leaves
+    // the store's contents as before, except where the put may stand.
     pub(crate) fn create_first<S: ObjectStore>(
         alloc: Global,
         store: &mut S,
@@ -77,6 +78,12 @@ impl<L: DbLog> DbStored<L> {
         moment: Millis,
     ) -> Result<DbStored<L>, SlateDBError>
         ensures create { CreatesDb L.Codec.encoded L.its_kind db first moment (S.told store.old) (S.told store.new) result }
+        ensures before { HasNoBytes L.Codec.encoded first → S.told store.new ≡ S.told store.old }
+        ensures put { OnOk result (FirstStands L.Codec.encoded L.its_kind db first moment (S.told store.old) (S.told store.new)) }
+        ensures left { IfErr result (λ e. may_stand e ≡ false
+            → SameContents (S.told store.old) (S.told store.new)) }
+        ensures stands { OnErr result (SameContents (S.told store.old) (S.told store.new)
+            ⊎ FirstStands L.Codec.encoded L.its_kind db first moment (S.told store.old) (S.told store.new)) }
         ensures fault { FaultOf (S.told store.old) (S.told store.new) result }
     {
         let log = log_of::<L>(db);

@@ -1,11 +1,12 @@
 //! A holder of a record of compactions.
-ghost use Rattle.std.specs.Prelude.{◌≡◌, IfOk, IfSome, true};
-ghost use Rattle.slate_state_holders.specs.Holders.{CreatesDb, CreationOf};
+ghost use Rattle.std.specs.Prelude.{◌≡◌, ◌⊎◌, IfErr, IfOk, IfSome, OnErr, OnOk, false, true};
+ghost use Rattle.slate_state_holders.specs.Holders.{CreatesDb, CreationOf, FirstStands, HasNoBytes};
 ghost use Rattle.slate_state_holders.specs.RecordHolders.{empty_record};
 ghost use Rattle.slate_state_logs.specs.RecordLog.{bytes_of_record};
 ghost use Rattle.slate_txn_log.specs.Due.{FaultOf};
 ghost use Rattle.slate_txn_log.specs.declared.log_kind.LogKind.TheVariants as logs;
 ghost use Rattle.slate_txn.specs.Creating.{create_open, create_version};
+ghost use Rattle.slate_txn.specs.Standing.{may_stand, SameContents};
 
 use crate::db_stored::DbStored;
 use crate::db_stored_machines::{
@@ -38,8 +39,9 @@ pub type UpdateCompactionsMachine = DbUpdateMachine<Records>;
 impl StoredCompactions {
     /// Begins the log of a database's records: commits the record of this epoch without compactions as version 1, in one try, and
     /// holds it. Where the log has a version 1, or its boundary is at or above 1, the answer is
-    /// `TransactionalObjectVersionExists`, in the second case with the boundary. `moment` is in milliseconds since the Unix
-    /// epoch.
+    /// `TransactionalObjectVersionExists`, in the second case with the boundary. A refusal leaves the store's contents as before,
+    /// except that the put may stand where its answer was lost, where the boundary read after it was at or above 1, or where the
+    /// boundary couldn't be read. `moment` is in milliseconds since the Unix epoch.
     pub fn create<S: ObjectStore>(
         alloc: Global,
         store: &mut S,
@@ -49,6 +51,13 @@ impl StoredCompactions {
     ) -> Result<StoredCompactions, SlateDBError>
         ensures create { CreatesDb bytes_of_record logs.Compactions db (empty_record compactor_epoch) moment
             (S.told store.old) (S.told store.new) result }
+        ensures before { HasNoBytes bytes_of_record (empty_record compactor_epoch) → S.told store.new ≡ S.told store.old }
+        ensures put { OnOk result (FirstStands bytes_of_record logs.Compactions db (empty_record compactor_epoch) moment
+            (S.told store.old) (S.told store.new)) }
+        ensures left { IfErr result (λ e. may_stand e ≡ false
+            → SameContents (S.told store.old) (S.told store.new)) }
+        ensures stands { OnErr result (SameContents (S.told store.old) (S.told store.new)
+            ⊎ FirstStands bytes_of_record logs.Compactions db (empty_record compactor_epoch) moment (S.told store.old) (S.told store.new)) }
         ensures fault { FaultOf (S.told store.old) (S.told store.new) result }
     {
         let first = Compactions::new(alloc, compactor_epoch);

@@ -1,12 +1,13 @@
 //! A holder of a manifest.
-ghost use Rattle.std.specs.Prelude.{◌≡◌, ◌<◌, IfOk, IfSome, true};
-ghost use Rattle.slate_state_holders.specs.Holders.{CreatesDb, CreationOf};
+ghost use Rattle.std.specs.Prelude.{◌≡◌, ◌<◌, ◌⊎◌, IfErr, IfOk, IfSome, OnErr, OnOk, false, true};
+ghost use Rattle.slate_state_holders.specs.Holders.{CreatesDb, CreationOf, FirstStands, HasNoBytes};
 ghost use Rattle.slate_state_holders.specs.ManifestHolders.{Changed};
 ghost use Rattle.slate_state_logs.specs.ManifestLog.{manifest_encoded};
 ghost use Rattle.slate_txn_log.specs.Due.{FaultOf};
 ghost use Rattle.slate_txn_log.specs.declared.log_kind.LogKind.TheVariants as logs;
 ghost use Rattle.slate_model.specs.Manifests.{initial_manifest};
 ghost use Rattle.slate_txn.specs.Creating.{create_open, create_version};
+ghost use Rattle.slate_txn.specs.Standing.{may_stand, SameContents};
 
 use crate::changes::make;
 use crate::db_stored::DbStored;
@@ -42,8 +43,9 @@ pub type UpdateManifestMachine = DbUpdateMachine<Manifests>;
 impl StoredManifest {
     /// Creates a database: commits its first manifest, of this core, as version 1, in one try, and holds it. A manifest without
     /// bytes is refused before any call. Where the log has a version 1, or its boundary is at or above 1, the answer is
-    /// `TransactionalObjectVersionExists`, in the second case with the boundary. `moment` is in milliseconds since the Unix
-    /// epoch.
+    /// `TransactionalObjectVersionExists`, in the second case with the boundary. A refusal leaves the store's contents as before,
+    /// except that the put may stand where its answer was lost, where the boundary read after it was at or above 1, or where the
+    /// boundary couldn't be read. `moment` is in milliseconds since the Unix epoch.
     pub fn create_new_db<S: ObjectStore>(
         alloc: Global,
         store: &mut S,
@@ -53,6 +55,13 @@ impl StoredManifest {
     ) -> Result<StoredManifest, SlateDBError>
         ensures create { CreatesDb manifest_encoded logs.Manifest db (initial_manifest core) moment
             (S.told store.old) (S.told store.new) result }
+        ensures before { HasNoBytes manifest_encoded (initial_manifest core) → S.told store.new ≡ S.told store.old }
+        ensures put { OnOk result (FirstStands manifest_encoded logs.Manifest db (initial_manifest core) moment
+            (S.told store.old) (S.told store.new)) }
+        ensures left { IfErr result (λ e. may_stand e ≡ false
+            → SameContents (S.told store.old) (S.told store.new)) }
+        ensures stands { OnErr result (SameContents (S.told store.old) (S.told store.new)
+            ⊎ FirstStands manifest_encoded logs.Manifest db (initial_manifest core) moment (S.told store.old) (S.told store.new)) }
         ensures fault { FaultOf (S.told store.old) (S.told store.new) result }
     {
         let first = Manifest::initial(alloc, core);

@@ -4,3 +4,12 @@ use Rattle.slate_state_holders.proofs.stored_compactions.StoredCompactions.creat
 
 pub returns-clause-create : goal.returns-clause-create
 returns-clause-create g c = rw c.new-first.ensures at (rw (to_z-of_z w64 c.args.moment c.ranges.moment) at c.create_first.ensures.create)
+
+pub returns-clause-before : goal.returns-clause-before
+returns-clause-before g c = rw c.new-first.ensures at c.create_first.ensures.before
+
+pub returns-clause-put : goal.returns-clause-put
+returns-clause-put g c = rw c.new-first.ensures at (rw (to_z-of_z w64 c.args.moment c.ranges.moment) at c.create_first.ensures.put)
+
+pub returns-clause-stands : goal.returns-clause-stands
+returns-clause-stands g c = rw c.new-first.ensures at (rw (to_z-of_z w64 c.args.moment c.ranges.moment) at c.create_first.ensures.stands)
