@@ -14,4 +14,3 @@ pub mod DeletePhase
 pub mod Commit
 pub mod Advance
 pub mod Delete
-pub mod Numbers

@@ -1,6 +1,6 @@
 //! Logs of small numbers over a store in memory, for tests.
 ghost use Rattle.std.specs.Prelude.{refl};
-ghost use Rattle.slate_txn_log.specs.Numbers.{encoded, decoded, refusal, round_trip};
+ghost use Rattle.slate_txn_tests.specs.Numbers.{encoded, decoded, refusal, round_trip};
 
 use slate_ids::{
     DbPath, Epochs, FormatName, ObjectCodec, ObjectPath, OutOfMemory, SlateDBError, UpdateRule,
