@@ -35,8 +35,8 @@ pub enum Call {
     },
     /// Reads the latest manifest and commits it with its compactor epoch plus one. Then reads the latest record: where there is none, the
     /// first one is committed, with epoch 0 and no compactions. Then the record is committed with the manifest's epoch, and once more with
-    /// each compaction that is Scheduled Submitted, without a worker, and without those that are over, but for the last one that is
-    /// Completed. Refused with `Exhausted` at the last epoch, and with `Fenced` where the record read has a greater one. From then on the
+    /// each compaction that is Scheduled Submitted, without a worker, and without those that are over, Completed or Failed, but for the last
+    /// of them. Refused with `Exhausted` at the last epoch, and with `Fenced` where the record read has a greater one. From then on the
     /// party holds the trees of the manifest that it committed and the record that it committed last. The reply is that epoch.
     OpenCompactor,
     /// Reads the latest record and then the latest manifest. The party then holds the record read, with its own statuses of compactions that
@@ -69,7 +69,7 @@ pub enum Call {
         checkpoint: CheckpointId,
     },
     /// Reads the latest record and commits it with the party's statuses of compactions that are over, without those that are over, but for the
-    /// last one that is Completed and those that no manifest has yet. The party then holds the record committed. The reply is `done`.
+    /// last of them, Completed or Failed, and those that no manifest has yet. The party then holds the record committed. The reply is `done`.
     WriteRecord,
     /// As `WriteManifest`, and then as `WriteRecord`.
     WriteState {

@@ -187,10 +187,10 @@ impl ManifestStore {
         self.delete_unchecked(alloc, store, manifest_id)
     }
 
-    /// Deletes the version of this number by one list, two gets and a delete. `InvalidDeletion` of this number where it is the
-    /// latest version, where a checkpoint of the latest names it, or where it is above the boundary that was read with the
-    /// latest, of which an absent one counts as 0; `LatestTransactionalObjectVersionMissing` where the log has no version. Then
-    /// nothing is deleted. The read starts again where the version is gone when it is got, or is at or below the boundary:
+    /// Deletes the version of this number: where no read starts again, by one list, two gets and a delete. `InvalidDeletion` of
+    /// this number where it is the latest version, where a checkpoint of the latest names it, or where it is above the boundary
+    /// that was read with the latest, of which an absent one counts as 0; `LatestTransactionalObjectVersionMissing` where the log
+    /// has no version. Then nothing is deleted. The read starts again where the version is gone when it is got, or is at or below the boundary:
     /// so often as there are tries, then `Contended`. A version that isn't there is no refusal. After `StoreFault` the version
     /// is as it was, or is gone.
     pub fn delete_manifest<S: ObjectStore>(

@@ -11,10 +11,10 @@ use slate_store::{ObjectStore, Step};
 use slate_txn_log::{ReadPhase, Sequenced};
 use std::alloc::Global;
 
-/// Deletes the version of this number by one list, two gets and a delete. `InvalidDeletion` of this number where it is the latest
-/// version, where the latest names it, or where it is above the boundary that was read with the latest, of which an absent one counts as
-/// 0; `LatestTransactionalObjectVersionMissing` where the log has no version. Then nothing is deleted. A read starts again where the
-/// version is gone when it is got, or is at or below the boundary: so often as there are tries, then `Contended`.
+/// Deletes the version of this number: where no read starts again, by one list, two gets and a delete. `InvalidDeletion` of this number
+/// where it is the latest version, where the latest names it, or where it is above the boundary that was read with the latest, of which an
+/// absent one counts as 0; `LatestTransactionalObjectVersionMissing` where the log has no version. Then nothing is deleted. A read starts
+/// again where the version is gone when it is got, or is at or below the boundary: so often as there are tries, then `Contended`.
 pub fn delete_checked<T: Drop, C: ObjectCodec<T>, N: VersionNames<T>, S: ObjectStore>(
     alloc: Global,
     sequenced: &Sequenced<T, C>,
