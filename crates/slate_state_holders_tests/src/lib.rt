@@ -5,7 +5,11 @@
 #[cfg(test)]
 mod answers;
 #[cfg(test)]
+mod checkpoint_steps;
+#[cfg(test)]
 mod holder_steps;
+#[cfg(test)]
+mod log_steps;
 #[cfg(test)]
 mod manifest_calls;
 #[cfg(test)]

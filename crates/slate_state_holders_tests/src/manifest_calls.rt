@@ -10,6 +10,7 @@ use slate_state_stores::ManifestStore;
 use slate_store::MemoryStore;
 use slate_txn_log::Right;
 use std::alloc::Global;
+use std::collections::BTreeMap;
 use std::ops::Bound;
 use std::process::Abort;
 
@@ -88,7 +89,8 @@ pub(crate) fn log(rt: &impl Abort) -> ManifestStore {
     ManifestStore::new(db(rt))
 }
 
-fn options(source: Option<u64>) -> CheckpointOptions {
+/// A lifetime of 1000 milliseconds, and this source.
+pub(crate) fn options(source: Option<u64>) -> CheckpointOptions {
     CheckpointOptions {
         lifetime: Some(1000),
         source: match source {
@@ -111,7 +113,25 @@ pub(crate) fn number(reply: Result<VersionedManifest, SlateDBError>) -> Answer {
     }
 }
 
-fn checkpoint(reply: Result<Checkpoint, SlateDBError>) -> Answer {
+/// Whether there are two versions, number 1 and this one.
+pub(crate) fn are_both(read: &BTreeMap<u64, Manifest>, n: u64) -> bool {
+    read.len() == 2 && read.contains_key(&1) && read.contains_key(&n)
+}
+
+fn both(rt: &impl Abort, n: u64, reply: Result<BTreeMap<u64, Manifest>, SlateDBError>) -> Answer {
+    match reply {
+        Ok(read) => {
+            let has_both = are_both(&read, n);
+            drop(read);
+            assert!(rt; has_both);
+            Answer::Number(2)
+        }
+        Err(e) => refused(e),
+    }
+}
+
+/// The checkpoint that was made.
+pub(crate) fn checkpoint(reply: Result<Checkpoint, SlateDBError>) -> Answer {
     match reply {
         Ok(made) => {
             let answer = Answer::Checkpoint(made.manifest_id, made.create_time, made.expire_time);
@@ -137,7 +157,7 @@ fn listed(rt: &impl Abort, alloc: Global, store: &mut MemoryStore, log: &Manifes
 }
 
 /// A manifest whose two checkpoints name version 1.
-fn naming_first(rt: &impl Abort, alloc: Global) -> Manifest {
+pub(crate) fn naming_first(rt: &impl Abort, alloc: Global) -> Manifest {
     let mut manifest = Manifest::initial(alloc, ManifestCore::new(alloc));
     for n in 1..3 {
         let checkpoint = Checkpoint {
@@ -166,15 +186,7 @@ fn referenced(
     let manifest = naming_first(rt, alloc);
     let reply = log.read_referenced_manifests(alloc, store, n, &manifest);
     drop(manifest);
-    match reply {
-        Ok(read) => {
-            let has_both = read.len() == 2 && read.contains_key(&1) && read.contains_key(&n);
-            drop(read);
-            assert!(rt; has_both);
-            Answer::Number(2)
-        }
-        Err(e) => refused(e),
-    }
+    both(rt, n, reply)
 }
 
 fn on_log(

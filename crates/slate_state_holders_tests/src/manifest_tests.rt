@@ -2,6 +2,8 @@
 
 use crate::answers::Answer::{Checkpoint, Done, Fenced, Holds, Nothing, Number, Refused, Taken};
 use crate::answers::{db, empty};
+use crate::checkpoint_steps::CheckpointSteps;
+use crate::log_steps::LogSteps;
 use crate::manifest_calls::Call::{self, Fence, Holder, Log, Machine};
 use crate::manifest_calls::Hold::{self, Create, Load, TryLoad};
 use crate::manifest_calls::OnHolder::{Again, Id, Prolong, Refresh, Remove, Replace, Stale, Write};
@@ -235,7 +237,8 @@ const MACHINES: &[(&str, &[Row])] = &[
         &[
             CREATE,
             (Holder(0, Again), Done),
-            (Machine(Steps::Latest, 3), Number(2)),
+            (Machine(Steps::Log(LogSteps::Latest), 3), Number(2)),
+            (Machine(Steps::Log(LogSteps::TryLatest), 3), Done),
         ],
     ),
     (
@@ -311,8 +314,103 @@ const MACHINES: &[(&str, &[Row])] = &[
             (Machine(Steps::Writer, 2), Holds(2, 1)),
             (Call::Hold(Load), Number(2)),
             (Machine(Steps::Writer, 2), Holds(3, 2)),
-            (Machine(Steps::FencedRefresh(0), 3), Fenced(1, 2)),
+            (
+                Machine(Steps::Fence(0, HolderSteps::Refresh), 3),
+                Fenced(1, 2),
+            ),
             (Fence(0, Id), Holds(3, 1)),
+        ],
+    ),
+    (
+        "machines read, list and delete as the calls do",
+        &[
+            (Machine(Steps::Log(LogSteps::Latest), 1), Refused(3, 0)),
+            (Machine(Steps::Log(LogSteps::TryLatest), 1), Nothing),
+            CREATE,
+            (Holder(0, Again), Done),
+            (Holder(0, Again), Done),
+            (Machine(Steps::Log(LogSteps::Read(9)), 1), Refused(4, 9)),
+            (Machine(Steps::Log(LogSteps::Read(1)), 1), Done),
+            (Machine(Steps::Log(LogSteps::TryRead(9)), 1), Nothing),
+            (Machine(Steps::Log(LogSteps::TryRead(2)), 1), Done),
+            (Machine(Steps::Log(LogSteps::List), 1), Number(3)),
+            (Machine(Steps::Log(LogSteps::Delete(1)), 3), Refused(9, 1)),
+            (Machine(Steps::Log(LogSteps::Advance(1)), 2), Done),
+            (Machine(Steps::Log(LogSteps::Delete(1)), 4), Done),
+            (Machine(Steps::Log(LogSteps::DeleteUnchecked(2)), 1), Done),
+            (Log(List), Number(3)),
+        ],
+    ),
+    (
+        "a machine reads what checkpoints name",
+        &[
+            CREATE,
+            (Machine(Steps::Referenced(2), 1), Number(2)),
+            (Log(DeleteUnchecked(1)), Done),
+            (Machine(Steps::Referenced(2), 1), Refused(4, 1)),
+        ],
+    ),
+    (
+        "machines of the checkpoint calls",
+        &[
+            CREATE,
+            (
+                Machine(Steps::Checkpoint(0, CheckpointSteps::Write(1)), 2),
+                Checkpoint(2, 5, Some(1005)),
+            ),
+            (
+                Machine(Steps::Checkpoint(0, CheckpointSteps::WriteOver(1)), 0),
+                Checkpoint(2, 5, Some(1005)),
+            ),
+            (
+                Machine(Steps::Checkpoint(0, CheckpointSteps::Prolong(1, 3000)), 2),
+                Checkpoint(2, 5, Some(3005)),
+            ),
+            (
+                Machine(Steps::Checkpoint(0, CheckpointSteps::Replace(1, 2)), 2),
+                Checkpoint(4, 5, Some(1005)),
+            ),
+            (
+                Machine(Steps::Checkpoint(0, CheckpointSteps::Remove(2)), 2),
+                Done,
+            ),
+            (Holder(0, Id), Number(5)),
+        ],
+    ),
+    (
+        "machines of the checkpoint calls of a fenced holder",
+        &[
+            CREATE,
+            (Machine(Steps::Writer, 2), Holds(2, 1)),
+            (
+                Machine(Steps::FencedCheckpoint(0, CheckpointSteps::Write(1)), 2),
+                Checkpoint(3, 5, Some(1005)),
+            ),
+            (
+                Machine(Steps::FencedCheckpoint(0, CheckpointSteps::WriteOver(1)), 0),
+                Checkpoint(3, 5, Some(1005)),
+            ),
+            (
+                Machine(
+                    Steps::FencedCheckpoint(0, CheckpointSteps::Prolong(1, 3000)),
+                    2,
+                ),
+                Checkpoint(3, 5, Some(3005)),
+            ),
+            (
+                Machine(
+                    Steps::FencedCheckpoint(0, CheckpointSteps::Replace(1, 2)),
+                    2,
+                ),
+                Checkpoint(5, 5, Some(1005)),
+            ),
+            (
+                Machine(Steps::FencedCheckpoint(0, CheckpointSteps::Remove(2)), 2),
+                Done,
+            ),
+            (Machine(Steps::Fence(0, HolderSteps::Again), 2), Done),
+            (Machine(Steps::Fence(0, HolderSteps::NoneMade), 0), Done),
+            (Fence(0, Id), Holds(7, 1)),
         ],
     ),
 ];

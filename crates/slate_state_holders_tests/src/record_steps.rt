@@ -1,11 +1,13 @@
 //! The machines of calls on records, as rows of tables.
 
-use crate::answers::{Answer, db, done, end, found, goes_on};
+use crate::answers::{Answer, db};
 use crate::holder_steps;
+use crate::log_steps::{self, LogSteps};
 use crate::record_calls::{Held, keep, keep_fenced, keep_found, log, number, number_found};
 use slate_ids::NumberRange;
 use slate_model::Compactions;
 use slate_state_holders::{FenceableCompactions, StoredCompactions, UpdateCompactionsMachine};
+use slate_state_stores::CompactionsStore;
 use slate_store::MemoryStore;
 use slate_txn_log::Right;
 use std::alloc::Global;
@@ -30,20 +32,6 @@ pub(crate) enum Steps {
     Fence(usize, HolderSteps),
 }
 
-/// A call on the log.
-#[derive(Clone, Copy, Debug)]
-pub(crate) enum LogSteps {
-    Latest,
-    TryLatest,
-    Read(u64),
-    TryRead(u64),
-    /// How many records there are.
-    List,
-    DeleteUnchecked(u64),
-    Advance(u64),
-    Delete(u64),
-}
-
 /// A call of a holder.
 #[derive(Clone, Copy, Debug)]
 pub(crate) enum HolderSteps {
@@ -58,125 +46,48 @@ pub(crate) enum HolderSteps {
     NoneMade,
 }
 
-fn latest(rt: &impl Abort, alloc: Global, store: &mut MemoryStore, steps: u8) -> Answer {
-    let log = log(rt);
-    let mut machine = log.start_read_latest_compactions();
-    for _ in 1..steps {
-        assert!(rt; machine.due());
-        assert!(rt; goes_on(machine.next(alloc, &log, store, 0)));
-    }
-    assert!(rt; machine.due());
-    let step = machine.next(alloc, &log, store, 0);
-    drop(machine);
-    drop(log);
-    number(end(rt, step))
-}
-
-fn try_latest(rt: &impl Abort, alloc: Global, store: &mut MemoryStore, steps: u8) -> Answer {
-    let log = log(rt);
-    let mut machine = log.start_try_read_latest_compactions();
-    for _ in 1..steps {
-        assert!(rt; machine.due());
-        assert!(rt; goes_on(machine.next(alloc, &log, store, 0)));
-    }
-    assert!(rt; machine.due());
-    let step = machine.next(alloc, &log, store, 0);
-    drop(machine);
-    drop(log);
-    number_found(end(rt, step))
-}
-
-fn advance(rt: &impl Abort, alloc: Global, store: &mut MemoryStore, n: u64, steps: u8) -> Answer {
-    let log = log(rt);
-    let mut machine = log.start_advance_boundary(n);
-    for _ in 1..steps {
-        assert!(rt; machine.due());
-        assert!(rt; goes_on(machine.next(alloc, &log, store, 8)));
-    }
-    assert!(rt; machine.due());
-    let step = machine.next(alloc, &log, store, 8);
-    drop(machine);
-    drop(log);
-    done(end(rt, step))
-}
-
-fn delete(rt: &impl Abort, alloc: Global, store: &mut MemoryStore, n: u64, steps: u8) -> Answer {
-    let log = log(rt);
-    let mut machine = log.start_delete_compactions(n);
-    for _ in 1..steps {
-        assert!(rt; machine.due());
-        assert!(rt; goes_on(machine.next(alloc, &log, store, 0)));
-    }
-    assert!(rt; machine.due());
-    let step = machine.next(alloc, &log, store, 0);
-    drop(machine);
-    drop(log);
-    done(end(rt, step))
-}
-
-fn try_read(rt: &impl Abort, alloc: Global, store: &mut MemoryStore, n: u64) -> Answer {
-    let log = log(rt);
-    let mut machine = log.start_try_read_compactions(n);
-    assert!(rt; machine.due());
-    let step = machine.next(alloc, &log, store, 0);
-    drop(machine);
-    drop(log);
-    found(end(rt, step))
-}
-
-fn read(rt: &impl Abort, alloc: Global, store: &mut MemoryStore, n: u64) -> Answer {
-    let log = log(rt);
-    let mut machine = log.start_read_compactions(n);
-    assert!(rt; machine.due());
-    let step = machine.next(alloc, &log, store, 0);
-    drop(machine);
-    drop(log);
-    done(end(rt, step))
-}
-
-fn list(rt: &impl Abort, alloc: Global, store: &mut MemoryStore) -> Answer {
-    let log = log(rt);
-    let all = NumberRange {
-        start: Bound::Unbounded,
-        end: Bound::Unbounded,
-    };
-    let mut machine = log.start_list_compactions(all);
-    assert!(rt; machine.due());
-    let step = machine.next(alloc, &log, store, 0);
-    drop(machine);
-    drop(log);
-    let versions = end(rt, step).expect(rt, "memory");
-    let count = versions.as_slice().len() as u64;
-    drop(versions);
-    Answer::Number(count)
-}
-
-fn delete_unchecked(rt: &impl Abort, alloc: Global, store: &mut MemoryStore, n: u64) -> Answer {
-    let log = log(rt);
-    let mut machine = log.start_delete_compactions_unchecked(n);
-    assert!(rt; machine.due());
-    let step = machine.next(alloc, &log, store, 0);
-    drop(machine);
-    drop(log);
-    done(end(rt, step))
-}
-
 fn on_log(
     rt: &impl Abort,
     alloc: Global,
     store: &mut MemoryStore,
+    log: &CompactionsStore,
     call: LogSteps,
     steps: u8,
 ) -> Answer {
     match call {
-        LogSteps::Latest => latest(rt, alloc, store, steps),
-        LogSteps::TryLatest => try_latest(rt, alloc, store, steps),
-        LogSteps::Read(n) => read(rt, alloc, store, n),
-        LogSteps::TryRead(n) => try_read(rt, alloc, store, n),
-        LogSteps::List => list(rt, alloc, store),
-        LogSteps::DeleteUnchecked(n) => delete_unchecked(rt, alloc, store, n),
-        LogSteps::Advance(n) => advance(rt, alloc, store, n, steps),
-        LogSteps::Delete(n) => delete(rt, alloc, store, n, steps),
+        LogSteps::Latest => {
+            let machine = log.start_read_latest_compactions();
+            number(log_steps::latest(rt, alloc, log, store, machine, steps))
+        }
+        LogSteps::TryLatest => {
+            let machine = log.start_try_read_latest_compactions();
+            number_found(log_steps::try_latest(rt, alloc, log, store, machine, steps))
+        }
+        LogSteps::Read(n) => {
+            log_steps::read(rt, alloc, log, store, log.start_read_compactions(n))
+        }
+        LogSteps::TryRead(n) => {
+            log_steps::try_read(rt, alloc, log, store, log.start_try_read_compactions(n))
+        }
+        LogSteps::List => {
+            let all = NumberRange {
+                start: Bound::Unbounded,
+                end: Bound::Unbounded,
+            };
+            log_steps::list(rt, alloc, log, store, log.start_list_compactions(all))
+        }
+        LogSteps::DeleteUnchecked(n) => {
+            let machine = log.start_delete_compactions_unchecked(n);
+            log_steps::delete_unchecked(rt, alloc, log, store, machine)
+        }
+        LogSteps::Advance(n) => {
+            let machine = log.start_advance_boundary(n);
+            log_steps::advance(rt, alloc, log, store, machine, steps)
+        }
+        LogSteps::Delete(n) => {
+            let machine = log.start_delete_compactions(n);
+            log_steps::delete(rt, alloc, log, store, machine, steps)
+        }
     }
 }
 
@@ -247,7 +158,12 @@ pub(crate) fn by_steps(
     steps: u8,
 ) -> Answer {
     match call {
-        Steps::Log(call) => on_log(rt, alloc, &mut held.store, call, steps),
+        Steps::Log(call) => {
+            let log = log(rt);
+            let answer = on_log(rt, alloc, &mut held.store, &log, call, steps);
+            drop(log);
+            answer
+        }
         Steps::Create(epoch) => {
             let machine = StoredCompactions::start_create(alloc, db(rt), epoch).expect(
                 rt, "memory",

@@ -1,6 +1,7 @@
 //! The log of records, its holders and fences, and the machines of their calls: tables of calls and answers.
 
 use crate::answers::Answer::{Done, Fenced, Holds, Nothing, Number, Refused, Taken};
+use crate::log_steps::LogSteps;
 use crate::record_calls::Call::{Fence, Hold, Holder, Log, Machine};
 use crate::record_calls::Hold::{Create, Init, InitWith, Load, TryLoad};
 use crate::record_calls::OnHolder::{Again, Count, Epoch, Id, NoneMade, Refresh, Same};
@@ -8,7 +9,7 @@ use crate::record_calls::OnLog::{
     Advance, Delete, DeleteUnchecked, Latest, List, Read, TryLatest, TryRead,
 };
 use crate::record_calls::{Row, play};
-use crate::record_steps::{HolderSteps, LogSteps, Steps};
+use crate::record_steps::{HolderSteps, Steps};
 use std::ops::Bound::{Excluded, Included, Unbounded};
 
 const CREATE: Row = (Hold(Create(0)), Holds(1, 0));
