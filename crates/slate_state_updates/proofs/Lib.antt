@@ -4,6 +4,7 @@ mod TableSets
 mod Nested
 pub mod Lawful
 pub mod PrefixesApart
+mod StandingApart
 pub mod Unchanged
 mod Placings
 mod Freshening

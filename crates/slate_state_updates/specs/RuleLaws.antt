@@ -1,10 +1,12 @@
 -- What the rules on new versions of a manifest say, in words of what stands in the two versions.
-use Rattle.std.specs.Prelude.{◌≡◌, ◌⊎◌, ℕ, ◌+◌, ◌≤◌, Bool, true, false, List, Option, Some, None}
+use Rattle.std.specs.Prelude.{◌≡◌, ◌⊎◌, ℕ, ◌+◌, ◌≤◌, Bool, true, false, List, ◌∷◌, ◌++◌, Option, Some, None}
+use Rattle.slate_ids.specs.Keys.{key_lt, begins_with}
 use Rattle.slate_ids.specs.declared.error.SlateDBError.{SlateDBError}
 use Rattle.slate_ids.specs.declared.error.SlateDBError.TheVariants.{UpdateRefused, InvalidClockTick, InvalidSegmentPrefix}
 use Rattle.slate_model_tables.specs.declared.ss_table_id.SsTableId.{SsTableId}
 use Rattle.slate_model_tables.specs.declared.ss_table_id.SsTableId.TheVariants.{Compacted}
 use Rattle.slate_model.specs.declared.manifest.Manifest.{Manifest}
+use Rattle.slate_model.specs.Segments.{Prefixed}
 use Rattle.slate_state_updates.specs.Checkpoints.{is_named}
 use Rattle.slate_state_updates.specs.FlushedTables.{flushed_tables, least_tick}
 use Rattle.slate_state_updates.specs.TableSets.{is_among}
@@ -27,6 +29,16 @@ StartAt moment old new = (id : ℕ × ℕ) → is_among new (Compacted id) ≡ t
 -- each flushed table that isn't one of the old manifest's is from its floor and its watermark on
 abbrev pub AreTimely : Manifest → Manifest → Type 0
 AreTimely old new = StartAt (least_tick old) (flushed_tables old.core) (flushed_tables new.core)
+
+-- the prefix of an earlier segment stands below that of a later one, and neither begins with the other
+pub record StandApart (earlier later : Prefixed) : Type 0 where
+  pub below : key_lt earlier.prefix later.prefix ≡ true
+  pub extends_not : begins_with earlier.prefix later.prefix ≡ false
+  pub is_no_part : begins_with later.prefix earlier.prefix ≡ false
+
+-- any two segments, not only neighbours, stand apart: the prefixes ascend strictly, and no two nest
+abbrev pub AllStandApart : List Prefixed → Type 0
+AllStandApart segments = (front middle back : List Prefixed) (earlier later : Prefixed) → segments ≡ front ++ earlier ∷ (middle ++ later ∷ back) → StandApart earlier later
 
 -- whether a refusal is one of the rules
 abbrev pub is_of_rules : SlateDBError → Bool

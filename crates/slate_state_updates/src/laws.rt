@@ -8,7 +8,7 @@ ghost use Rattle.slate_model.specs.Trees.{trees_of};
 ghost use Rattle.slate_state_updates.specs.ExternalEntries.{entries_kept};
 ghost use Rattle.slate_state_updates.specs.FlushedTables.{tick_refusal};
 ghost use Rattle.slate_state_updates.specs.Prefixes.{prefix_refusal};
-ghost use Rattle.slate_state_updates.specs.RuleLaws.{NothingFalls, NamesKnown, AreTimely, IsOfRules};
+ghost use Rattle.slate_state_updates.specs.RuleLaws.{NothingFalls, NamesKnown, AreTimely, AllStandApart, IsOfRules};
 ghost use Rattle.slate_state_updates.specs.Rules.{manifest_refusal};
 ghost use Rattle.slate_state_updates.specs.RunTables.{runs_known};
 
@@ -37,6 +37,15 @@ pub fn cutoff_is_timely()
 pub fn neighbours_tell()
     ensures { (segments : List Prefixed) → IsAscending segments
         → prefix_refusal segments ≡ None ↔ are_apart segments ≡ true }
+{}
+
+/// Of segments that ascend, the rule on prefixes refuses none exactly where any two of them stand apart: the prefix of the earlier is below that
+/// of the later, and neither begins with the other. So do the segments of a manifest that may follow another.
+pub fn prefixes_stand_apart()
+    ensures exactly { (segments : List Prefixed) → IsAscending segments
+        → prefix_refusal segments ≡ None ↔ AllStandApart segments }
+    ensures lawful { (n : ℕ) (old new : AnyManifest) (right : AnyRight) → IsAscending new.core.segments
+        → manifest_refusal n old new right ≡ None → AllStandApart new.core.segments }
 {}
 
 /// A new manifest with the trees and the entries of the old one breaks no rule on tables, under any right.

@@ -24,7 +24,8 @@ pub use epochs::{ManifestEpochs, raise_epoch};
 pub use flush_batch::{FlushBatch, FlushedTable, flush_tables};
 pub use flushed_tables::l0_ulid_cutoff;
 pub use laws::{
-    cutoff_is_timely, lawful_updates_keep, neighbours_tell, rules_refuse_so, unchanged_trees_pass,
+    cutoff_is_timely, lawful_updates_keep, neighbours_tell, prefixes_stand_apart, rules_refuse_so,
+    unchanged_trees_pass,
 };
 pub use lookups::{find_checkpoint, is_named};
 pub use manifest_change::{ManifestChange, floors_rise};
