@@ -20,14 +20,17 @@ use Rattle.slate_cluster_protocol.specs.World.{World, HasDb}
 use Rattle.slate_cluster_laws.proofs.AfterEvents.{none_come, after_inv, course_inv, course_collected}
 use Rattle.slate_cluster_laws.proofs.GoingOn.{run_world, run_split}
 use Rattle.slate_cluster_laws.proofs.Epochs.{chain_fenced, chain_record_fenced}
-use Rattle.slate_cluster_laws.proofs.Exact.{exact_passes}
+use Rattle.slate_cluster_laws.proofs.ExactByRule.{exact_passes}
+use Rattle.slate_cluster_laws.proofs.Known.{known_as_told}
+use Rattle.slate_cluster_laws.proofs.Links.{decodes}
+use Rattle.slate_cluster_laws.proofs.Manifests.{log_laws}
 use Rattle.slate_cluster_laws.proofs.Rising.{never_falls, records_never_fall, name_known}
 use Rattle.slate_cluster_laws.proofs.Removals.{good_run, one_entry, removals_counted}
 use Rattle.slate_cluster_laws.proofs.Rows.{rows_run}
 use Rattle.slate_cluster_laws.proofs.Runs.{Inv}
 use Rattle.slate_cluster_laws.proofs.Safety.{is_safe, run_rises}
 use Rattle.slate_cluster_laws.proofs.Trails.{run_tells}
-use Rattle.slate_cluster_laws.proofs.Undisturbed.{passes_alone}
+use Rattle.slate_cluster_laws.proofs.Undisturbed.{manifests_begun, passes_alone}
 
 -- a boundary that isn't 0 is below the greatest number; so each is, where there is a number
 below_some : (bound most : ℕ) → (0 < bound → bound < most) → 0 < most → bound < most
@@ -39,6 +42,7 @@ log_lawful w chains i k db has =
     let log = i.logs k db has in
     record {
       chain = log.chain;
+      values = λ n l at. decodes (log_of k) (log_laws k) n l (chains k db) log.chain at;
       greatest = i.told k db;
       bound = log.bound;
       read = log.read;
@@ -64,12 +68,14 @@ module _ (keep : Keep) (specs : List DbSpec) (accepted : IsAccepted specs) (even
       record {
         entries = one_entry specs events good;
         rows = rows;
+        known = known_as_told specs events accepted good;
         passes = exact_passes events nobody (opening_world specs).store;
         store = tells.store ∙ ap (λ (xs : List Entry). store_of xs (opening_world specs).store) (sym rows);
         told = λ k db. ap (λ (xs : List Entry). told xs (opening_world specs).store (numbers_of (opening_chains specs)) k db) rows ∙ tells.told k db;
         deleted = removals_counted specs events good;
         safe = run_safe;
         each_log = λ k db has. log_lawful v.world (chains_at_end specs events) (course_inv specs events accepted good) k db has;
+        begun = manifests_begun specs events accepted good;
         fenced = λ db has. chain_fenced (chains_at_end specs events logs.Manifest db) ((course_inv specs events accepted good).logs logs.Manifest db has).chain;
         records_fenced = λ db has. chain_record_fenced (chains_at_end specs events logs.Compactions db) ((course_inv specs events accepted good).logs logs.Compactions db has).chain;
         records_rising = λ db has. records_never_fall keep (chains_at_end specs events logs.Compactions db) ((course_inv specs events accepted good).logs logs.Compactions db has).chain;

@@ -4,7 +4,6 @@ use Rattle.std.proofs.Common.{◌≡◌, ℕ, Bool, false, List, [], ◌∷◌, 
 use Rattle.std.specs.Prelude.{if◌then◌else◌, option_to_list}
 use Rattle.slate_ids.specs.declared.gc_message.GcMessage.{GcMessage}
 use Rattle.slate_store.specs.Machines.{Stay, End}
-use Rattle.slate_store.specs.Store.{Store}
 use Rattle.slate_store.specs.declared.made.Made.{Made}
 use Rattle.slate_store.specs.declared.object.ObjectMetadata.{ObjectMetadata}
 use Rattle.slate_store.specs.declared.store_answer.StoreAnswer.{StoreAnswer}
@@ -12,9 +11,6 @@ use Rattle.slate_store.specs.declared.store_call.StoreCall.{StoreCall}
 use Rattle.slate_store.specs.declared.store_call.StoreCall.TheVariants.{Delete}
 use Rattle.slate_script_events.specs.declared.call.Call.{Call}
 use Rattle.slate_script_events.specs.declared.call.Call.TheVariants as calls
-use Rattle.slate_script_events.specs.declared.entry.Entry.{Entry}
-use Rattle.slate_script_events.specs.declared.entry.Entry.TheVariants.{Called}
-use Rattle.slate_script_events.specs.declared.event.Event.{Event}
 use Rattle.slate_script_events.specs.declared.filter_word.FilterWord.{FilterWord}
 use Rattle.slate_script_events.specs.declared.reply.Reply.{Reply}
 use Rattle.slate_script_events.specs.declared.reply.Reply.TheVariants.{Refused}
@@ -42,9 +38,8 @@ use Rattle.slate_gc_passes.proofs.Exactly.{exactly}
 use Rattle.slate_state_referenced.specs.Referenced.{referenced_asks}
 use Rattle.slate_state_referenced.specs.declared.referenced_phase.ReferencedPhase.{ReferencedPhase}
 use Rattle.slate_state_referenced.specs.declared.referenced_phase.ReferencedPhase.TheVariants as fetching
-use Rattle.slate_cluster_protocol.specs.ByRows.{Doing, Answers, Told, AllTold, entry_by, party_in, all_told_after, entry_store}
 use Rattle.slate_cluster_protocol.specs.Calls.{pass_settings, Go, Finish}
-use Rattle.slate_cluster_protocol.specs.Passes.{calls_made, pass_answers, is_delete, deletes_in, deletes_made, deletes_of, calls_of, with_deletes, picked_so_far, reply_of, IsExact, ExactDoing, ExactEntry, ExactPasses}
+use Rattle.slate_cluster_protocol.specs.Passes.{calls_made, pass_answers, is_delete, deletes_in, deletes_made, deletes_of, calls_of, with_deletes, picked_so_far, reply_of, IsExact}
 use Rattle.slate_cluster_protocol.specs.Rows.{Answered, Standing, answered, after_answers, pass_on}
 use Rattle.slate_cluster_protocol.specs.Works.{pass_ways}
 use Rattle.slate_cluster_protocol.specs.declared.party.Facts.{Facts}
@@ -210,20 +205,3 @@ module _ (facts : Facts) (pass : GcMessage) (min_age : ℕ) (dry_run : Bool) (wo
         whole = λ counts h. at_reply answers e.left e.whole counts (stands_after (pass_ways word) settings (Stay gc_start) answers) refl
             (sym (ap (λ (st : Standing). st.next) (stands facts call facts.db settings word answers (Stay gc_start))) ∙ h);
       }
-
--- ---- in a trail
-
-exact_doing : (facts : Facts) (doing : Doing) (a : Answered) → ExactDoing facts doing a
-exact_doing facts (Answers (calls.Pass pass min_age dry_run filter) answers) a = exact_pass facts pass min_age dry_run filter (answers ++ a ∷ [])
-exact_doing facts _ a = tt
-
-exact_entry : (told : Option Told) (x : Entry) → ExactEntry told x
-exact_entry (Some told) (Called n asked moment mark answer reply) = exact_doing told.facts told.doing (answer, moment)
-exact_entry _ _ = tt
-
--- at each entry of the trail that the rows give
-pub exact_passes : (es : List Event) (all : AllTold) (s : Store) → ExactPasses es all s
-exact_passes [] all s = tt
-exact_passes (e ∷ es) all s =
-    let x = entry_by e (all (party_in e)) s in
-    (exact_entry (all (party_in e)) x, exact_passes es (all_told_after e x all) (entry_store x s))

@@ -32,6 +32,7 @@ mod OpeningTables
 mod Opening
 mod Exact
 mod ManifestPicks
+mod ExactByRule
 mod Safety
 mod Rising
 mod EveryRun
@@ -41,6 +42,8 @@ mod Ordered
 mod Left
 mod Alone
 mod Undisturbed
+mod StepsTold
+mod Known
 mod Holding
 mod Removals
 mod Zeros

@@ -65,7 +65,7 @@ any_either p q (x ∷ xs) = shuffle (p x) (list_any p xs) (q x) (list_any q xs) 
 -- ---- one key more
 
 module _ {K X : Type 0} (cmp : K → K → Ordering) (order : IsKeyOrder cmp) (q : K) where
-  abbrev has : List (K × X) → Bool
+  abbrev pub has : List (K × X) → Bool
   has es = is_some (lookup (is_at (cmp q)) es)
 
   -- where a key stays, or comes, is one more that there is
@@ -76,7 +76,7 @@ module _ {K X : Type 0} (cmp : K → K → Ordering) (order : IsKeyOrder cmp) (q
       test true is = here (order.one q k is) ∙ sym (or_true (has es))
       test false is = away (λ (same : q ≡ k). absurd (cc (is, subst (λ j. is_at (cmp q) j ≡ true) same (order.itself q)))) ∙ sym (or_false (has es))
 
-  insert_has : (k : K) (v : X) (es : List (K × X)) → has (insert_entry cmp es k v) ≡ (has es || is_at (cmp q) k)
+  pub insert_has : (k : K) (v : X) (es : List (K × X)) → has (insert_entry cmp es k v) ≡ (has es || is_at (cmp q) k)
   insert_has k v es = one_more k es (insert_entry cmp es k v)
       (λ (same : q ≡ k). subst (λ j. has (insert_entry cmp es j v) ≡ true) same (ap is_some (insert_here cmp order q v es)))
       (λ (ne : q ≢ k). ap is_some (insert_else cmp order k q v es ne))
@@ -120,7 +120,7 @@ ulid_at a b = both (nat_cmp a.0 b.0) (nat_cmp a.1 b.1) ∙ (ap (λ (x : Bool). x
 abbrev pair : ℕ → ℕ → ℕ × ℕ
 pair m t = (m, t)
 
-ulid_order : IsKeyOrder ulid_cmp
+pub ulid_order : IsKeyOrder ulid_cmp
 ulid_order = record { itself = λ a. ulid_at a a ∙ itself a.0 a.1; one = λ a b h. one a.0 a.1 b.0 b.1 (sym (ulid_at a b) ∙ h) }
   where
     itself : (m t : ℕ) → ((m == m) && (t == t)) ≡ true

@@ -13,7 +13,7 @@ use Rattle.slate_script_events.specs.declared.reply.Reply.{Reply}
 use Rattle.slate_script_events.specs.declared.event.Event.{Event}
 use Rattle.slate_script_events.specs.declared.event.Event.TheVariants.{Open, Start, Step, Stop}
 use Rattle.slate_script_events.specs.declared.party_kind.PartyKind.{PartyKind}
-use Rattle.slate_cluster_protocol.specs.ByRows.{Doing, Rests, Answers, Stays, Told, AllTold, reply_in, asked_entry, step_entry, start_entry, stop_entry, entry_by, told_call, told_answer, told_after, party_in, all_told_after, entry_store, trail_by}
+use Rattle.slate_cluster_protocol.specs.ByRows.{Doing, Rests, Answers, Stays, Told, AllTold, reply_in, asked_entry, step_entry, start_entry, stop_entry, entry_by, told_call, told_answer, facts_then, told_after, party_in, all_told_after, entry_store, trail_by}
 use Rattle.slate_cluster_protocol.specs.Calls.{Next, Go, Finish}
 use Rattle.slate_cluster_protocol.specs.Rows.{Answered, Row, Asks, Standing, begin, moved, answered, after_answers, stands_after, row_of, row}
 use Rattle.slate_cluster_protocol.specs.Runs.{Course, Ran, going_on, run}
@@ -40,18 +40,30 @@ row_reply (Finish reply) = refl
 
 -- ---- what the trail says of a party is where it stands
 
--- with the facts that the trail tells: a call under way stands after its answers where its party is, and a party at rest has
--- these facts
+-- with the facts that the trail tells: a call under way stands after its answers where its party is, and a party at rest, or one that was
+-- stopped, has these facts
 abbrev pub CallIs : Facts → Doing → Facts → State → Type 0
 CallIs known Rests facts Resting = known ≡ facts
 CallIs known (Answers under answers) facts (Busy task) = (under ≡ task.call) × (stands_after known task.call answers ≡ record { facts = facts; next = Go task.work })
-CallIs known Stays facts Halted = Unit {0}
+CallIs known Stays facts Halted = known ≡ facts
 CallIs known Rests facts (Busy task) = ⊥
 CallIs known Rests facts Halted = ⊥
 CallIs known (Answers under answers) facts Resting = ⊥
 CallIs known (Answers under answers) facts Halted = ⊥
 CallIs known Stays facts Resting = ⊥
 CallIs known Stays facts (Busy task) = ⊥
+
+-- so the facts that are told are those of the party
+pub facts_match : (known : Facts) (doing : Doing) (facts : Facts) (state : State) → CallIs known doing facts state → facts_then known doing ≡ facts
+facts_match known Rests facts Resting m = m
+facts_match known (Answers under answers) facts (Busy task) m = ap (λ (call : Call). (stands_after known call answers).facts) m.0 ∙ ap (λ (st : Standing). st.facts) m.1
+facts_match known Stays facts Halted m = m
+facts_match known Rests facts (Busy task) m = absurd m
+facts_match known Rests facts Halted m = absurd m
+facts_match known (Answers under answers) facts Resting m = absurd m
+facts_match known (Answers under answers) facts Halted m = absurd m
+facts_match known Stays facts Resting m = absurd m
+facts_match known Stays facts (Busy task) m = absurd m
 
 abbrev pub Matches : Option Told → Option Party → Type 0
 Matches None None = Unit {0}
@@ -125,19 +137,19 @@ module _ (n : ℕ) (w : World) (p : Party) (at : party_of n w.parties ≡ Some p
   start_brings call state st m = start_busy call state st s.doing refl m (subst (CallIs s.facts s.doing p.facts) (sym st) m)
 
   -- a party that is stopped
-  stop_now : (doing : Doing) → s.doing ≡ doing → stop_entry n doing ≡ Stopped n → Brought (Stop n) (Some s) w (record { entry = Stopped n; world = record w { parties = with_party n (halted p.facts) w.parties } })
-  stop_now doing is stops = record {
+  stop_now : (doing : Doing) → s.doing ≡ doing → stop_entry n doing ≡ Stopped n → CallIs s.facts s.doing p.facts p.state → Brought (Stop n) (Some s) w (record { entry = Stopped n; world = record w { parties = with_party n (halted p.facts) w.parties } })
+  stop_now doing is stops k = record {
     entry = sym (ap (λ (x : Doing). stop_entry n x) is ∙ stops);
     store = refl;
-    own = subst (Matches (Some (record { facts = s.facts; doing = Stays }))) (sym (here (halted p.facts))) tt;
+    own = subst (Matches (Some (record { facts = facts_then s.facts s.doing; doing = Stays }))) (sym (here (halted p.facts))) (facts_match s.facts s.doing p.facts p.state k);
     others = λ k ne. away (halted p.facts) k ne;
   }
 
   stop_brings : (state : State) → p.state ≡ state → (doing : Doing) → s.doing ≡ doing → CallIs s.facts doing p.facts state → CallIs s.facts s.doing p.facts p.state → Brought (Stop n) (Some s) w (stop_state w n p.facts state)
-  stop_brings Resting st Rests is m k = stop_now Rests is refl
+  stop_brings Resting st Rests is m k = stop_now Rests is refl k
   stop_brings Resting st (Answers c answers) is m k = absurd m
   stop_brings Resting st Stays is m k = absurd m
-  stop_brings (Busy task) st (Answers c answers) is m k = stop_now (Answers c answers) is refl
+  stop_brings (Busy task) st (Answers c answers) is m k = stop_now (Answers c answers) is refl k
   stop_brings (Busy task) st Rests is m k = absurd m
   stop_brings (Busy task) st Stays is m k = absurd m
   stop_brings Halted st Stays is m k = as_it_was (Stop n) refl (ap (λ (x : Doing). stop_entry n x) is) refl k

@@ -41,8 +41,8 @@ use Rattle.slate_cluster_protocol.specs.Alone.{all_told, is_answer, is_quiet, re
 use Rattle.slate_cluster_protocol.specs.Alone.Leaves.{Collects, Exhausts}
 use Rattle.slate_cluster_protocol.specs.ByRows.{Doing, Rests, Answers, Stays, Told, AllTold, nobody, reply_in, asked_entry, step_entry, start_entry, stop_entry, entry_by, told_call, told_after, party_in, all_told_after, entry_store, trail_by}
 use Rattle.slate_cluster_protocol.specs.Calls.{pass_settings}
-use Rattle.slate_cluster_protocol.specs.Chains.{Link, link_at, link_bytes, bytes_of}
-use Rattle.slate_cluster_protocol.specs.Lawful.{IsAccepted, AreGood, course_after}
+use Rattle.slate_cluster_protocol.specs.Chains.{Link, link_at, link_bytes, bytes_of, top}
+use Rattle.slate_cluster_protocol.specs.Lawful.{IsAccepted, AreGood, chains_at_end, course_after}
 use Rattle.slate_cluster_protocol.specs.Logs.{Author, Chain, Chains, manifests, chains_after, chains_of, opening_chains, world_after}
 use Rattle.slate_cluster_protocol.specs.Passes.{pass_answers}
 use Rattle.slate_cluster_protocol.specs.Rows.{Answered, Row, Asks, Replies, Standing, begin, answered, stands_after, row_of, row}
@@ -291,7 +291,9 @@ module _ (facts : Facts) (call : Call) (db : List ℕ) (named : is_db_path db �
           → all_told_after e d.entry all n ≡ told_after e d.entry (Some (in_call answers)) → EventIs e all d.entry w.store phase answers
       own_event (Open k kind d') h here is told = absurd (no_open k kind d' (in_call answers) d here h)
       own_event (Start k c) h here is told = Passes (subst MakesNone (sym is) tt) (told ∙ ap (λ (x : Entry). told_after (Start k c) x (Some (in_call answers))) is)
-      own_event (Stop k) h here is told = Halts (subst MakesNone (sym is) tt) (told ∙ ap (λ (x : Entry). told_after (Stop k) x (Some (in_call answers))) is)
+      own_event (Stop k) h here is told =
+          Halts (subst MakesNone (sym is) tt)
+          (told ∙ (ap (λ (x : Entry). told_after (Stop k) x (Some (in_call answers))) is ∙ ap (λ (st : Standing). Some (record { facts = st.facts; doing = Stays })) stands))
       own_event (Step k moment mark) h here is told =
           let o = outcome phase moment mark w.store in
           let a : Answered = (o.answer, moment) in
@@ -475,7 +477,7 @@ module _ (facts : Facts) (call : Call) (db : List ℕ) (named : is_db_path db �
 -- ---- from the start of a run
 
 -- what is said of the parties after events is where they stand
-told_run : (es : List Event) (place : ℕ) (c v : Course) (all : AllTold) → AllMatch all c.world → run es place c ≡ ended v → AllMatch (all_told es all c.world.store) v.world
+pub told_run : (es : List Event) (place : ℕ) (c v : Course) (all : AllTold) → AllMatch all c.world → run es place c ≡ ended v → AllMatch (all_told es all c.world.store) v.world
 told_run [] place c v all m h = subst (λ (x : Course). AllMatch all x.world) (ap (λ (r : Ran). r.course) h) m
 told_run (e ∷ es) place c v all m h =
     went (happens c.world e) refl h (λ d b k. told_run es (place + 1) (going_on c d) v (all_told_after e d.entry all) (all_after e all c.world d m b) k)
@@ -498,6 +500,19 @@ run_good db (e ∷ es) w chains g = went (happens w e) refl (λ d is. run_good d
         → IsGood db (elim o as (λ _. World) [ None ↦ w | Some d ↦ world_after es d.world ]) (elim o as (λ _. Chains) [ None ↦ chains | Some d ↦ chains_of es d.world (chains_after w e chains) ])
     went None is f = g
     went (Some d) is f = f d is
+
+-- as a run begins
+begins_good : (specs : List DbSpec) → IsAccepted specs → (db : List ℕ) → HasDb (opening_world specs) db → IsGood db (opening_world specs) (opening_chains specs)
+begins_good specs accepted db has = record { inv = opening_inv specs accepted; ordered = all_ordered specs []; has = has; source = source_begins specs accepted db has }
+
+-- there is a manifest of each database
+pub manifests_begun : (specs : List DbSpec) (events : List Event) → IsAccepted specs → AreGood specs events → (db : List ℕ) → HasDb (course_after specs events).world db → 0 < top (chains_at_end specs events logs.Manifest db)
+manifests_begun specs events accepted good db has =
+    let i0 = opening_inv specs accepted in
+    let c = course_after specs events in
+    let has0 = sym (run_same events 0 (opening specs) c (opening_chains specs) db i0 (good_run specs events good)) ∙ has in
+    let g = run_good db events (opening_world specs) (opening_chains specs) (begins_good specs accepted db has0) in
+    some_number (chains_at_end specs events logs.Manifest db) (g.inv.logs logs.Manifest db g.has).chain g.source
 
 same_rest : (xs ys zs : List Entry) → xs ++ ys ≡ xs ++ zs → ys ≡ zs
 same_rest [] ys zs h = h
@@ -534,7 +549,7 @@ passes_alone specs front middle accepted good n facts min_age dry_run filter bet
     let match = told_run front 0 (opening specs) c nobody (none_come specs) split.first in
     let has = has_db c.world (chains_of front w0 (opening_chains specs)) n facts call i (subst (λ (o : Option Told). Matches o (party_of n c.world.parties)) u.begins (match n)) in
     let has0 = sym (run_same front 0 (opening specs) c (opening_chains specs) facts.db i0 split.first) ∙ has in
-    let begins : IsGood facts.db w0 (opening_chains specs) = record { inv = i0; ordered = all_ordered specs []; has = has0; source = source_begins specs accepted facts.db has0 } in
+    let begins = begins_good specs accepted facts.db has0 in
     let g = subst (λ (w : World). IsGood facts.db w (chains_of front w0 (opening_chains specs))) (sym there) (run_good facts.db front w0 (opening_chains specs) begins) in
     let entries = same_rest c.trail (trail_by middle all c.world.store) (between ++ last ∷ []) (sym (rows_run middle 0 c v all match split.second) ∙ more) in
     let walks = (walk facts call facts.db (i.named facts.db has) settings.options filter n middle 0 c v (chains_of front w0 (opening_chains specs)) all g match split.second).0 in

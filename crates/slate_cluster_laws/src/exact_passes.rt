@@ -5,7 +5,7 @@ ghost use Rattle.slate_ids.specs.declared.gc_message.GcMessage.TheVariants as of
 ghost use Rattle.slate_script_events.specs.declared.call.Call.TheVariants.{Pass};
 ghost use Rattle.slate_script_events.specs.declared.filter_word.FilterWord.{FilterWord};
 ghost use Rattle.slate_cluster_protocol.specs.Calls.{pass_settings};
-ghost use Rattle.slate_cluster_protocol.specs.Passes.{IsExact, deletes_made};
+ghost use Rattle.slate_cluster_protocol.specs.Passes.{IsExact, IsExactByRule, deletes_made};
 ghost use Rattle.slate_cluster_protocol.specs.Rows.{Answered};
 ghost use Rattle.slate_cluster_protocol.specs.declared.party.Facts.{Facts};
 ghost use Rattle.slate_cluster_laws.specs.PassPicks.{PicksAsRead};
@@ -17,6 +17,14 @@ pub fn exact_pass()
     ensures { (facts : Facts) (pass : GcMessage) (min_age : ℕ) (dry_run : Bool) (filter : FilterWord)
         (answers : List Answered)
         → IsExact facts (Pass pass min_age dry_run filter) (pass_settings pass min_age dry_run) filter answers }
+{}
+
+/// Along any answers, a pass over the manifests deletes what its rule picks of what it read: a front of it while it is under way or where it was
+/// refused, and all of it where it ended without a refusal. Its reply then counts these picks.
+pub fn exact_by_rule()
+    ensures { (facts : Facts) (min_age : ℕ) (dry_run : Bool) (filter : FilterWord) (answers : List Answered)
+        → IsExactByRule facts (Pass of.Manifest min_age dry_run filter) (pass_settings of.Manifest min_age dry_run) filter
+        answers }
 {}
 
 /// What a pass over the manifests picks is what its answers to the list, to the get of the greatest version and to the get of the

@@ -13,7 +13,7 @@ mod safe_parties;
 pub use chains::{changed, list_top, put_elsewhere, taken_path};
 pub use courses::{begins, goes_on, lawful, stops};
 pub use events_done::{bad_after, checkpoints_carried, ulids_carried};
-pub use exact_passes::{dry_run, exact_pass, manifest_picks};
+pub use exact_passes::{dry_run, exact_by_rule, exact_pass, manifest_picks};
 pub use needs::needed_versions;
 pub use passes_alone::undisturbed_pass;
 pub use safe_parties::{

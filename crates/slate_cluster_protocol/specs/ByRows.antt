@@ -18,7 +18,8 @@ pub data Doing : Type 0 where
   Answers : Call → List Answered → Doing
   Stays : Doing
 
--- what the events and their entries say of a party: its facts, which are those at the start of its call where it has one, and what it does
+-- what the events and their entries say of a party: its facts, which are those at the start of its call where it has one, and those at its stop where
+-- it was stopped; and what it does
 pub record Told : Type 0 where
   pub facts : Facts
   pub doing : Doing
@@ -80,12 +81,17 @@ abbrev pub told_answer : Facts → Doing → Answered → Option Reply → Told
 told_answer facts (Answers call answers) answer reply = told_call facts call (answers ++ answer ∷ []) reply
 told_answer facts doing answer reply = record { facts = facts; doing = doing }
 
+-- the facts of a party now: of a call under way those to which its row has come
+abbrev pub facts_then : Facts → Doing → Facts
+facts_then facts (Answers call answers) = (stands_after facts call answers).facts
+facts_then facts _ = facts
+
 -- what is said of the party of an event after its entry
 abbrev pub told_after : Event → Entry → Option Told → Option Told
 told_after (Open n kind db) (Opened k) told = Some (record { facts = first_facts n kind db; doing = Rests })
 told_after (Start n call) (Started k reply) (Some told) = Some (told_call told.facts call [] reply)
 told_after (Step n moment mark) (Called k asked at by answer reply) (Some told) = Some (told_answer told.facts told.doing (answer, at) reply)
-told_after (Stop n) (Stopped k) (Some told) = Some (record { facts = told.facts; doing = Stays })
+told_after (Stop n) (Stopped k) (Some told) = Some (record { facts = facts_then told.facts told.doing; doing = Stays })
 told_after _ _ told = told
 
 -- the party of an event

@@ -1,5 +1,5 @@
 -- What holds of every run of databases and events, at each moment of it.
-use Rattle.std.specs.Prelude.{◌≡◌, ℕ, ◌≤◌, ◌<◌, ◌^◌, true, List, ◌++◌, length, min, Some, None}
+use Rattle.std.specs.Prelude.{◌≡◌, ℕ, ◌≤◌, ◌<◌, ◌^◌, true, List, ◌++◌, length, min, Some, None, Ok}
 use Rattle.std.specs.List.{list_all}
 use Rattle.slate_ids.specs.Limits.{last_number}
 use Rattle.slate_ids.specs.declared.object_path.ObjectPath.{ObjectPath}
@@ -10,16 +10,17 @@ use Rattle.slate_script_events.specs.declared.db_spec.DbSpec.{DbSpec}
 use Rattle.slate_script_events.specs.declared.event.Event.{Event}
 use Rattle.slate_cluster_protocol.specs.Alone.{PassesAlone}
 use Rattle.slate_cluster_protocol.specs.ByRows.{nobody, trail_by}
-use Rattle.slate_cluster_protocol.specs.Chains.{top, IsChain, bound_in, AgreesAt}
+use Rattle.slate_cluster_protocol.specs.Chains.{Link, link_at, top, IsChain, bound_in, AgreesAt}
 use Rattle.slate_cluster_protocol.specs.Fenced.{IsFenced, IsRecordFenced}
-use Rattle.slate_cluster_protocol.specs.Logs.{Chain, Chains, log_of, chains_of, opening_chains, world_after}
+use Rattle.slate_cluster_protocol.specs.Known.{IsAsTold, known_of}
+use Rattle.slate_cluster_protocol.specs.Logs.{Author, Chain, Chains, Held, log_of, chains_of, opening_chains, world_after}
 use Rattle.slate_cluster_protocol.specs.Passes.{ExactPasses}
 use Rattle.slate_cluster_protocol.specs.Rising.{NeverFalls, RecordRises, NameKnown}
 use Rattle.slate_cluster_protocol.specs.Runs.{Course, opening, run}
 use Rattle.slate_cluster_protocol.specs.Safe.{gone, IsSafe}
 use Rattle.slate_cluster_protocol.specs.Specs.{is_named_spec, cause_of_specs, opening_world}
 use Rattle.slate_cluster_protocol.specs.Trails.{numbers_of, store_of, told}
-use Rattle.slate_cluster_protocol.specs.World.{World, number_in, tally_of, HasDb}
+use Rattle.slate_cluster_protocol.specs.World.{World, number_in, party_of, tally_of, HasDb}
 
 -- accepted databases: no cause refuses them, each has a name, and the ids of their tables are ids
 pub record IsAccepted (specs : List DbSpec) : Type 0 where
@@ -56,6 +57,8 @@ gone_after specs events = gone (course_after specs events).trail (opening_world 
 pub record IsLawfulLog (w : World) (k : LogKind) (db : List ℕ) (c : Chain k) : Type 0 where
   -- the committed numbers go from 1 up without a gap; each value is what its author makes of the one before, and the rules and the fence let it
   pub chain : IsChain (log_of k) c
+  -- each value is that of its bytes
+  pub values : (n : ℕ) (l : Link (Held k) Author) → link_at n c ≡ Some l → (log_of k).decoded l.bytes ≡ Ok l.value
   -- the greatest of them is the one that the report tells
   pub greatest : (t : _) → tally_of db w.tallies ≡ Some t → number_in k t ≡ top c
   -- the boundary can be read, and is below the greatest where there is one
@@ -71,7 +74,9 @@ pub record LawfulAt (specs : List DbSpec) (events : List Event) : Type 0 where
   pub entries : length (course_after specs events).trail ≡ length events
   -- each step of a party made the one store call that its row names, and each reply is the row's
   pub rows : (course_after specs events).trail ≡ trail_by events nobody (opening_world specs).store
-  -- each pass has deleted a front of what it picks, and all of it where it ended without a refusal
+  -- what is known of each party is what its events and their entries tell
+  pub known : (n : ℕ) → IsAsTold n events (course_after specs events).trail (known_of (party_of n (course_after specs events).world.parties))
+  -- each pass over the manifests has deleted a front of what its rule picks of what it read, and all of it where it ended without a refusal
   pub passes : ExactPasses events nobody (opening_world specs).store
   -- the store is what the calls of the trail left
   pub store : (course_after specs events).world.store ≡ store_of (course_after specs events).trail (opening_world specs).store
@@ -83,6 +88,8 @@ pub record LawfulAt (specs : List DbSpec) (events : List Event) : Type 0 where
   pub safe : IsSafe (course_after specs events).world (chains_at_end specs events) (gone_after specs events)
   -- each log is one chain, which the store bears out
   pub each_log : (k : LogKind) (db : List ℕ) → HasDb (course_after specs events).world db → IsLawfulLog (course_after specs events).world k db (chains_at_end specs events k db)
+  -- no chain of manifests is empty
+  pub begun : (db : List ℕ) → HasDb (course_after specs events).world db → 0 < top (chains_at_end specs events logs.Manifest db)
   -- no writer and no compactor committed below the epoch of its kind in an earlier version
   pub fenced : (db : List ℕ) → HasDb (course_after specs events).world db → IsFenced (chains_at_end specs events logs.Manifest db)
   pub records_fenced : (db : List ℕ) → HasDb (course_after specs events).world db → IsRecordFenced (chains_at_end specs events logs.Compactions db)

@@ -11,6 +11,7 @@ pub mod Owners
 pub mod Chains
 pub mod Logs
 pub mod ByRows
+pub mod Known
 pub mod Trails
 pub mod Passes
 pub mod Alone

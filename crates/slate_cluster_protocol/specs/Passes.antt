@@ -1,6 +1,7 @@
 -- What a pass picks of what it read, and the deletes that it makes: one for each pick, in their order.
-use Rattle.std.specs.Prelude.{◌≡◌, ℕ, ℤ, nat_le, Bool, true, false, List, [], ◌∷◌, ◌++◌, map, filter, Option, Some, None, Result, Ok, if◌then◌else◌}
+use Rattle.std.specs.Prelude.{◌≡◌, ℕ, ℤ, nat_le, Bool, true, false, List, [], ◌∷◌, ◌++◌, map, filter, length, Option, Some, None, Result, Ok, if◌then◌else◌}
 use Rattle.slate_ids.specs.declared.error.SlateDBError.{SlateDBError}
+use Rattle.slate_ids.specs.declared.gc_message.GcMessage.TheVariants as of
 use Rattle.slate_layout_manifests.specs.Decoding.{decoded_manifest}
 use Rattle.slate_model.specs.declared.manifest.Manifest.{Manifest}
 use Rattle.slate_store.specs.Machines.{Stay}
@@ -22,6 +23,7 @@ use Rattle.slate_txn_log.specs.Boundary.{boundary_got, greatest}
 use Rattle.slate_txn_log.specs.declared.log_kind.LogKind.TheVariants.{Manifest as ManifestLog}
 use Rattle.slate_gc_passes.specs.Exact.{Chosen, counts_before, or_nothing, picked_along, with_delete}
 use Rattle.slate_gc_passes.specs.GcPhase.{gc_start}
+use Rattle.slate_gc_passes.specs.PassCounts.{counts_of}
 use Rattle.slate_gc_passes.specs.declared.gc_phase.GcPhase.TheVariants.{Collecting}
 use Rattle.slate_gc_passes.specs.declared.pass_counts.PassCounts.{PassCounts}
 use Rattle.slate_gc_passes.specs.declared.pass_settings.PassSettings.{PassSettings}
@@ -128,10 +130,20 @@ pub record IsExact (facts : Facts) (call : Call) (settings : PassSettings) (filt
   pub whole : (counts : PassCounts) → (stands_after facts call answers).next ≡ Finish (reply_of counts)
       → (left ≡ []) × (reply_of counts ≡ reply_of (with_deletes (counts_before settings (picked_so_far settings filter answers)) (deletes_made facts call answers)))
 
+-- the same of a pass over the manifests, by its rule: it has deleted a front of what the rule picks of what the pass read; where it ended without a
+-- refusal, all of it, deletes that faulted included, and its reply has the counts of these picks and of its deletes
+pub record IsExactByRule (facts : Facts) (call : Call) (settings : PassSettings) (filter : FilterWord) (answers : List Answered) : Type 0 where
+  pub left : List ObjectMetadata
+  pub front : calls_of (deletes_made facts call answers) ++ deletes_of left ≡ deletes_of (picked facts call settings filter answers)
+  pub whole : (counts : PassCounts) → (stands_after facts call answers).next ≡ Finish (reply_of counts)
+      → (left ≡ []) × (reply_of counts ≡ reply_of (with_deletes (counts_of (length (picked facts call settings filter answers)) 0) (deletes_made facts call answers)))
+
 -- ---- in a trail
 
--- of a party that is in a pass with these answers
+-- of a party that is in a pass with these answers: over the manifests, which is the one that a collector of a cluster has, by its rule
 abbrev pub ExactDoing : Facts → Doing → Answered → Type 0
+ExactDoing facts (Answers (Pass of.Manifest min_age dry_run filter) answers) a =
+    IsExactByRule facts (Pass of.Manifest min_age dry_run filter) (pass_settings of.Manifest min_age dry_run) filter (answers ++ a ∷ [])
 ExactDoing facts (Answers (Pass pass min_age dry_run filter) answers) a = IsExact facts (Pass pass min_age dry_run filter) (pass_settings pass min_age dry_run) filter (answers ++ a ∷ [])
 ExactDoing facts _ a = Unit {0}
 
