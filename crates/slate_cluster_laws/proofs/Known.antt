@@ -19,19 +19,19 @@ use Rattle.slate_script_events.specs.declared.event.Event.TheVariants.{Open, Sta
 use Rattle.slate_script_events.specs.declared.party_kind.PartyKind.{PartyKind}
 use Rattle.slate_script_events.specs.declared.party_kind.PartyKind.TheVariants.{Writer, Compactor as CompactorKind, Worker, Holder, Collector}
 use Rattle.slate_cluster_protocol.specs.Alone.{all_told}
-use Rattle.slate_cluster_protocol.specs.ByRows.{Told, AllTold, nobody, entry_by, party_in, all_told_after, entry_store, trail_by}
+use Rattle.slate_cluster_protocol.specs.ByRows.{Doing, Rests, Answers, Stays, Told, AllTold, nobody, entry_by, party_in, all_told_after, entry_store, trail_by}
 use Rattle.slate_cluster_protocol.specs.Calls.{has_call, Next, Go, Finish}
 use Rattle.slate_cluster_protocol.specs.Holding.{Fits}
 use Rattle.slate_cluster_protocol.specs.Ids.{is_stale}
-use Rattle.slate_cluster_protocol.specs.Known.{epoch_in, epoch_of, facts_told, has_upload, is_done, known_of, last_epoch, open_epoch, replied, table_put, told_by, uploads, was_uploaded, IsAsTold}
+use Rattle.slate_cluster_protocol.specs.Known.{epoch_in, epoch_of, has_upload, is_done, known_of, last_epoch, open_epoch, party_told, replied, state_told, table_put, told_by, uploads, was_uploaded, IsAsTold}
 use Rattle.slate_cluster_protocol.specs.Lawful.{IsAccepted, AreGood, course_after}
 use Rattle.slate_cluster_protocol.specs.Logs.{Chains, chains_after, opening_chains}
-use Rattle.slate_cluster_protocol.specs.Rows.{Standing, begin, moved}
+use Rattle.slate_cluster_protocol.specs.Rows.{Standing, begin, moved, stands_after}
 use Rattle.slate_cluster_protocol.specs.Runs.{Course, Ran, going_on, opening, run}
 use Rattle.slate_cluster_protocol.specs.Specs.{opening_world}
 use Rattle.slate_cluster_protocol.specs.Uploaded.{info_of}
 use Rattle.slate_cluster_protocol.specs.Works.{asks}
-use Rattle.slate_cluster_protocol.specs.World.{World, Transition, party_of, with_party, tally_of, noted, newcomer, settled, reply_of, stepped, step_state, start_state, halted, stop_state, carrying, may_start, open_at, start_at, step_at, stop_at, happens}
+use Rattle.slate_cluster_protocol.specs.World.{World, Transition, party_of, with_party, tally_of, newcomer, settled, reply_of, state_after, stepped, step_state, start_state, halted, stop_state, carrying, may_start, open_at, start_at, step_at, stop_at, happens}
 use Rattle.slate_cluster_protocol.specs.declared.party.Facts.{Facts}
 use Rattle.slate_cluster_protocol.specs.declared.party.Party.{Party}
 use Rattle.slate_cluster_protocol.specs.declared.party.State.{State}
@@ -45,12 +45,12 @@ use Rattle.slate_cluster_laws.proofs.Maps.{number_order, set_here, set_else, ins
 use Rattle.slate_cluster_laws.proofs.Opening.{opening_inv}
 use Rattle.slate_cluster_laws.proofs.Pools.{or_false}
 use Rattle.slate_cluster_laws.proofs.Removals.{good_run}
-use Rattle.slate_cluster_laws.proofs.Rows.{Matches, ended, facts_match, rows_run}
+use Rattle.slate_cluster_laws.proofs.Rows.{CallIs, Matches, ended, facts_match, rows_run}
 use Rattle.slate_cluster_laws.proofs.Runs.{Inv, StateKnows, event_inv}
 use Rattle.slate_cluster_laws.proofs.StepsTold.{MayDo, MayGo, begin_tells, moved_tells}
 use Rattle.slate_cluster_laws.proofs.Undisturbed.{told_run}
 
--- ---- its facts
+-- ---- its facts and its call
 
 -- what is said of each party is the fold of its events and entries
 said_by : (es : List Event) (all : AllTold) (s : Store) (n : ℕ) → told_by n es (trail_by es all s) (all n) ≡ all_told es all s n
@@ -59,22 +59,37 @@ said_by (e ∷ es) all s n =
     let x = entry_by e (all (party_in e)) s in
     said_by es (all_told_after e x all) (entry_store x s) n
 
-facts_said : (o : Option Told) (p : Option Party) → Matches o p → known_of p ≡ facts_told o
-facts_said None None m = refl
-facts_said (Some s) (Some p) m = ap (λ (f : Facts). Some f) (sym (facts_match s.facts s.doing p.facts p.state m))
-facts_said None (Some p) m = absurd m
-facts_said (Some s) None m = absurd m
+-- what a party does that stands where it is said is what is said
+state_match : (known : Facts) (doing : Doing) (facts : Facts) (state : State) → CallIs known doing facts state → state_told known doing ≡ state
+state_match known Rests facts Resting m = refl
+state_match known (Answers under answers) facts (Busy task) m = ap (λ (call : Call). state_after call (stands_after known call answers).next) m.0 ∙ ap (λ (st : Standing). state_after task.call st.next) m.1
+state_match known Stays facts Halted m = refl
+state_match known Rests facts (Busy task) m = absurd m
+state_match known Rests facts Halted m = absurd m
+state_match known (Answers under answers) facts Resting m = absurd m
+state_match known (Answers under answers) facts Halted m = absurd m
+state_match known Stays facts Resting m = absurd m
+state_match known Stays facts (Busy task) m = absurd m
 
-pub facts_are : (specs : List DbSpec) (events : List Event) → AreGood specs events → (n : ℕ)
-    → known_of (party_of n (course_after specs events).world.parties) ≡ facts_told (told_by n events (course_after specs events).trail None)
-facts_are specs events good n =
+party_said : (o : Option Told) (p : Option Party) → Matches o p → p ≡ party_told o
+party_said None None m = refl
+party_said (Some s) (Some p) m =
+    let state = state_told s.facts s.doing in
+    sym (ap (λ (f : Facts). Some (record { facts = f; state = state })) (facts_match s.facts s.doing p.facts p.state m)
+    ∙ ap (λ (x : State). Some (record { facts = p.facts; state = x })) (state_match s.facts s.doing p.facts p.state m))
+party_said None (Some p) m = absurd m
+party_said (Some s) None m = absurd m
+
+parties_are : (specs : List DbSpec) (events : List Event) → AreGood specs events → (n : ℕ)
+    → party_of n (course_after specs events).world.parties ≡ party_told (told_by n events (course_after specs events).trail None)
+parties_are specs events good n =
     let v = course_after specs events in
     let s = (opening_world specs).store in
     let h = good_run specs events good in
     let match = told_run events 0 (opening specs) v nobody (none_come specs) h n in
     let trail = rows_run events 0 (opening specs) v nobody (none_come specs) h in
-    facts_said (all_told events nobody s n) (party_of n v.world.parties) match
-    ∙ ap facts_told (sym (ap (λ (xs : List Entry). told_by n events xs None) trail ∙ said_by events nobody s n))
+    party_said (all_told events nobody s n) (party_of n v.world.parties) match
+    ∙ ap party_told (sym (ap (λ (xs : List Entry). told_by n events xs None) trail ∙ said_by events nobody s n))
 
 -- ---- one entry more
 
@@ -311,7 +326,7 @@ none_tell specs n = record { epoch = refl; uploaded = λ table. refl; may = tt }
 
 -- what is known of each party
 pub known_as_told : (specs : List DbSpec) (events : List Event) → IsAccepted specs → AreGood specs events → (n : ℕ)
-    → IsAsTold n events (course_after specs events).trail (known_of (party_of n (course_after specs events).world.parties))
+    → IsAsTold n events (course_after specs events).trail (party_of n (course_after specs events).world.parties)
 known_as_told specs events accepted good n =
     let t = run_tells events 0 (opening specs) (course_after specs events) (opening_chains specs) (opening_inv specs accepted) (none_tell specs) (good_run specs events good) n in
-    record { facts = facts_are specs events good n; epoch = t.epoch; uploads = t.uploaded }
+    record { said = parties_are specs events good n; epoch = t.epoch; uploads = t.uploaded }

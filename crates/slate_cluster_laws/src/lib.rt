@@ -7,6 +7,7 @@ mod courses;
 mod events_done;
 mod exact_passes;
 mod needs;
+mod parties_known;
 mod passes_alone;
 mod safe_parties;
 
@@ -15,6 +16,7 @@ pub use courses::{begins, goes_on, lawful, stops};
 pub use events_done::{bad_after, checkpoints_carried, ulids_carried};
 pub use exact_passes::{dry_run, exact_by_rule, exact_pass, manifest_picks};
 pub use needs::needed_versions;
+pub use parties_known::known_as_told;
 pub use passes_alone::undisturbed_pass;
 pub use safe_parties::{
     above_boundary, changes_fit, commits_hold, due_bounded, epochs_stand, late_put_is_refused,

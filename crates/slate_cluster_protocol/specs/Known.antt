@@ -1,4 +1,4 @@
--- What is known of a party, in the words of its events and of their entries: its facts, its epoch and its uploads.
+-- What is known of a party, in the words of its events and of their entries: its facts and its call, its epoch and its uploads.
 use Rattle.std.specs.Prelude.{◌≡◌, ℕ, ◌==◌, ◌&&◌, Bool, false, List, [], ◌∷◌, Option, Some, None, is_some, if◌then◌else◌}
 use Rattle.std.specs.List.{list_any}
 use Rattle.std.specs.Option.{option_or}
@@ -14,17 +14,21 @@ use Rattle.slate_script_events.specs.declared.party_kind.PartyKind.TheVariants.{
 use Rattle.slate_script_events.specs.declared.reply.Reply.{Reply}
 use Rattle.slate_script_events.specs.declared.reply.Reply.TheVariants.{Done, Epoch}
 use Rattle.slate_state_calls.specs.declared.compactor.Compactor.{Compactor}
-use Rattle.slate_cluster_protocol.specs.ByRows.{Told, facts_then, party_in, told_after}
+use Rattle.slate_cluster_protocol.specs.ByRows.{Doing, Rests, Answers, Stays, Told, facts_then, party_in, told_after}
+use Rattle.slate_cluster_protocol.specs.Rows.{stands_after}
 use Rattle.slate_cluster_protocol.specs.Uploaded.{info_of}
+use Rattle.slate_cluster_protocol.specs.World.{state_after}
 use Rattle.slate_cluster_protocol.specs.declared.party.Facts.{Facts}
 use Rattle.slate_cluster_protocol.specs.declared.party.Party.{Party}
+use Rattle.slate_cluster_protocol.specs.declared.party.State.{State}
+use Rattle.slate_cluster_protocol.specs.declared.party.State.TheVariants.{Resting, Halted}
 
 -- what is known of a party, where it came
 abbrev pub known_of : Option Party → Option Facts
 known_of None = None
 known_of (Some p) = Some p.facts
 
--- ---- its facts
+-- ---- its facts and its call
 
 -- what events and their entries say of the party of a number, after what was said before
 abbrev pub told_by : ℕ → List Event → List Entry → Option Told → Option Told
@@ -32,10 +36,16 @@ told_by n [] trail told = told
 told_by n (e ∷ events) [] told = told
 told_by n (e ∷ events) (x ∷ trail) told = told_by n events trail (if n == party_in e then told_after e x told else told)
 
--- the facts that are said: of a party with a call those to which its row has come by the answers so far
-abbrev pub facts_told : Option Told → Option Facts
-facts_told None = None
-facts_told (Some told) = Some (facts_then told.facts told.doing)
+-- what a party does of which this is said: it has no call; or it has this one, which stands where its row has come by the answers so far; or it was stopped
+abbrev pub state_told : Facts → Doing → State
+state_told facts Rests = Resting
+state_told facts (Answers call answers) = state_after call (stands_after facts call answers).next
+state_told facts Stays = Halted
+
+-- the party of which this is said, where something is: its facts are those to which its row has come, where it has a call
+abbrev pub party_told : Option Told → Option Party
+party_told None = None
+party_told (Some told) = Some (record { facts = facts_then told.facts told.doing; state = state_told told.facts told.doing })
 
 -- ---- its epoch
 
@@ -98,10 +108,10 @@ has_upload table (Some facts) = is_some (info_of table facts.uploads)
 -- ---- all of it
 
 -- what is known of the party of a number is what events and their entries tell
-pub record IsAsTold (n : ℕ) (events : List Event) (trail : List Entry) (known : Option Facts) : Type 0 where
-  -- its facts are those that are said of it
-  pub facts : known ≡ facts_told (told_by n events trail None)
+pub record IsAsTold (n : ℕ) (events : List Event) (trail : List Entry) (party : Option Party) : Type 0 where
+  -- its facts, and what it does, are those that are said of it
+  pub said : party ≡ party_told (told_by n events trail None)
   -- its epoch is that of the last reply `epoch`, and it has none where there is no such reply
-  pub epoch : epoch_of known ≡ last_epoch n trail
+  pub epoch : epoch_of (known_of party) ≡ last_epoch n trail
   -- a table is among its uploads exactly where its upload was answered done
-  pub uploads : (table : ℕ × ℕ) → has_upload table known ≡ was_uploaded n table trail
+  pub uploads : (table : ℕ × ℕ) → has_upload table (known_of party) ≡ was_uploaded n table trail

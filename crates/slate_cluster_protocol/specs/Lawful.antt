@@ -12,7 +12,7 @@ use Rattle.slate_cluster_protocol.specs.Alone.{PassesAlone}
 use Rattle.slate_cluster_protocol.specs.ByRows.{nobody, trail_by}
 use Rattle.slate_cluster_protocol.specs.Chains.{Link, link_at, top, IsChain, bound_in, AgreesAt}
 use Rattle.slate_cluster_protocol.specs.Fenced.{IsFenced, IsRecordFenced}
-use Rattle.slate_cluster_protocol.specs.Known.{IsAsTold, known_of}
+use Rattle.slate_cluster_protocol.specs.Known.{IsAsTold}
 use Rattle.slate_cluster_protocol.specs.Logs.{Author, Chain, Chains, Held, log_of, chains_of, opening_chains, world_after}
 use Rattle.slate_cluster_protocol.specs.Passes.{ExactPasses}
 use Rattle.slate_cluster_protocol.specs.Rising.{NeverFalls, RecordRises, NameKnown}
@@ -75,7 +75,7 @@ pub record LawfulAt (specs : List DbSpec) (events : List Event) : Type 0 where
   -- each step of a party made the one store call that its row names, and each reply is the row's
   pub rows : (course_after specs events).trail ≡ trail_by events nobody (opening_world specs).store
   -- what is known of each party is what its events and their entries tell
-  pub known : (n : ℕ) → IsAsTold n events (course_after specs events).trail (known_of (party_of n (course_after specs events).world.parties))
+  pub known : (n : ℕ) → IsAsTold n events (course_after specs events).trail (party_of n (course_after specs events).world.parties)
   -- each pass over the manifests has deleted a front of what its rule picks of what it read, and all of it where it ended without a refusal
   pub passes : ExactPasses events nobody (opening_world specs).store
   -- the store is what the calls of the trail left

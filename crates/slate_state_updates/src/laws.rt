@@ -39,8 +39,9 @@ pub fn neighbours_tell()
         → prefix_refusal segments ≡ None ↔ are_apart segments ≡ true }
 {}
 
-/// Of segments that ascend, the rule on prefixes refuses none exactly where any two of them stand apart: the prefix of the earlier is below that
-/// of the later, and neither begins with the other. So do the segments of a manifest that may follow another.
+/// Of segments that ascend, as those of each manifest do (`ManifestCore::segments`), the rule on prefixes refuses none exactly where any two
+/// of them stand apart, not only neighbours: the prefix of the earlier is below that of the later, and neither begins with the other. So do the
+/// segments of a manifest that may follow another.
 pub fn prefixes_stand_apart()
     ensures exactly { (segments : List Prefixed) → IsAscending segments
         → prefix_refusal segments ≡ None ↔ AllStandApart segments }
