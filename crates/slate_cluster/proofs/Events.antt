@@ -1,5 +1,5 @@
 -- One more event of a run.
-use Rattle.std.proofs.Common.{◌≡◌, ℕ, zero, suc, add-one, ◌+◌, ◌-◌, ◌<◌, List, [], ◌∷◌, ◌++◌, length, get_or, take, drop, Option, Some, None, Result, Ok, Err, IfOk, refl, sym, ap, ◌∙◌, subst, arith, drop-cons, append_assoc, length-drop}
+use Rattle.std.proofs.Common.{◌≡◌, ℕ, zero, suc, add-one, ◌+◌, ◌<◌, List, [], ◌∷◌, ◌++◌, length, get_or, take, drop, Option, Some, None, refl, sym, ap, ◌∙◌, subst, arith, drop-cons, append_assoc}
 use Rattle.std.proofs.lemmas.List.{take_more, append-nil, length-append}
 use Rattle.std.proofs.Math.Nat.{add-zero}
 use Rattle.std.proofs.Math.Seq.{take-length}
@@ -8,9 +8,6 @@ use Rattle.slate_script_events.specs.declared.entry.Entry.{Entry}
 use Rattle.slate_cluster_protocol.specs.World.{World, Transition, happens}
 use Rattle.slate_cluster_protocol.specs.Runs.{Course, Ran, going_on, run}
 use Rattle.slate_cluster_parties.specs.Events.{Happened}
-use Rattle.slate_cluster.specs.Ran.{Extends, HasRun}
-use Rattle.slate_cluster.specs.declared.cluster.Report.{Report}
-use Rattle.slate_cluster.specs.declared.cluster.ClusterError.{ClusterError}
 
 -- what a run makes of its next event
 abbrev next : List Event → ℕ → Course → Option Transition → Ran
@@ -81,25 +78,8 @@ goes_further es i d old now entry world trail lt g h same =
     subst (λ (t : List Entry). Goes es (i + 1) old (record { specs = now.specs; trail = t; world = world })) (sym same)
     (goes_on es i (get_or es i d) old now (record { entry = entry; world = world }) lt (same_event es i d (get_or es i d) lt) g h)
 
-drop_front : (xs ys : List Entry) → drop (length xs) (xs ++ ys) ≡ ys
-drop_front [] ys = refl
-drop_front (x ∷ xs) ys = drop_front xs ys
-
-tail_slice : (p : ℕ) (xs : List Entry) → take (length xs - p) (drop p xs) ≡ drop p xs
-tail_slice p xs = ap (λ n. take n (drop p xs)) (sym (length-drop p xs)) ∙ take-length (drop p xs)
-
--- a trail with entries at its end has them from the former length on
-pub added_entries : (old now : List Entry) → Extends old now → (entries : List Entry) → entries ≡ take (length now - length old) (drop (length old) now) → now ≡ old ++ entries
-added_entries old now g entries h =
-    let t : drop (length old) now ≡ g.0 = ap (drop (length old)) g.1 ∙ drop_front old g.0 in
-    g.1 ∙ ap (λ (xs : List Entry). old ++ xs) (sym (h ∙ (tail_slice (length old) now ∙ t)))
-
--- the entries of the events so far were added
-pub extended : (es : List Event) (i : ℕ) (old now : Course) → Goes es i old now → Extends old.trail now.trail
-extended es i old now g = (g.added, g.grown)
-
 -- a run without a bad event adds one entry for each event
-run_entries : (es : List Event) (place : ℕ) (c v : Course) → run es place c ≡ ended v → length v.trail ≡ length c.trail + length es
+pub run_entries : (es : List Event) (place : ℕ) (c v : Course) → run es place c ≡ ended v → length v.trail ≡ length c.trail + length es
 run_entries [] place c v h = ap (λ (r : Ran). length r.course.trail) (sym h) ∙ sym (add-zero (length c.trail))
 run_entries (e ∷ es) place c v h = step (happens c.world e) h (λ d r. run_entries es (place + 1) (going_on c d) v r)
   where
@@ -110,11 +90,3 @@ run_entries (e ∷ es) place c v h = step (happens c.world e) h (λ d r. run_ent
       where
         one_more : (n m k : ℕ) → n ≡ m + 1 → n + k ≡ m + suc k
         one_more n m k e = omega arith
-
--- the entries of a whole run are one for each event
-pub one_each : (old new : Course) (es : List Event) (r : Result Report ClusterError) → HasRun old es r new → IfOk r (λ report. length report.entries.items ≡ length es)
-one_each old new es (Ok report) h = counted (length report.entries.items) (length es) (length old.trail) (length new.trail) (run_entries es 0 old new h.0) (ap length h.1 ∙ length-append old.trail report.entries.items)
-  where
-    counted : (n k m all : ℕ) → all ≡ m + k → all ≡ m + n → n ≡ k
-    counted n k m all told added = omega arith
-one_each old new es (Err e) h = tt

@@ -1,4 +1,5 @@
 mod Events
+mod Doing
 mod ToldLines
 mod Outcomes
 mod Reached

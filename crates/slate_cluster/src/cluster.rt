@@ -1,10 +1,9 @@
 //! The cluster: parties over one store, with the trail of what happened.
-ghost use Rattle.std.specs.Prelude.{◌≡◌, ◌++◌, List, None, IfOk, length};
-ghost use Rattle.slate_script_events.specs.declared.event.Event.{Event as Happening};
+ghost use Rattle.std.specs.Prelude.{◌≡◌, ◌++◌, IfOk, length};
 ghost use Rattle.slate_cluster_protocol.specs.Lawful.{Lawful};
-ghost use Rattle.slate_cluster_protocol.specs.Runs.{opening, run as after};
+ghost use Rattle.slate_cluster_protocol.specs.Pasts.{IsPast};
 ghost use Rattle.slate_cluster.specs.NewClusters.{Opens};
-ghost use Rattle.slate_cluster.specs.Ran.{HasRun};
+ghost use Rattle.slate_cluster.specs.Ran.{HasRun, events_done};
 
 use crate::progress::Progress;
 use slate_cluster_laws::{begins, goes_on, lawful, stops};
@@ -14,22 +13,21 @@ use slate_store::MemoryStore;
 use std::alloc::Global;
 use std::marker::Model;
 
-/// Parties at one store. Contracts see the databases as they were given, what happened so far, and the state after it. Each
-/// cluster came about by events from the state in which its databases began.
+/// Parties at one store. Contracts see the databases as they were given, the events done, what happened so far, and the state after
+/// it. Each cluster came about by just these events from the state in which its databases began; it keeps no event.
 #[derive(Drop)]
 pub struct Cluster {
     progress: Progress,
 }
 
 impl Model for Cluster {
-    ghost use Rattle.slate_cluster_protocol.specs.Runs.{Course};
-    ghost use Rattle.slate_cluster_protocol.specs.Lawful.{IsRun};
+    ghost use Rattle.slate_cluster_protocol.specs.Pasts.{Past, IsPast};
 
-    ghost Value = { Course };
+    ghost Value = { Past };
 
     ghost view = { λ a. a.progress };
 
-    ghost invariant = { λ a. IsRun a.progress };
+    ghost invariant = { λ a. IsPast a.progress };
 }
 
 /// How a run ended early. Places count the events of this run from 0.
@@ -48,14 +46,19 @@ pub struct Report {
 }
 
 impl Cluster {
-    /// A cluster over these databases, with no party. Each has its first manifest and its tables, with tags by path. Refused are, in
-    /// this order: two databases of one path (`Path`); an id of a checkpoint or of a table that comes twice, or a tree whose views'
-    /// ids don't differ or whose runs' ids don't fall (`Ids`); a manifest or what is known of a table that has no bytes, or a manifest
-    /// that isn't what is read back of them (`Value`); a segment whose prefix begins with another's (`Segments`); a checkpoint that
-    /// names another version than the first (`Checkpoints`); a table of a tree that isn't there (`Tables`); a floor below the
-    /// watermark (`Floor`).
+    /// A cluster over these databases, with no party. Each has its first manifest, its first record, where it has one, and its tables,
+    /// with tags by path. Refused are, in this order: two databases of one path (`Path`); an id of a table, of a checkpoint or of a
+    /// compaction that comes twice, or a tree in which an id of a flushed view comes twice or the ids of the runs don't fall strictly
+    /// (`Ids`); a manifest, a record or what is known of a table that has no bytes, or a manifest or a record that isn't what is read
+    /// back of them (`Value`); a segment whose prefix begins with another's (`Segments`); a record whose epoch is above the compactor
+    /// epoch of its manifest (`Epoch`); an output of a compaction that is older than the compaction, or isn't there in its own
+    /// database (`Outputs`); a checkpoint that names another version than the first (`Checkpoints`); a table of a tree that isn't
+    /// there, in the database of the first entry which lists it, or else in its own (`Tables`); a floor below the watermark (`Floor`).
     pub fn new(alloc: Global, specs: Vec<DbSpec>) -> Result<Cluster, NewError>
-        ensures { Opens specs.items result }
+        // With no event done; or refused by the first cause.
+        ensures opens { Opens specs.items result }
+        // The databases are accepted.
+        ensures past { IfOk result (λ cluster. IsPast cluster) }
     {
         names(specs.as_slice());
         begins();
@@ -69,11 +72,15 @@ impl Cluster {
         ensures run { HasRun self.old events.now result self.new }
         // A whole run has one entry for each event.
         ensures entries { IfOk result (λ report. length report.entries.items ≡ length events.now) }
-        // Whatever events led here, with these after them the law of every run holds at each moment: one chain a log, fenced epochs,
-        // each step its row's, nothing reachable deleted.
-        ensures lawful { (before : List Happening)
-            → after before 0 (opening self.old.specs) ≡ record { course = self.old; bad = None }
-            → Lawful self.old.specs (before ++ events.now) }
+        // The events done are those before with these after them, where the run ended early those before its place.
+        ensures events { self.new.events ≡ self.old.events ++ events_done events.now result }
+        // The databases are accepted, and the events done, of which none is bad, led from them to the entries and the state.
+        ensures past { IsPast self.new }
+        // Of the events done the law of every run holds at each moment: one chain a log, fenced epochs, each step its row's, nothing
+        // reachable deleted.
+        ensures lawful { Lawful self.new.specs self.new.events }
+        // It would hold of all these events, too, also of those at which the run didn't arrive.
+        ensures lawful_of_all { Lawful self.old.specs (self.old.events ++ events.now) }
     {
         goes_on();
         stops();

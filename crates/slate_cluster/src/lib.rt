@@ -3,6 +3,7 @@
 
 mod answers;
 mod cluster;
+mod events_done;
 mod progress;
 mod telling;
 mod top_call;

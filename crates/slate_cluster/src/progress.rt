@@ -1,9 +1,10 @@
 //! What a cluster did so far, event by event.
 ghost use Rattle.std.specs.Prelude.{◌≡◌, ◌++◌, ◌∷◌, [], ◌<◌, IfOk, OnOk, vec_len, vec_capacity, map};
 ghost use Rattle.slate_cluster.specs.NewClusters.{Opens};
-ghost use Rattle.slate_cluster.specs.Ran.{Extends, HasDone, HasRun};
+ghost use Rattle.slate_cluster.specs.Ran.{Extends, HasDone, HasRun, events_done};
 
 use crate::cluster::{ClusterError, Report};
+use crate::events_done::EventsDone;
 use slate_cluster_opening::{NewError, opened};
 use slate_cluster_parties::ClusterState;
 use slate_ids::OutOfMemory;
@@ -11,20 +12,21 @@ use slate_script_events::{DbSpec, Entry, Event};
 use std::alloc::Global;
 use std::marker::Model;
 
-/// The databases as they were given, what happened so far, and the state after it.
+/// The databases as they were given, the events done, what happened so far, and the state after it.
 #[derive(Drop)]
 pub(crate) struct Progress {
     pub specs: Vec<DbSpec>,
+    pub done: EventsDone,
     pub trail: Vec<Entry>,
     pub state: ClusterState,
 }
 
 impl Model for Progress {
-    ghost use Rattle.slate_cluster_protocol.specs.Runs.{Course};
+    ghost use Rattle.slate_cluster_protocol.specs.Pasts.{Past};
 
-    ghost Value = { Course };
+    ghost Value = { Past };
 
-    ghost view = { λ a. record { specs = a.specs.items; trail = a.trail.items; world = a.state } };
+    ghost view = { λ a. record { specs = a.specs.items; events = a.done.events; trail = a.trail.items; world = a.state } };
 }
 
 // Adds an entry for which there is room.
@@ -68,6 +70,7 @@ impl Progress {
         match opened(alloc, specs.as_slice()) {
             Ok(opening) => Ok(Progress {
                 specs,
+                done: EventsDone::new(),
                 trail: Vec::new(alloc),
                 state: ClusterState::of(alloc, opening),
             }),
@@ -81,6 +84,7 @@ impl Progress {
     /// Does the events in order, up to the first bad one, and copies no entry.
     pub fn do_events(&mut self, alloc: Global, events: &[Event]) -> Result<(), ClusterError>
         ensures done { HasDone self.old events.now result self.new }
+        ensures events { self.new.events ≡ self.old.events ++ events_done events.now result }
         ensures grown { OnOk result (Extends self.old.trail self.new.trail) }
     {
         for (i, event) in events.iter().enumerate() {
@@ -91,7 +95,10 @@ impl Progress {
             match self.state.event(alloc, event) {
                 Err(_) => return Err(ClusterError::OutOfMemory { place }),
                 Ok(None) => return Err(ClusterError::BadEvent { place }),
-                Ok(Some(entry)) => keep(&mut self.trail, entry),
+                Ok(Some(entry)) => {
+                    keep(&mut self.trail, entry);
+                    self.done.note(event);
+                }
             }
         }
         Ok(())
@@ -99,7 +106,8 @@ impl Progress {
 
     /// Does the events in order, up to the first bad one.
     pub fn run(&mut self, alloc: Global, events: &[Event]) -> Result<Report, ClusterError>
-        ensures { HasRun self.old events.now result self.new }
+        ensures run { HasRun self.old events.now result self.new }
+        ensures events { self.new.events ≡ self.old.events ++ events_done events.now result }
     {
         let before = self.trail.len();
         self.do_events(alloc, events)?;

@@ -1,7 +1,8 @@
 -- Runs one after the other are one run.
-use Rattle.std.proofs.Common.{◌≡◌, ℕ, ◌+◌, List, [], ◌∷◌, ◌++◌, Option, Some, None, refl, sym, ap, ◌∙◌, subst}
+use Rattle.std.proofs.Common.{◌≡◌, ℕ, suc, ◌+◌, List, [], ◌∷◌, ◌++◌, take, Option, Some, None, refl, sym, ap, ◌∙◌, subst, arith, zero-add}
+use Rattle.std.proofs.Math.Nat.{add-zero}
 use Rattle.slate_script_events.specs.declared.event.Event.{Event}
-use Rattle.slate_cluster_protocol.specs.Lawful.{IsRun}
+use Rattle.slate_cluster_protocol.specs.Pasts.{Past, IsPast, course_of}
 use Rattle.slate_cluster_protocol.specs.Logs.{world_after}
 use Rattle.slate_cluster_protocol.specs.Runs.{Course, Ran, going_on, opening, run}
 use Rattle.slate_cluster_protocol.specs.World.{World, Transition, happens}
@@ -30,19 +31,26 @@ run_append (e ∷ xs) ys p q c v u h k = went (happens c.world e) h (λ d r. run
     went (Some d) h f = f d h
 
 -- what a run to a bad event did is a run of the events before it
-pub record Front (c v : Course) : Type 0 where
-  pub events : List Event
-  pub run : run events 0 c ≡ ended v
+pub record Front (es : List Event) (p k : ℕ) (c v : Course) : Type 0 where
+  pub count : ℕ
+  pub at : k ≡ p + count
+  pub run : run (take count es) 0 c ≡ ended v
 
-run_front : (es : List Event) (p k : ℕ) (c v : Course) → run es p c ≡ record { course = v; bad = Some k } → Front c v
+moved : (m n : ℕ) → (m + 1) + n ≡ m + suc n
+moved m n = omega arith
+
+run_front : (es : List Event) (p k : ℕ) (c v : Course) → run es p c ≡ record { course = v; bad = Some k } → Front es p k c v
 run_front [] p k c v h = absurd (cc (ap (λ (r : Ran). r.bad) h))
 run_front (e ∷ es) p k c v h = went (happens c.world e) refl h (λ d r. run_front es (p + 1) k (going_on c d) v r)
   where
-    went : (o : Option Transition) → happens c.world e ≡ o → Leads es p c o ≡ record { course = v; bad = Some k } → ((d : Transition) → run es (p + 1) (going_on c d) ≡ record { course = v; bad = Some k } → Front (going_on c d) v) → Front c v
-    went None is h f = record { events = []; run = ap (λ (r : Ran). ended r.course) h }
+    went : (o : Option Transition) → happens c.world e ≡ o → Leads es p c o ≡ record { course = v; bad = Some k } → ((d : Transition) → run es (p + 1) (going_on c d) ≡ record { course = v; bad = Some k } → Front es (p + 1) k (going_on c d) v) → Front (e ∷ es) p k c v
+    went None is h f =
+        let at : Some p ≡ Some k = ap (λ (r : Ran). r.bad) h in
+        let same : p ≡ k = cc at in
+        record { count = 0; at = sym same ∙ sym (add-zero p); run = ap (λ (r : Ran). ended r.course) h }
     went (Some d) is h f =
         let rest = f d h in
-        record { events = e ∷ rest.events; run = ap (Leads rest.events 0 c) is ∙ run_place rest.events 0 1 (going_on c d) v rest.run }
+        record { count = suc rest.count; at = rest.at ∙ moved p rest.count; run = ap (Leads (take rest.count es) 0 c) is ∙ run_place (take rest.count es) 0 1 (going_on c d) v rest.run }
 
 pub run_specs : (es : List Event) (p : ℕ) (c v : Course) → run es p c ≡ ended v → v.specs ≡ c.specs
 run_specs [] p c v h = ap (λ (r : Ran). r.course.specs) (sym h)
@@ -61,19 +69,21 @@ run_world (e ∷ es) p c v h = went (happens c.world e) h (λ d k. run_world es 
     went None h f = absurd (cc (ap (λ (r : Ran). r.bad) h))
     went (Some d) h f = f d h
 
--- a run goes on
-pub is_run_on : (c v : Course) (es : List Event) → IsRun c → run es 0 c ≡ ended v → IsRun v
-is_run_on c v es past h =
-    let same = run_specs es 0 c v h in
+-- events after those of a past are a past
+pub is_past_on : (old new : Past) (es : List Event) → IsPast old → run es 0 (course_of old) ≡ ended (course_of new) → new.events ≡ old.events ++ es → IsPast new
+is_past_on old new es past h added =
+    let same : new.specs ≡ old.specs = run_specs es 0 (course_of old) (course_of new) h in
     record {
       accepted = subst (λ s. Rattle.slate_cluster_protocol.specs.Lawful.IsAccepted s) (sym same) past.accepted;
-      events = past.events ++ es;
-      run = ap (λ s. run (past.events ++ es) 0 (opening s)) same ∙ run_append past.events es 0 0 (opening c.specs) c v past.run h;
+      led = ap (λ xs. run xs 0 (opening new.specs)) added ∙ (ap (λ s. run (old.events ++ es) 0 (opening s)) same ∙ run_append old.events es 0 0 (opening old.specs) (course_of old) (course_of new) past.led h);
     }
 
--- up to its first bad event too
-pub is_run_to : (c v : Course) (es : List Event) (k : ℕ) → IsRun c → run es 0 c ≡ record { course = v; bad = Some k } → IsRun v
-is_run_to c v es k past h = let front = run_front es 0 k c v h in is_run_on c v front.events past front.run
+-- so are those before a bad one
+pub is_past_to : (old new : Past) (es : List Event) (k : ℕ) → IsPast old → run es 0 (course_of old) ≡ record { course = course_of new; bad = Some k } → new.events ≡ old.events ++ take k es → IsPast new
+is_past_to old new es k past h added =
+    let front = run_front es 0 k (course_of old) (course_of new) h in
+    let count : k ≡ front.count = front.at ∙ zero-add front.count in
+    is_past_on old new (take k es) past (subst (λ n. run (take n es) 0 (course_of old) ≡ ended (course_of new)) (sym count) front.run) added
 
 -- a run of two lists, one after the other: the first leads somewhere, from where the second is a run
 pub record Split (front back : List Event) (p : ℕ) (c v : Course) : Type 0 where

@@ -1,9 +1,10 @@
 //! Runs: how they begin, how they go on, and what holds of each.
-ghost use Rattle.std.specs.Prelude.{◌≡◌, ℕ, List, Some, None};
+ghost use Rattle.std.specs.Prelude.{◌≡◌, ◌++◌, ℕ, List, Some, None, take};
 ghost use Rattle.slate_script_events.specs.declared.db_spec.DbSpec.{DbSpec};
 ghost use Rattle.slate_script_events.specs.declared.event.Event.{Event};
-ghost use Rattle.slate_cluster_protocol.specs.Lawful.{IsAccepted, IsRun, Lawful};
-ghost use Rattle.slate_cluster_protocol.specs.Runs.{Course, opening, run};
+ghost use Rattle.slate_cluster_protocol.specs.Lawful.{IsAccepted, Lawful};
+ghost use Rattle.slate_cluster_protocol.specs.Pasts.{Past, IsPast, course_of, no_past};
+ghost use Rattle.slate_cluster_protocol.specs.Runs.{run};
 
 use slate_state_record_updates::records_stand;
 
@@ -16,19 +17,21 @@ pub fn lawful()
     records_stand();
 }
 
-/// Accepted databases begin a run.
+/// Accepted databases begin a run, with no events done.
 pub fn begins()
-    ensures { (specs : List DbSpec) → IsAccepted specs → IsRun (opening specs) }
+    ensures { (specs : List DbSpec) → IsAccepted specs → IsPast (no_past specs) }
 {}
 
-/// Events of which none is bad go on with it.
+/// Events of which none is bad go on with it: they are done after those before.
 pub fn goes_on()
-    ensures { (old new : Course) (events : List Event)
-        → IsRun old → run events 0 old ≡ record { course = new; bad = None } → IsRun new }
+    ensures { (old new : Past) (events : List Event)
+        → IsPast old → run events 0 (course_of old) ≡ record { course = course_of new; bad = None }
+        → new.events ≡ old.events ++ events → IsPast new }
 {}
 
-/// So do events before a bad one.
+/// So do the events before a bad one.
 pub fn stops()
-    ensures { (old new : Course) (events : List Event) (place : ℕ)
-        → IsRun old → run events 0 old ≡ record { course = new; bad = Some place } → IsRun new }
+    ensures { (old new : Past) (events : List Event) (place : ℕ)
+        → IsPast old → run events 0 (course_of old) ≡ record { course = course_of new; bad = Some place }
+        → new.events ≡ old.events ++ take place events → IsPast new }
 {}

@@ -43,12 +43,6 @@ chains_at_end specs events = chains_of events (opening_world specs) (opening_cha
 abbrev pub AreGood : List DbSpec → List Event → Type 0
 AreGood specs events = (run events 0 (opening specs)).bad ≡ None
 
--- a course that a run of some events led to
-pub record IsRun (course : Course) : Type 0 where
-  pub accepted : IsAccepted course.specs
-  pub events : List Event
-  pub run : run events 0 (opening course.specs) ≡ record { course = course; bad = None }
-
 -- what was removed after events
 abbrev pub gone_after : List DbSpec → List Event → List ObjectPath
 gone_after specs events = gone (course_after specs events).trail (opening_world specs).store

@@ -21,4 +21,5 @@ pub mod Holding
 pub mod Fenced
 pub mod Rising
 pub mod Lawful
+pub mod Pasts
 pub mod Done

@@ -1,5 +1,5 @@
-use Rattle.std.proofs.Common.{[], refl}
+use Rattle.std.proofs.Common.{refl}
 use Rattle.slate_cluster_laws.proofs.courses.begins.Goals as goal
 
 pub returns : goal.returns
-returns c = λ specs accepted. record { accepted = accepted; events = []; run = refl }
+returns c = λ specs accepted. record { accepted = accepted; led = refl }

@@ -1,5 +1,5 @@
-use Rattle.slate_cluster_laws.proofs.GoingOn.{is_run_on}
+use Rattle.slate_cluster_laws.proofs.GoingOn.{is_past_on}
 use Rattle.slate_cluster_laws.proofs.courses.goes_on.Goals as goal
 
 pub returns : goal.returns
-returns c = is_run_on
+returns c = is_past_on
