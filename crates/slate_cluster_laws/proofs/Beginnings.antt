@@ -18,6 +18,7 @@ use Rattle.slate_txn_log.specs.declared.log_kind.LogKind.TheVariants.{Manifest a
 use Rattle.slate_store.specs.Store.{Store, object_at, stored}
 use Rattle.slate_script_events.specs.declared.db_spec.DbSpec.{DbSpec}
 use Rattle.slate_cluster_protocol.specs.Chains.{bytes_of}
+pub use Rattle.slate_cluster_protocol.specs.OpeningStore.{spec_of}
 use Rattle.slate_cluster_protocol.specs.Specs.{First, is_named_spec, first_tally, tallies_from, and_more, first_bytes, first_added, firsts_from, listed_or_none, store_from}
 use Rattle.slate_ids.specs.Ulids.{is_id}
 use Rattle.slate_cluster_protocol.specs.World.{db_cmp, tally_of}
@@ -26,11 +27,6 @@ use Rattle.slate_store.proofs.LookUps.{bytes_same, no_bytes, finds, passes_by, s
 use Rattle.slate_cluster_laws.proofs.Stores.{IsTidy, same_name, tidy_put}
 use Rattle.slate_cluster_laws.proofs.Maps.{name_order, insert_here, insert_else}
 use Rattle.slate_cluster_laws.proofs.Paths.{version_fine}
-
--- the database of a path
-abbrev pub spec_of : List ℕ → List DbSpec → Option DbSpec
-spec_of d [] = None
-spec_of d (spec ∷ specs) = if bytes_eq d spec.path then Some spec else spec_of d specs
 
 pub spec_here : (d : List ℕ) (spec : DbSpec) (specs : List DbSpec) → d ≡ spec.path → spec_of d (spec ∷ specs) ≡ Some spec
 spec_here d spec specs e = ap (λ (b : Bool). if b then Some spec else spec_of d specs) (ap (λ x. bytes_eq x spec.path) e ∙ bytes_same spec.path)
@@ -128,7 +124,7 @@ pub has_more : (o : Option Firsts) (f : Firsts → Option Firsts) (objects : Fir
 has_more None f objects h = absurd cc
 has_more (Some more) f objects h = record { more = more; is = refl; rest = h }
 
-abbrev later : Option First → Option First → Option First
+abbrev pub later : Option First → Option First → Option First
 later None o = o
 later (Some x) o = Some x
 
@@ -263,10 +259,10 @@ bytes_found None o = o
 bytes_found (Some first) o = Some first.0
 
 -- a path is found by its text
-by_text : (p q : ObjectPath) (s : Store) → path_text p ≡ path_text q → object_at p s ≡ object_at q s
+pub by_text : (p q : ObjectPath) (s : Store) → path_text p ≡ path_text q → object_at p s ≡ object_at q s
 by_text p q s e = ap (λ t. lookup (λ k. is_eq (slice_cmp nat_cmp t (path_text k))) s.objects) e
 
-texts_differ : (p q : ObjectPath) → is_at (path_cmp p) q ≡ false → path_text p ≢ path_text q
+pub texts_differ : (p q : ObjectPath) → is_at (path_cmp p) q ≡ false → path_text p ≢ path_text q
 texts_differ p q is = λ (same : path_text p ≡ path_text q). absurd (cc (ap (λ t. is_eq (slice_cmp nat_cmp t (path_text q))) same, finds q, is))
 
 -- after puts the last one of a path is found

@@ -56,3 +56,5 @@ mod Encodable
 mod Pools
 mod Sources
 mod OpenedEpochs
+mod OpeningStands
+mod OpeningTags

@@ -34,30 +34,16 @@ use Rattle.slate_cluster_protocol.specs.Lawful.{IsAccepted}
 use Rattle.slate_cluster_protocol.specs.Logs.{Chain, manifests, records, log_of, opening_link, opening_manifests, opening_record, record_chain, opening_records, opening_chains}
 use Rattle.slate_cluster_protocol.specs.Reach.{IsNeeded}
 use Rattle.slate_cluster_protocol.specs.Reach.IsNeeded.{Greatest, Named}
-use Rattle.slate_cluster_protocol.specs.Specs.{First, first_record_number, first_tally, tallies_from, are_ids_fine, and_more, bytes_where, first_bytes, firsts_from, record_bytes, records_from, all_tables_from, objects_of, overlaps, is_epoch_high, are_outputs_wrong, names_other, cause_beside, cause_of_specs, listed_or_none, no_objects, store_from, opening_world}
+use Rattle.slate_cluster_protocol.specs.Specs.{First, first_record_number, first_tally, tallies_from, are_ids_fine, bytes_where, first_bytes, record_bytes, objects_of, overlaps, is_epoch_high, are_outputs_wrong, names_other, cause_beside, cause_of_specs, listed_or_none, no_objects, store_from, opening_world}
 use Rattle.slate_cluster_protocol.specs.World.{World, tally_of, number_in, HasDb}
 use Rattle.slate_cluster_protocol.specs.declared.tally.Tally.{Tally}
-use Rattle.slate_cluster_laws.proofs.Beginnings.{spec_of, AllNamed, Firsts, has_more, tally_for, tallies_found, first_for, firsts_found, firsts_else, last_at, IsFound, spec_found, bytes_found, store_found, firsts_fine, store_tidy}
+use Rattle.slate_cluster_laws.proofs.Beginnings.{spec_of, AllNamed, Firsts, tally_for, tallies_found, first_for, firsts_found, firsts_else, last_at, IsFound, spec_found, bytes_found, store_found, firsts_fine, store_tidy}
 use Rattle.slate_cluster_laws.proofs.Facts.{IsCommitted, IsSound}
 use Rattle.slate_cluster_laws.proofs.Links.{same_or_not, link_here, link_there}
 use Rattle.slate_cluster_laws.proofs.OpeningRecords.{records_else, records_fine, first_record, record_for, records_found, record_has_bytes, record_read}
-use Rattle.slate_cluster_laws.proofs.OpeningTables.{IsNoTable, tables_else, tables_fine}
+use Rattle.slate_cluster_laws.proofs.OpeningTables.{IsMade, made_of, IsNoTable, tables_else, tables_fine}
 use Rattle.slate_cluster_laws.proofs.Runs.{Inv}
 use Rattle.slate_cluster_laws.proofs.Stores.{IsTidy}
-
--- the objects are the first manifests, the first records beside them, and the tables beside those
-record IsMade (specs : List DbSpec) (objects : Firsts) : Type 0 where
-  pub firsts : Firsts
-  pub written : firsts_from [] specs ≡ Some firsts
-  pub records : Firsts
-  pub recorded : records_from firsts specs ≡ Some records
-  pub added : all_tables_from records specs ≡ Some objects
-
-made_of : (specs : List DbSpec) (objects : Firsts) → objects_of specs ≡ Some objects → IsMade specs objects
-made_of specs objects h =
-    let first = has_more (firsts_from [] specs) (λ (os : Firsts). and_more (records_from os specs) (λ (more : Firsts). all_tables_from more specs)) objects h in
-    let second = has_more (records_from first.more specs) (λ (more : Firsts). all_tables_from more specs) objects first.rest in
-    record { firsts = first.more; written = first.is; records = second.more; recorded = second.is; added = second.rest }
 
 -- what accepted databases are made of
 record Parts (specs : List DbSpec) : Type 0 where

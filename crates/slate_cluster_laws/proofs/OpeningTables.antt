@@ -11,16 +11,16 @@ use Rattle.slate_ids.specs.declared.object_path.ObjectPath.TheVariants as paths
 use Rattle.slate_ids.proofs.PathsApart.{same_path}
 use Rattle.slate_model_tables.specs.declared.ss_table_info.SsTableInfo.{SsTableInfo}
 use Rattle.slate_script_events.specs.declared.db_spec.DbSpec.{DbSpec}
-use Rattle.slate_cluster_protocol.specs.Specs.{First, table_bytes, table_added, tables_from, all_tables_from}
+use Rattle.slate_cluster_protocol.specs.Specs.{First, and_more, firsts_from, records_from, table_bytes, table_added, tables_from, all_tables_from, objects_of}
 use Rattle.slate_ids.specs.Ulids.{is_id}
 use Rattle.slate_cluster_laws.proofs.Paths.{ulid_back}
 use Rattle.slate_cluster_laws.proofs.Beginnings.{AllNamed, Firsts, has_more, last_at, last_else, named_parts, AllFine, fine_put}
 
-abbrev Table : Type 0
+abbrev pub Table : Type 0
 Table = (ℕ × ℕ) × SsTableInfo
 
 -- the ids of tables are ids
-abbrev AllIds : List Table → Type 0
+abbrev pub AllIds : List Table → Type 0
 AllIds tables = list_all (λ t. is_id t.0) tables ≡ true
 
 -- what each table that is added keeps, all of them keep
@@ -62,3 +62,17 @@ tables_else q other firsts specs objects names h =
 pub tables_fine : (firsts : Firsts) (specs : List DbSpec) (objects : Firsts) → AllNamed specs → all_tables_from firsts specs ≡ Some objects → AllFine firsts → AllFine objects
 tables_fine firsts specs objects names h fine =
     all_keep AllFine (λ db id v os own kept. fine_put (paths.Table db id) v own os kept) firsts specs objects names h fine
+
+-- the objects are the first manifests, the first records beside them, and the tables beside those
+pub record IsMade (specs : List DbSpec) (objects : Firsts) : Type 0 where
+  pub firsts : Firsts
+  pub written : firsts_from [] specs ≡ Some firsts
+  pub records : Firsts
+  pub recorded : records_from firsts specs ≡ Some records
+  pub added : all_tables_from records specs ≡ Some objects
+
+pub made_of : (specs : List DbSpec) (objects : Firsts) → objects_of specs ≡ Some objects → IsMade specs objects
+made_of specs objects h =
+    let first = has_more (firsts_from [] specs) (λ (os : Firsts). and_more (records_from os specs) (λ (more : Firsts). all_tables_from more specs)) objects h in
+    let second = has_more (records_from first.more specs) (λ (more : Firsts). all_tables_from more specs) objects first.rest in
+    record { firsts = first.more; written = first.is; records = second.more; recorded = second.is; added = second.rest }

@@ -21,6 +21,7 @@ use Rattle.slate_script_events.specs.declared.db_spec.DbSpec.{DbSpec}
 use Rattle.slate_script_events.specs.declared.event.Event.{Event}
 use Rattle.slate_script_events.specs.declared.event.Event.TheVariants.{Open, Start, Step, Stop}
 use Rattle.slate_cluster_protocol.specs.Logs.{world_after}
+pub use Rattle.slate_cluster_protocol.specs.OpeningStore.{IsAbove, IsOrdered}
 use Rattle.slate_cluster_protocol.specs.Specs.{First, objects_of, listed_or_none, no_objects, store_from, opening_world}
 use Rattle.slate_cluster_protocol.specs.Works.{asks}
 use Rattle.slate_cluster_protocol.specs.World.{World, Transition, party_of, tally_of, step_state, start_state, stop_state, carrying, may_start, open_at, start_at, step_at, stop_at, happens}
@@ -33,40 +34,31 @@ use Rattle.slate_cluster_protocol.specs.declared.tally.Tally.{Tally}
 abbrev Entries : Type 0
 Entries = List (ObjectPath × StoredObject)
 
-path_order : IsTotalOrder path_cmp
+pub path_order : IsTotalOrder path_cmp
 path_order = on_texts path_text
 
--- each entry is above a path
-abbrev pub IsAbove : ObjectPath → Entries → Type 0
-IsAbove p [] = Unit {0}
-IsAbove p (e ∷ es) = (path_cmp p e.0 ≡ Less) × IsAbove p es
+module _ {X : Type 0} where
+  above_all : (q p : ObjectPath) → path_cmp q p ≡ Less → (es : List (ObjectPath × X)) → IsAbove p es → IsAbove q es
+  above_all q p lt [] h = tt
+  above_all q p lt (e ∷ es) h = (path_order.trans q p e.0 lt h.0, above_all q p lt es h.1)
 
--- each entry is below those after it
-abbrev pub IsOrdered : Entries → Type 0
-IsOrdered [] = Unit {0}
-IsOrdered (e ∷ es) = IsAbove e.0 es × IsOrdered es
+  above_put : (q p : ObjectPath) (v : X) → path_cmp q p ≡ Less → (es : List (ObjectPath × X)) → IsAbove q es → IsAbove q (insert_entry path_cmp es p v)
+  above_put q p v lt [] h = (lt, tt)
+  above_put q p v lt (e ∷ es) h = step (path_cmp p e.0) (above_put q p v lt es h.1)
+    where
+      step : (o : Ordering) → IsAbove q (insert_entry path_cmp es p v) → IsAbove q (match_ordering o ((p, v) ∷ e ∷ es) ((e.0, v) ∷ es) (e ∷ insert_entry path_cmp es p v))
+      step Less rest = (lt, h)
+      step Equal rest = h
+      step Greater rest = (h.0, rest)
 
-above_all : (q p : ObjectPath) → path_cmp q p ≡ Less → (es : Entries) → IsAbove p es → IsAbove q es
-above_all q p lt [] h = tt
-above_all q p lt (e ∷ es) h = (path_order.trans q p e.0 lt h.0, above_all q p lt es h.1)
-
-above_put : (q p : ObjectPath) (v : StoredObject) → path_cmp q p ≡ Less → (es : Entries) → IsAbove q es → IsAbove q (insert_entry path_cmp es p v)
-above_put q p v lt [] h = (lt, tt)
-above_put q p v lt (e ∷ es) h = step (path_cmp p e.0) (above_put q p v lt es h.1)
-  where
-    step : (o : Ordering) → IsAbove q (insert_entry path_cmp es p v) → IsAbove q (match_ordering o ((p, v) ∷ e ∷ es) ((e.0, v) ∷ es) (e ∷ insert_entry path_cmp es p v))
-    step Less rest = (lt, h)
-    step Equal rest = h
-    step Greater rest = (h.0, rest)
-
-ordered_put : (p : ObjectPath) (v : StoredObject) (es : Entries) → IsOrdered es → IsOrdered (insert_entry path_cmp es p v)
-ordered_put p v [] h = (tt, tt)
-ordered_put p v (e ∷ es) h = step (path_cmp p e.0) refl (ordered_put p v es h.1)
-  where
-    step : (o : Ordering) → path_cmp p e.0 ≡ o → IsOrdered (insert_entry path_cmp es p v) → IsOrdered (match_ordering o ((p, v) ∷ e ∷ es) ((e.0, v) ∷ es) (e ∷ insert_entry path_cmp es p v))
-    step Less at rest = ((at, above_all p e.0 at es h.0), h)
-    step Equal at rest = h
-    step Greater at rest = (above_put e.0 p v (path_order.antisymm e.0 p ∙ ap ordering_reverse at) es h.0, rest)
+  pub ordered_put : (p : ObjectPath) (v : X) (es : List (ObjectPath × X)) → IsOrdered es → IsOrdered (insert_entry path_cmp es p v)
+  ordered_put p v [] h = (tt, tt)
+  ordered_put p v (e ∷ es) h = step (path_cmp p e.0) refl (ordered_put p v es h.1)
+    where
+      step : (o : Ordering) → path_cmp p e.0 ≡ o → IsOrdered (insert_entry path_cmp es p v) → IsOrdered (match_ordering o ((p, v) ∷ e ∷ es) ((e.0, v) ∷ es) (e ∷ insert_entry path_cmp es p v))
+      step Less at rest = ((at, above_all p e.0 at es h.0), h)
+      step Equal at rest = h
+      step Greater at rest = (above_put e.0 p v (path_order.antisymm e.0 p ∙ ap ordering_reverse at) es h.0, rest)
 
 module _ (p : ObjectPath) where
   above_left : (q : ObjectPath) (es : Entries) → IsAbove q es → IsAbove q (remove_entry (is_at (path_cmp p)) es)

@@ -7,6 +7,7 @@ mod courses;
 mod events_done;
 mod exact_passes;
 mod needs;
+mod openings;
 mod parties_known;
 mod passes_alone;
 mod safe_parties;
@@ -16,6 +17,7 @@ pub use courses::{begins, goes_on, lawful, stops};
 pub use events_done::{bad_after, checkpoints_carried, ulids_carried};
 pub use exact_passes::{dry_run, exact_by_rule, exact_pass, manifest_picks};
 pub use needs::needed_versions;
+pub use openings::opening_stands;
 pub use parties_known::known_as_told;
 pub use passes_alone::undisturbed_pass;
 pub use safe_parties::{

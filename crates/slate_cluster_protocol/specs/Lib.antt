@@ -5,6 +5,7 @@ pub mod Rows
 pub mod Ids
 pub mod World
 pub mod Specs
+pub mod OpeningStore
 pub mod Runs
 pub mod Reports
 pub mod Owners
