@@ -1,5 +1,3 @@
-mod Turned
 mod Rows
 mod TurnRows
-mod LastTurns
 mod PlainTwins

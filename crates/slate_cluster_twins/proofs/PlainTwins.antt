@@ -1,5 +1,5 @@
 -- Each plain call that ended has a last turn, and that is its row.
-use Rattle.std.proofs.Common.{◌≡◌, ℕ, ℤ, Bool, false, Some, Result, refl, inl, inr, subst}
+use Rattle.std.proofs.Common.{◌≡◌, ℕ, ℤ, Bool, false, Some, Result, refl, subst}
 use Rattle.slate_txn_changes.specs.Latest as latest
 use Rattle.slate_txn_changes.specs.LogWorks.{work_asks, work_goes, work_start}
 use Rattle.slate_txn_changes.specs.Turns.{Turn, is_turned, turn_asks}
@@ -38,22 +38,13 @@ use Rattle.slate_layout_records.specs.RecordBytes.{decoded_record}
 use Rattle.slate_state_record_updates.specs.declared.record_change.RecordChange.{RecordChange}
 use Rattle.slate_model_records.specs.Records.{Record}
 use Rattle.slate_store.specs.StoreCalls.{Told}
-use Rattle.slate_store.specs.Machines.{Goes, Stay, End}
+use Rattle.slate_store.specs.Machines.{Stay, End}
 use Rattle.slate_store.specs.CallRuns.{Ran, Run}
-use Rattle.slate_store.specs.declared.store_answer.StoreAnswer.{StoreAnswer}
-use Rattle.slate_store.specs.declared.store_call.StoreCall.{StoreCall}
-use Rattle.slate_cluster_twins.proofs.LastTurns.{last_turn}
+use Rattle.slate_txn_changes.specs.LastTurns.{HasEnded, LastTurn, no_conflict}
+use Rattle.slate_txn_changes.proofs.LastTurns.{ended, last_turn}
 use Rattle.slate_cluster_twins.proofs.TurnRows.{manifest_row, open_row, pass_row, record_row, state_row}
-use Rattle.slate_cluster_twins.specs.Twins.{HasEnded, IsRow, LastTurn, manifest_ends, no_conflict, open_ends, pass_ends, record_ends, state_call, state_ends}
+use Rattle.slate_cluster_twins.specs.Twins.{IsRow, manifest_ends, open_ends, pass_ends, record_ends, state_call, state_ends}
 use Rattle.slate_state_updates.specs.declared.manifest_change.ManifestChange.{ManifestChange}
-
--- a plain call that ended ran to its machine's end
-ended : {P R : Type 0} (asks : P → StoreCall) (turning : Turn P → StoreAnswer → Goes (Turn P) R) (moment : ℤ) (tries : ℕ) (old new : Told) (first to : Turn P) (result : Result R SlateDBError)
-    → (ran : Ran is_turned (turn_asks asks) turning moment tries old new first to result) → HasEnded result → Run (turn_asks asks) turning moment old new ran.made (Stay first) (End to result)
-ended {P} {R} asks turning moment tries old new first to result ran over = elim ran.ends [
-  | inl e ↦ subst (λ (out : Goes (Turn P) R). Run (turn_asks asks) turning moment old new ran.made (Stay first) out) e.0 ran.run
-  | inr e ↦ absurd (over e.1)
-]
 
 pub open_twin : (facts : Facts) (moment : ℤ) (tries : ℕ) (old new : Told) (result : Result Writer SlateDBError) → (ran : OpenRan facts.db moment tries old new result) → HasEnded result
     → (last : LastTurn (open_asks facts.db) (open_turning facts.db moment) (writer_goes facts.db moment) (λ phase. phase ≡ open_start) moment old new ran.1.made opening.first_turn ran.0 result) × IsRow facts calls.OpenCompactor moment last.later (open_ends facts result)

@@ -10,7 +10,7 @@ use Rattle.slate_store.specs.Machines.{Goes, Stay, End}
 use Rattle.slate_store.specs.declared.made.Made.{Made}
 use Rattle.slate_store.specs.declared.store_answer.StoreAnswer.{StoreAnswer}
 use Rattle.slate_store.specs.declared.store_call.StoreCall.{StoreCall}
-use Rattle.slate_cluster_twins.proofs.Turned.{Along}
+use Rattle.slate_txn_changes.proofs.Turned.{Along}
 use Rattle.slate_cluster_twins.specs.Twins.{answers_at}
 
 -- of a call whose work at each phase goes on as a machine does; what is known of its party may hang on the phase

@@ -49,8 +49,9 @@ use Rattle.slate_store.specs.Machines.{Goes, Stay, End}
 use Rattle.slate_store.specs.CallRuns.{Run}
 use Rattle.slate_store.specs.declared.made.Made.{Made}
 use Rattle.slate_cluster_twins.proofs.Rows.{row_calls, row_ends}
-use Rattle.slate_cluster_twins.proofs.Turned.{turn_along}
-use Rattle.slate_cluster_twins.specs.Twins.{answers_at, manifest_ends, no_conflict, open_ends, pass_ends, record_ends, state_call, state_ends, IsRow}
+use Rattle.slate_txn_changes.specs.LastTurns.{no_conflict}
+use Rattle.slate_txn_changes.proofs.Turned.{turn_along}
+use Rattle.slate_cluster_twins.specs.Twins.{answers_at, manifest_ends, open_ends, pass_ends, record_ends, state_call, state_ends, IsRow}
 use Rattle.slate_state_updates.specs.declared.manifest_change.ManifestChange.{ManifestChange}
 
 -- a row that begins where its machine does

@@ -1,3 +1,4 @@
+mod ExactPasses
 mod PassRose
 mod Ranks
 mod ReportRose

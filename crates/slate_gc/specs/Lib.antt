@@ -8,3 +8,4 @@ pub mod Stats
 pub mod Faults
 pub mod Collector
 pub mod Taking
+pub mod ExactReports

@@ -3,6 +3,7 @@
 
 mod collector;
 mod gc_pass;
+mod laws;
 mod options;
 mod pass_run;
 mod pass_turns;
@@ -16,6 +17,7 @@ mod ticks;
 
 pub use collector::GarbageCollector;
 pub use gc_pass::GcPass;
+pub use laws::reported_passes_are_exact;
 pub use options::GarbageCollectorOptions;
 pub use report::{GcReport, RunEnd};
 pub use schedule_options::GarbageCollectorScheduleOptions;

@@ -4,3 +4,5 @@ pub mod Ranks
 pub mod Turning
 pub mod Sound
 pub mod WorkFaults
+pub mod LastTurns
+pub mod Turned

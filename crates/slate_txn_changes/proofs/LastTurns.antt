@@ -1,16 +1,16 @@
 -- Of the calls that a plain call made up to its end the last ones are a turn without a conflict.
-use Rattle.std.proofs.Common.{◌≡◌, ℤ, Bool, true, false, List, [], ◌∷◌, Result, Ok, Err, refl, inl, inr, sym, ap, ◌∙◌, ◌⊎◌, subst}
+use Rattle.std.proofs.Common.{◌≡◌, ℕ, ℤ, Bool, true, false, List, [], ◌∷◌, Result, Ok, Err, refl, inl, inr, sym, ap, ◌∙◌, ◌⊎◌, subst}
 use Rattle.std.specs.Prelude.{if◌then◌else◌}
-use Rattle.slate_txn_changes.specs.Turns.{Turn, turn_asks, turn_goes, turned_on}
+use Rattle.slate_txn_changes.specs.Turns.{Turn, is_turned, turn_asks, turn_goes, turned_on}
 use Rattle.slate_ids.specs.Answers.{is_conflict}
 use Rattle.slate_ids.specs.declared.error.SlateDBError.{SlateDBError}
 use Rattle.slate_store.specs.StoreCalls.{Makes, Told, moment_of}
 use Rattle.slate_store.specs.Machines.{Goes, Stay, End}
-use Rattle.slate_store.specs.CallRuns.{Run}
+use Rattle.slate_store.specs.CallRuns.{Ran, Run}
 use Rattle.slate_store.specs.declared.made.Made.{Made}
 use Rattle.slate_store.specs.declared.store_answer.StoreAnswer.{StoreAnswer}
 use Rattle.slate_store.specs.declared.store_call.StoreCall.{StoreCall}
-use Rattle.slate_cluster_twins.specs.Twins.{LastTurn, no_conflict}
+use Rattle.slate_txn_changes.specs.LastTurns.{HasEnded, LastTurn, no_conflict}
 
 module _ {P R : Type 0} (asks : P → StoreCall) (goes : P → StoreAnswer → Goes P R) (again : P → P → Bool) (restart : P → P) (Begins : P → Type 0) (restarts : (p : P) → Begins (restart p)) (moment : ℤ) (new : Told) (to : Turn P) (result : Result R SlateDBError) where
   -- a run of the plain call to its end
@@ -76,3 +76,11 @@ module _ {P R : Type 0} (asks : P → StoreCall) (goes : P → StoreAnswer → G
     | inl alone ↦ whole made old p b begins run alone
     | inr last ↦ last
   ]
+
+-- a plain call that ended ran to its machine's end
+pub ended : {P R : Type 0} (asks : P → StoreCall) (turning : Turn P → StoreAnswer → Goes (Turn P) R) (moment : ℤ) (tries : ℕ) (old new : Told) (first to : Turn P) (result : Result R SlateDBError)
+    → (ran : Ran is_turned (turn_asks asks) turning moment tries old new first to result) → HasEnded result → Run (turn_asks asks) turning moment old new ran.made (Stay first) (End to result)
+ended {P} {R} asks turning moment tries old new first to result ran over = elim ran.ends [
+  | inl e ↦ subst (λ (out : Goes (Turn P) R). Run (turn_asks asks) turning moment old new ran.made (Stay first) out) e.0 ran.run
+  | inr e ↦ absurd (over e.1)
+]
