@@ -4,13 +4,13 @@ pub mod Turns
 mod Entries
 pub mod Tops
 pub mod LatestReads
-mod Places
+pub mod Places
 mod CommitWalks
 mod Renewals
 pub mod ApplyWalks
 pub mod UpdateWalks
-mod Asides
-mod OtherCalls
+pub mod Asides
+pub mod OtherCalls
 pub mod Leavings
 mod BoundaryWalks
 pub mod HolderReads

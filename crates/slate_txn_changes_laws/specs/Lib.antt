@@ -1,0 +1,3 @@
+pub mod Works
+pub mod ChangeEnds
+pub mod BothLogs
