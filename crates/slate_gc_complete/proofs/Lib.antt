@@ -1,0 +1,3 @@
+mod PassSteps
+mod Passes
+mod LayoutWays

@@ -1,0 +1,2 @@
+pub mod PassEnds
+pub mod ReportEnds
