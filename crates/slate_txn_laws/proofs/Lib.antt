@@ -11,6 +11,7 @@ pub mod ApplyWalks
 pub mod UpdateWalks
 pub mod Asides
 pub mod OtherCalls
+mod FineObjects
 pub mod Leavings
 mod BoundaryWalks
 pub mod HolderReads

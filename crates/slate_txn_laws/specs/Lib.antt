@@ -2,6 +2,7 @@ pub mod Replies
 pub mod Plain
 pub mod Serving
 pub mod Ready
+pub mod FineObjects
 pub mod Reading
 pub mod Committing
 pub mod Changing
