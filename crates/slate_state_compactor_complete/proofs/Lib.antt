@@ -1,0 +1,5 @@
+mod BothViews
+mod PlainPuts
+mod OpenSteps
+mod StateSteps
+mod PlainCalls

@@ -1,0 +1,30 @@
+//! A compactor's open, and its calls on its state.
+ghost use Rattle.std.specs.Prelude.{◌≡◌, ◌<◌, ℕ, ℤ, List, Result, true};
+ghost use Rattle.slate_ids.specs.Ids.{is_db_path};
+ghost use Rattle.slate_ids.specs.declared.error.SlateDBError.{SlateDBError as Refusal};
+ghost use Rattle.slate_state_calls.specs.declared.compactor.Compactor.{Compactor};
+ghost use Rattle.slate_state_calls.specs.declared.state_start.StateStart.{StateStart as Start};
+ghost use Rattle.slate_state_compactor_complete.specs.Calls.{CallEnds};
+ghost use Rattle.slate_state_writer.specs.PlainOpening.{Opens};
+ghost use Rattle.slate_state_writer.specs.StateCalls.{StateCalled};
+ghost use Rattle.slate_state_writer.specs.Writer.{Writer};
+ghost use Rattle.slate_store.specs.Store.{Store};
+ghost use Rattle.slate_store.specs.StoreCalls.{Told};
+ghost use Rattle.slate_txn_changes_laws.specs.BothLogs.{AreReady};
+ghost use Rattle.slate_txn_laws.specs.Serving.{Serves};
+
+/// Over a store that serves it and in which both logs are ready, a compactor's open ends in its first try, with the compactor or with a
+/// refusal of what it read or was to put: it answers no fault, no taken number, and not that its tries are used up. Both logs are left
+/// ready. Or memory ran out.
+pub fn open_ends()
+    ensures { (db : List ℕ) → is_db_path db ≡ true → (moment : ℤ) (tries : ℕ) → 0 < tries → (old new : Told) (s : Store)
+        (result : Result Writer Refusal) → Opens db moment tries old new result → Serves old new s → AreReady db s
+        → CallEnds db new result }
+{}
+
+/// So does each call of a compactor on its state: a refresh, a schedule, and the writes of its trees, of its record, and of both.
+pub fn state_call_ends()
+    ensures { (db : List ℕ) → is_db_path db ≡ true → (start : Start) (moment : ℤ) (tries : ℕ) → 0 < tries → (old new : Told) (s : Store)
+        (from to : Compactor) (result : Result (Unit {0}) Refusal) → StateCalled db start moment tries old new from to result
+        → Serves old new s → AreReady db s → CallEnds db new result }
+{}
