@@ -4,8 +4,11 @@ use Rattle.slate_ids.specs.declared.error.SlateDBError.{SlateDBError}
 use Rattle.slate_ids.specs.declared.error.SlateDBError.TheVariants.{Fenced}
 use Rattle.slate_layout.specs.Codec.{encoded}
 use Rattle.slate_layout.specs.RecordCodec.{record_encoded}
+use Rattle.slate_layout.specs.laws.Codecs.{codec_round_trip, record_codec_trip}
+use Rattle.slate_layout_encodable.specs.Normal.{normal_manifest}
 use Rattle.slate_layout_manifests.specs.Decoding.{decoded_manifest}
 use Rattle.slate_layout_records.specs.RecordBytes.{decoded_record}
+use Rattle.slate_layout_records.specs.RecordNormal.{normal_record}
 use Rattle.slate_model.specs.Cores.{Core}
 use Rattle.slate_model.specs.declared.manifest.Manifest.{Manifest}
 use Rattle.slate_model_records.specs.Records.{Record, entry_of}
@@ -27,6 +30,7 @@ use Rattle.slate_state_updates.specs.Rules.{manifest_refusal}
 use Rattle.slate_state_updates.specs.declared.manifest_change.ManifestChange.{ManifestChange}
 use Rattle.slate_state_updates.specs.declared.manifest_change.ManifestChange.TheVariants.{Flush, KeepTrees, MergeTrees}
 use Rattle.slate_txn_changes.specs.Changes.{fence_by, holder_fence, made_by, right_by}
+use Rattle.slate_txn_changes_laws.proofs.BackPuts.{MayPutBack, puts_back}
 use Rattle.slate_txn_changes_laws.proofs.PlainChanges.{RefusesCalmly, plain_calm, plain_work}
 use Rattle.slate_txn_changes_laws.specs.Works.{IsInside, PlainWork}
 use Rattle.slate_txn_log.specs.Fence.{fence}
@@ -98,6 +102,12 @@ pub record_work : (change : Option RecordChange) → PlainWork decoded_record (r
 record_work change = plain_work decoded_record (made_by records.made change) (right_by records.right_of change) (fence_by records.fence_of change) record_refusal_of record_encoded
     (λ n old new. records_plain.refuses (record {}) n old new (right_by records.right_of change)) (λ r. records_plain.encodes (record {}) r)
     (λ bytes. plain_calm _ (records_plain.decodes (record {}) bytes)) (made_of_record change) (fence_of_record change)
+
+pub manifest_back : (change : Option ManifestChange) (now : ℤ) (n : ℕ) (m : Manifest) → MayPutBack decoded_manifest normal_manifest (manifest_put change now n m)
+manifest_back change = puts_back decoded_manifest normal_manifest encoded codec_round_trip (made_by manifests.made change) (right_by manifests.right_of change) (fence_by manifests.fence_of change) manifest_refusal
+
+pub record_back : (change : Option RecordChange) (now : ℤ) (n : ℕ) (r : Record) → MayPutBack decoded_record normal_record (record_put change now n r)
+record_back change = puts_back decoded_record normal_record record_encoded record_codec_trip (made_by records.made change) (right_by records.right_of change) (fence_by records.fence_of change) record_refusal_of
 
 -- ---- a refresh
 

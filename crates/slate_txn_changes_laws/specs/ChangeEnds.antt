@@ -30,6 +30,13 @@ pub record IsRead {V : Type 0} (decoded : Decoded V) (db : List ℕ) (log : LogK
   pub latest : IsLatest db log s n bytes
   pub read : decoded bytes ≡ Ok value
 
+-- why a change of the latest version is refused, by the contents that are left: the change or the codec refuses that version, or the boundary is
+-- not a number
+pub data WhyRefused {V : Type 0} (decoded : Decoded V) (commit : Commit V) (db : List ℕ) (log : LogKind) (moment : ℤ) (t : Store) (e : SlateDBError) : Type 0 where
+  OfChange : (n : ℕ) (value : V) → IsRead decoded db log t n value → commit moment n value ≡ Err e → WhyRefused decoded commit db log moment t e
+  OfBytes : (n : ℕ) (bytes : List ℕ) → IsLatest db log t n bytes → decoded bytes ≡ Err e → WhyRefused decoded commit db log moment t e
+  OfBoundary : boundary_at db log t ≡ None → e ≡ Corrupt BoundaryFormat → WhyRefused decoded commit db log moment t e
+
 -- from contents to contents: the change makes this value of the latest version, with these bytes, and that stands at the next number
 pub record IsChanged {V : Type 0} (decoded : Decoded V) (commit : Commit V) (db : List ℕ) (log : LogKind) (moment : ℤ) (s t : Store) (k : ℕ) (bytes : List ℕ) (wanted : V) : Type 0 where
   pub number : ℕ
