@@ -86,7 +86,7 @@ fn begin_other(alloc: Global, facts: &Facts, call: &Call) -> Result<Onward, OutO
     }
 }
 
-/// Whether a call is the end of a compaction, which makes no store call and carries no id.
+/// Whether a call is the end of a compaction, which makes no store call.
 pub fn is_end(call: &Call) -> bool
     ensures { result ≡ ends_one call.now }
 {

@@ -123,3 +123,10 @@ module _ (db : List ℕ) (log : LogKind) (named : is_db_path db ≡ true) (path 
   pub removed_ready : (s : Store) → IsReady db log s → IsReady db log (removed path s)
   removed_ready s ready =
       ready_like s (removed path s) (fine_left path s.objects ready.fine) (ap boundary_got (left_else path (boundary_path log db) other_text s.objects)) (left_tops log db path away aside.fine s.objects None ready.fine) ready
+
+  -- and its greatest number
+  pub stored_top : (bytes : List ℕ) (moment : ℤ) (s : Store) → top_of db log (stored path bytes moment s) ≡ top_of db log s
+  stored_top bytes moment s = put_tops log db path away (put_object s bytes moment) s.objects None
+
+  pub removed_top : (s : Store) → AreFine s.objects → top_of db log (removed path s) ≡ top_of db log s
+  removed_top s fine = left_tops log db path away aside.fine s.objects None fine

@@ -36,7 +36,8 @@ use Rattle.slate_txn_laws.specs.Ready.{top_of, IsBelow, IsReady, LeavesReady}
 use Rattle.slate_txn_laws.specs.Serving.{Serves}
 use Rattle.slate_txn_laws.proofs.Asides.{put_tops}
 use Rattle.slate_store.proofs.LookUps.{at_put, put_object}
-use Rattle.slate_txn_laws.proofs.Leavings.{advanced_ready, deleted_ready}
+use Rattle.slate_txn_laws.proofs.Entries.{boundary_fine, fine_after}
+use Rattle.slate_txn_laws.proofs.Leavings.{advanced_ready, deleted_ready, ready_of}
 use Rattle.slate_txn_laws.proofs.Turns.{Rest, step, ended, before}
 
 -- ---- the versions after a put of the boundary
@@ -44,6 +45,15 @@ use Rattle.slate_txn_laws.proofs.Turns.{Rest, step, ended, before}
 not_listed : (log : LogKind) (db : List ℕ) → is_in (folder log db) (boundary_path log db) ≡ false
 not_listed Manifest db = refl
 not_listed Compactions db = refl
+
+pub boundary_top : (db : List ℕ) (log : LogKind) (bytes : List ℕ) (moment : ℤ) (s : Store) → top_of db log (stored (boundary_path log db) bytes moment s) ≡ top_of db log s
+boundary_top db log bytes moment s = put_tops log db (boundary_path log db) (not_listed log db) (put_object s bytes moment) s.objects None
+
+-- a boundary below the greatest number leaves the log ready
+pub bounded_ready : (db : List ℕ) (log : LogKind) (n : ℕ) (moment : ℤ) (s : Store) → is_db_path db ≡ true → n < 2 ^ 64 → IsReady db log s → IsBelow n (top_of db log s) → IsReady db log (stored (boundary_path log db) (decimal n) moment s)
+bounded_ready db log n moment s named small ready below =
+    ready_of db log (stored (boundary_path log db) (decimal n) moment s) n (top_of db log s) (fine_after (boundary_path log db) (decimal n) moment s (boundary_fine db named log) ready.fine)
+    (ap boundary_got (at_put (boundary_path log db) (decimal n) moment s) ∙ decimal_back n small) (boundary_top db log (decimal n) moment s) below
 
 zero_told : (n : ℕ) → (n == 0) ≡ true → n ≡ 0
 zero_told n h = grind (arith, nat_tests, h)
@@ -76,7 +86,7 @@ module _ (db : List ℕ) (log : LogKind) (moment : ℤ) (n left : ℕ) (some : 0
   put_ends b at lt rest =
       let e = ended is_bounding (advance_asks db log) advance_goes moment left put Over (Ok tt) new to result rest in
       let reads : boundary_at db log put ≡ Some (max n b) = ap boundary_got (at_put path (decimal n) moment s) ∙ (decimal_back n small ∙ ap Some (omega (arith, lt))) in
-      let kept = put_tops log db (boundary_path log db) (not_listed log db) (put_object s (decimal n) moment) s.objects None in
+      let kept = boundary_top db log (decimal n) moment s in
       (IsAdvanced b put at e.contents reads kept e.answer, λ named ready below. record { left = put; contents = e.contents; ready = advanced_ready db log s n b (decimal n) moment named ready at below reads kept })
 
   -- nothing was to be put

@@ -22,7 +22,7 @@ max_below n b None h k = omega (arith, h, k)
 max_below n b (Some m) h k = omega (arith, h, k)
 
 -- ready, with this boundary
-ready_of : (db : List ℕ) (log : LogKind) (t : Store) (b : ℕ) (top : Option ℕ) → AreFine t.objects → boundary_at db log t ≡ Some b → top_of db log t ≡ top → IsBelow b top → IsReady db log t
+pub ready_of : (db : List ℕ) (log : LogKind) (t : Store) (b : ℕ) (top : Option ℕ) → AreFine t.objects → boundary_at db log t ≡ Some b → top_of db log t ≡ top → IsBelow b top → IsReady db log t
 ready_of db log t b top fine at is h = record { fine = fine; below = subst (λ (o : Option ℕ). IfSome o (λ b. IsBelow b (top_of db log t))) (sym at) (subst (IsBelow b) (sym is) h) }
 
 boundary_below : (db : List ℕ) (log : LogKind) (s : Store) (b : ℕ) → IsReady db log s → boundary_at db log s ≡ Some b → IsBelow b (top_of db log s)
@@ -74,15 +74,25 @@ module _ (db : List ℕ) (log : LogKind) (named : is_db_path db ≡ true) (n : �
       test true is rest = gone (is_in (folder log db) e.0) (ap (is_in (folder log db)) (same is) ∙ is_listed log db n) (ap (number_of log) (same is) ∙ number_back log db n)
       test false is rest = pass (is_in (folder log db) e.0) rest
 
-  module _ (s : Store) (ready : IsReady db log s) (b : ℕ) (at : boundary_at db log s ≡ Some b) (pos : 0 < n) (le : n ≤ b) where
-    left_boundary : boundary_at db log (removed own s) ≡ Some b
-    left_boundary = ap boundary_got (left_else own (boundary_path log db) (boundary_apart db named log n small) s.objects) ∙ at
+  -- below the greatest number, the greatest and the boundary stay
+  module _ (s : Store) (ready : IsReady db log s) (m : ℕ) (top : top_of db log s ≡ Some m) (below : n < m) where
+    same_boundary : boundary_at db log (removed own s) ≡ boundary_at db log s
+    same_boundary = ap boundary_got (left_else own (boundary_path log db) (boundary_apart db named log n small) s.objects)
 
+    pub older_top : top_of db log (removed own s) ≡ top_of db log s
+    older_top = same_top n m (top_of db log (removed own s)) below (left_tops s.objects None ready.fine ∙ ap (λ (o : Option ℕ). greater o (Some n)) top) ∙ sym top
+
+    pub older_ready : IsReady db log (removed own s)
+    older_ready = record {
+      fine = fine_left own s.objects ready.fine;
+      below = subst (λ (o : Option ℕ). IfSome o (λ b. IsBelow b (top_of db log (removed own s)))) (sym same_boundary)
+          (subst (λ (o : Option ℕ). IfSome (boundary_at db log s) (λ b. IsBelow b o)) (sym older_top) ready.below);
+    }
+
+  module _ (s : Store) (ready : IsReady db log s) (b : ℕ) (at : boundary_at db log s ≡ Some b) (pos : 0 < n) (le : n ≤ b) where
     by_top : (top : Option ℕ) → top_of db log s ≡ top → IsBelow b top → IsReady db log (removed own s)
     by_top None is below = absurd (omega (arith, below, pos, le))
-    by_top (Some m) is below =
-        ready_of db log (removed own s) b (Some m) (fine_left own s.objects ready.fine) left_boundary
-        (same_top n m (top_of db log (removed own s)) (omega (arith, below, le)) (left_tops s.objects None ready.fine ∙ ap (λ (o : Option ℕ). greater o (Some n)) is)) below
+    by_top (Some m) is below = older_ready s ready m is (omega (arith, below, le))
 
     pub deleted_ready : IsReady db log (removed own s)
     deleted_ready = by_top (top_of db log s) refl (boundary_below db log s b ready at)
