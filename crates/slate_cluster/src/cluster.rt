@@ -7,7 +7,7 @@ ghost use Rattle.slate_cluster.specs.Ran.{HasRun, events_done};
 
 use crate::progress::Progress;
 use slate_cluster_laws::{begins, goes_on, lawful, stops};
-use slate_cluster_opening::{NewError, names};
+use slate_cluster_opening::NewError;
 use slate_script_events::{DbSpec, Entry, Event};
 use slate_store::MemoryStore;
 use std::alloc::Global;
@@ -60,7 +60,6 @@ impl Cluster {
         // The databases are accepted.
         ensures past { IfOk result (λ cluster. IsPast cluster) }
     {
-        names(specs.as_slice());
         begins();
         let progress = Progress::new(alloc, specs)?;
         Ok(Cluster { progress })

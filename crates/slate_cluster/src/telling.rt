@@ -6,7 +6,7 @@ ghost use Rattle.slate_cluster_protocol.specs.Runs.{run};
 ghost use Rattle.slate_cluster_protocol.specs.Reports.{report_text, state_text};
 ghost use Rattle.slate_cluster.specs.Told.{from_state, BeginsState, Tells};
 
-use slate_cluster_opening::{NewError, names, opened};
+use slate_cluster_opening::{NewError, opened};
 use slate_cluster_parties::ClusterState;
 use slate_cluster_reports::push_rest;
 use slate_ids::{Listed, OutOfMemory};
@@ -25,7 +25,6 @@ pub(crate) struct ToldRun {
 pub(crate) fn begun(alloc: Global, databases: Listed<DbSpec>) -> Result<ClusterState, NewError>
     ensures { BeginsState databases result }
 {
-    names(databases.as_slice());
     let opening = opened(alloc, databases.as_slice());
     drop(databases);
     Ok(ClusterState::of(alloc, opening?))

@@ -1,8 +1,9 @@
 -- One more id of an opening.
 use Rattle.std.proofs.Common.{◌≡◌, ℕ, ◌+◌, ◌<◌, Bool, true, false, List, length, get_or, drop, Option, None, sym, ap, ◌∙◌}
-use Rattle.std.specs.Prelude.{if◌then◌else◌}
+use Rattle.std.specs.Prelude.{if◌then◌else◌, ◌&&◌}
+use Rattle.std.specs.List.{list_all}
 use Rattle.std.specs.BTreeSet.{insert_key}
-use Rattle.slate_ids.specs.Ulids.{id_cmp}
+use Rattle.slate_ids.specs.Ulids.{id_cmp, is_id}
 use Rattle.slate_cluster_protocol.specs.Specs.{is_seen, seen_from}
 use Rattle.slate_cluster_opening.proofs.Openings.{next_item}
 
@@ -22,3 +23,8 @@ module _ (seen ids : Ids) (i : ℕ) (id key : ℕ × ℕ) (all : Option Ids) (lt
   -- an id that is new
   pub seen_once : (new : Ids) → is_seen key seen ≡ false → new ≡ insert_key id_cmp seen key → seen_from new (drop (i + 1) ids) ≡ all
   seen_once new is made = ap (λ (s : Ids). seen_from s (drop (i + 1) ids)) (made ∙ ap (insert_key id_cmp seen) same) ∙ by_test false is
+
+-- whether the ids that are left are ids
+pub left_fit : (ids : Ids) (i : ℕ) (id : ℕ × ℕ) (all : Bool) → i < length ids → id ≡ get_or ids i id → is_id id ≡ true → list_all is_id (drop i ids) ≡ all → list_all is_id (drop (i + 1) ids) ≡ all
+left_fit ids i id all lt at fits so_far =
+    sym (ap (λ (b : Bool). b && list_all is_id (drop (i + 1) ids)) fits) ∙ (sym (ap (list_all is_id) (next_item ids i id lt at)) ∙ so_far)

@@ -1,7 +1,8 @@
 //! The ids of tables, compactions, views and runs as a run begins: none comes twice, and those of runs fall.
-ghost use Rattle.std.specs.Prelude.{◌≡◌, ◌++◌, Some, None, map, IfOk, OnOk, if◌then◌else◌};
+ghost use Rattle.std.specs.Prelude.{◌≡◌, ◌++◌, Some, None, true, map, IfOk, OnOk, if◌then◌else◌};
 ghost use Rattle.std.specs.List.{list_all, flat_map};
 ghost use Rattle.slate_cluster_protocol.specs.Specs as opens;
+ghost use Rattle.slate_ids.specs.Ulids.{is_id};
 
 use slate_ids::{OutOfMemory, Ulid};
 use slate_model::{Compactions, LsmTreeState, SortedRun, SsTableView};
@@ -14,15 +15,17 @@ type Seen = BTreeSet<(u64, u128)>;
 
 // The parts of an id, by which ids are ordered.
 fn parts_of(id: &Ulid) -> (u64, u128)
-    ensures { result ≡ id.now }
+    ensures parts { result ≡ id.now }
+    ensures fits { is_id id.now ≡ true }
 {
     (id.timestamp_ms(), id.tail())
 }
 
 // Notes these ids. False where one came already.
 fn add_once(seen: &mut Seen, ids: &[Ulid]) -> Result<bool, OutOfMemory>
-    ensures { IfOk result (λ once. (if once then Some seen.new.keys else None)
+    ensures seen { IfOk result (λ once. (if once then Some seen.new.keys else None)
         ≡ opens.seen_from seen.old.keys ids.now) }
+    ensures fit { IfOk result (λ once. (if once then list_all is_id ids.now else true) ≡ true) }
 {
     for id in ids {
         let parts = parts_of(id);
@@ -99,7 +102,8 @@ fn view_ids(alloc: Global, views: &VecDeque<SsTableView>) -> Result<Vec<Ulid>, O
 
 // Whether these ids differ.
 fn do_differ(alloc: Global, ids: &[Ulid]) -> Result<bool, OutOfMemory>
-    ensures { IfOk result (λ differ. differ ≡ opens.do_differ ids.now) }
+    ensures differ { IfOk result (λ differ. differ ≡ opens.do_differ ids.now) }
+    ensures fit { IfOk result (λ differ. (if differ then list_all is_id ids.now else true) ≡ true) }
 {
     let mut seen = BTreeSet::new(alloc);
     if add_once(&mut seen, ids)? {
@@ -158,9 +162,10 @@ fn are_all_in_order(alloc: Global, specs: &[DbSpec]) -> Result<bool, OutOfMemory
     Ok(true)
 }
 
-/// Whether no id of a table or of a compaction comes twice, and all trees are in order.
+/// Whether no id of a table or of a compaction comes twice, and all trees are in order. Where it is so, the ids of tables are ids.
 pub(crate) fn are_ulids_fine(alloc: Global, specs: &[DbSpec]) -> Result<bool, OutOfMemory>
-    ensures { IfOk result (λ fine. fine ≡ opens.are_ulids_fine specs.now) }
+    ensures fine { IfOk result (λ fine. fine ≡ opens.are_ulids_fine specs.now) }
+    ensures fit { IfOk result (λ fine. (if fine then list_all is_id (flat_map opens.table_ids specs.now) else true) ≡ true) }
 {
     let tables = all_table_ids(alloc, specs)?;
     let compactions = all_compaction_ids(alloc, specs)?;

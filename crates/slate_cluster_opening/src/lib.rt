@@ -16,5 +16,5 @@ mod tallies;
 pub use carried::{Carried, Noted, are_stale, carry, uncarry};
 pub use laws::nothing_comes_twice;
 pub use new_error::NewError;
-pub use opening::{Opening, names, opened};
+pub use opening::{Opening, opened};
 pub use tallies::{Tallies, count, tally};

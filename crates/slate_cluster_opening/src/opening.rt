@@ -1,9 +1,8 @@
 //! The state as a run begins, or why databases can't begin one.
-ghost use Rattle.std.specs.Prelude.{◌≡◌, [], true, IfOk, option_map};
+ghost use Rattle.std.specs.Prelude.{◌≡◌, [], true, IfOk, is_some, option_map, if◌then◌else◌};
 ghost use Rattle.std.specs.List.{list_all};
 ghost use Rattle.slate_cluster_protocol.specs.Specs as opens;
-ghost use Rattle.slate_cluster_protocol.specs.Specs.{is_named_spec};
-ghost use Rattle.slate_ids.specs.Ulids.{is_id};
+ghost use Rattle.slate_ids.specs.Ids.{is_db_path};
 ghost use Rattle.slate_cluster_opening.specs.Opened.{OpensState};
 
 use crate::carried::Carried;
@@ -14,8 +13,7 @@ use crate::objects::{open_objects, open_store};
 use crate::opening_ids::open_carried;
 use crate::tallies::Tallies;
 use slate_cluster_protocol::Tally;
-use slate_ids::{OutOfMemory, Ulid};
-use slate_model::SsTableInfo;
+use slate_ids::OutOfMemory;
 use slate_script_events::{ClusterCause, DbSpec};
 use slate_store::MemoryStore;
 use std::alloc::Global;
@@ -44,35 +42,17 @@ fn first_tally(spec: &DbSpec) -> Tally
     }
 }
 
-// The ids of tables are ids.
-fn ids_fit(tables: &[(Ulid, SsTableInfo)])
-    ensures { list_all (λ t. is_id t.0) tables.now ≡ true }
-{
-    for table in tables {
-        let _ = table.0.timestamp_ms();
-        let _ = table.0.tail();
-    }
-}
-
-/// Each database has a name, and the ids of its tables are ids.
-pub fn names(specs: &[DbSpec])
-    ensures { list_all is_named_spec specs.now ≡ true }
-{
-    for spec in specs {
-        let _ = spec.path.letters();
-        ids_fit(spec.tables.as_slice());
-    }
-}
-
 // The databases by path, each with its first numbers. None where a path comes twice.
 fn open_tallies(alloc: Global, specs: &[DbSpec]) -> Result<Option<Tallies>, OutOfMemory>
-    ensures { IfOk result (λ o. option_map (λ t. t.entries) o ≡ opens.tallies_from [] specs.now) }
+    ensures tallies { IfOk result (λ o. option_map (λ t. t.entries) o ≡ opens.tallies_from [] specs.now) }
+    ensures named { IfOk result (λ o. (if is_some o then list_all (λ spec. is_db_path spec.path) specs.now else true) ≡ true) }
 {
     let mut tallies = Tallies::new(alloc);
     for spec in specs {
         if tallies.contains_key(&spec.path) {
             return Ok(None);
         }
+        let _ = spec.path.letters();
         tallies.insert(spec.path, first_tally(spec))?;
     }
     Ok(Some(tallies))

@@ -1,3 +1,4 @@
+mod Leaving
 mod PassSteps
 mod Passes
 mod LayoutWays

@@ -4,4 +4,4 @@
 
 mod reports;
 
-pub use reports::{layout_ways_are_plain, pass_ends, report_ends};
+pub use reports::{collectors_pick_listed, layout_ways_are_plain, pass_ends, report_ends};

@@ -1,5 +1,5 @@
 -- The steps of a change of a log's latest version, where the log is ready, by the whole effect of each call.
-use Rattle.std.proofs.Common.{◌≡◌, ℕ, ◌+◌, ℤ, ◌<◌, ◌^◌, Bool, true, false, if◌then◌else◌, List, Option, Some, None, Result, Ok, Err, inr, refl, sym, ap, ◌∙◌, subst, arith}
+use Rattle.std.proofs.Common.{◌≡◌, ◌⊎◌, ℕ, ◌+◌, ℤ, ◌<◌, ◌^◌, Bool, true, false, if◌then◌else◌, List, Option, Some, None, Result, Ok, Err, inl, inr, refl, sym, ap, ◌∙◌, subst, arith}
 use Rattle.slate_ids.specs.Ids.{is_db_path}
 use Rattle.slate_ids.specs.declared.error.SlateDBError.{SlateDBError}
 use Rattle.slate_ids.specs.declared.error.SlateDBError.TheVariants.{TransactionalObjectVersionExists}
@@ -189,3 +189,24 @@ module _ {V : Type 0} (decoded : List ℕ → Result V SlateDBError) (commit : C
       subst (λ (t : Store). WorkLeads (whole (read_asks db log phase) (moment_of (read_asks db log phase) moment) t).store
       (read_on commit moment (read_goes log decoded phase (whole (read_asks db log phase) (moment_of (read_asks db log phase) moment) t).answer))) (sym h.0) (reads_on phase h.1)
   work_leads t (Committing made phase) h = commits made t phase h
+
+  -- at each phase the log is ready, and the contents are as before but for the put of a version
+  pub record Stands (t : Store) : Type 0 where
+    pub ready_still : IsReady db log t
+    pub changed : (t ≡ s) ⊎ ((k : ℕ) × (bytes : List ℕ) × (k < 2 ^ 64) × (t ≡ stored (version_path log db k) bytes moment s))
+
+  as_before : (t : Store) → t ≡ s → Stands t
+  as_before t same = record { ready_still = subst (λ (t : Store). IsReady db log t) (sym same) ready; changed = inl same }
+
+  with_put : (t : Store) (k : ℕ) (bytes : List ℕ) (wanted : V) → (h : Makes k bytes wanted) → t ≡ put_at k bytes → Stands t
+  with_put t k bytes wanted h same = record {
+    ready_still = subst (λ (t : Store). IsReady db log t) (sym same)
+        (put_ready db log s named ready k bytes moment h.small (unused k bytes wanted h) h.boundary h.bounded (above k bytes wanted h));
+    changed = inr (k, bytes, h.small, same);
+  }
+
+  pub work_stands : (t : Store) (work : LogWork V) → WorkAt t work → Stands t
+  work_stands t (Reading phase) h = as_before t h.0
+  work_stands t (Committing made (Putting k bytes wanted)) h = as_before t h.0
+  work_stands t (Committing made (Bounding k wanted)) h = with_put t k h.0 wanted h.1 h.2
+  work_stands t (Committing made Over) h = absurd h
