@@ -13,7 +13,7 @@ pub mod Asides
 pub mod OtherCalls
 mod FineObjects
 pub mod Leavings
-mod BoundaryWalks
+pub mod BoundaryWalks
 pub mod HolderReads
 pub mod Inside
 pub mod OneCalls
