@@ -1,5 +1,7 @@
 //! What a cluster did so far, event by event.
-ghost use Rattle.std.specs.Prelude.{◌≡◌, ◌++◌, ◌∷◌, [], ◌<◌, IfOk, OnOk, vec_len, vec_capacity, map};
+ghost use Rattle.std.specs.Prelude.{◌≡◌, ◌++◌, ◌∷◌, [], ◌<◌, IfOk, OnOk, true, vec_len, vec_capacity, map};
+ghost use Rattle.std.specs.List.{list_all};
+ghost use Rattle.slate_cluster_protocol.specs.Specs.{is_named_spec};
 ghost use Rattle.slate_cluster.specs.NewClusters.{Opens};
 ghost use Rattle.slate_cluster.specs.Ran.{Extends, HasDone, HasRun, events_done};
 
@@ -65,7 +67,8 @@ fn copy_entries(alloc: Global, entries: &[Entry]) -> Result<Vec<Entry>, OutOfMem
 impl Progress {
     /// As a run of these databases begins, with no party, or the first cause that refuses them.
     pub fn new(alloc: Global, specs: Vec<DbSpec>) -> Result<Progress, NewError>
-        ensures { Opens specs.items result }
+        ensures opens { Opens specs.items result }
+        ensures named { IfOk result (λ progress. list_all is_named_spec specs.items ≡ true) }
     {
         match opened(alloc, specs.as_slice()) {
             Ok(opening) => Ok(Progress {

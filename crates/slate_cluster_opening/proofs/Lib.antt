@@ -4,3 +4,4 @@ mod Seen
 mod Absent
 mod Differing
 mod Stale
+mod Named

@@ -1,8 +1,7 @@
 -- The state as a run of databases begins.
-use Rattle.std.specs.Prelude.{◌≡◌, List, [], Some, None, Result, Ok, Err, true}
-use Rattle.std.specs.List.{list_all}
+use Rattle.std.specs.Prelude.{◌≡◌, List, [], Some, None, Result, Ok, Err}
 use Rattle.slate_script_events.specs.declared.db_spec.DbSpec.{DbSpec}
-use Rattle.slate_cluster_protocol.specs.Specs.{cause_of_specs, is_named_spec, opening_world}
+use Rattle.slate_cluster_protocol.specs.Specs.{cause_of_specs, opening_world}
 use Rattle.slate_cluster_protocol.specs.World.{World}
 use Rattle.slate_cluster_opening.specs.declared.new_error.NewError.{NewError}
 use Rattle.slate_cluster_opening.specs.declared.new_error.NewError.TheVariants.{BadCluster, OutOfMemory}
@@ -12,8 +11,8 @@ use Rattle.slate_cluster_opening.specs.declared.opening.Opening.{Opening}
 abbrev pub world_of : Opening → World
 world_of o = record { tallies = o.tallies.entries; deleted = 0; store = o.store.store; parties = []; carried = o.carried }
 
--- the state as a run of the databases begins, each of which has a name; or the first cause that refuses them; or memory ran out
+-- the state as a run of the databases begins; or the first cause that refuses them; or memory ran out
 abbrev pub OpensState : List DbSpec → Result Opening NewError → Type 0
-OpensState specs (Ok o) = (cause_of_specs specs ≡ None) × (list_all is_named_spec specs ≡ true) × (world_of o ≡ opening_world specs)
+OpensState specs (Ok o) = (cause_of_specs specs ≡ None) × (world_of o ≡ opening_world specs)
 OpensState specs (Err (BadCluster cause)) = cause_of_specs specs ≡ Some cause
 OpensState specs (Err OutOfMemory) = Unit {0}

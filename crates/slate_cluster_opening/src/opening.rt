@@ -1,7 +1,8 @@
 //! The state as a run begins, or why databases can't begin one.
-ghost use Rattle.std.specs.Prelude.{◌≡◌, [], true, IfOk, is_some, option_map, if◌then◌else◌};
+ghost use Rattle.std.specs.Prelude.{◌≡◌, [], true, IfOk, IfSome, option_map};
 ghost use Rattle.std.specs.List.{list_all};
 ghost use Rattle.slate_cluster_protocol.specs.Specs as opens;
+ghost use Rattle.slate_cluster_protocol.specs.Specs.{is_named_spec};
 ghost use Rattle.slate_ids.specs.Ids.{is_db_path};
 ghost use Rattle.slate_cluster_opening.specs.Opened.{OpensState};
 
@@ -45,7 +46,7 @@ fn first_tally(spec: &DbSpec) -> Tally
 // The databases by path, each with its first numbers. None where a path comes twice.
 fn open_tallies(alloc: Global, specs: &[DbSpec]) -> Result<Option<Tallies>, OutOfMemory>
     ensures tallies { IfOk result (λ o. option_map (λ t. t.entries) o ≡ opens.tallies_from [] specs.now) }
-    ensures named { IfOk result (λ o. (if is_some o then list_all (λ spec. is_db_path spec.path) specs.now else true) ≡ true) }
+    ensures named { IfOk result (λ o. IfSome o (λ tallies. list_all (λ spec. is_db_path spec.path) specs.now ≡ true)) }
 {
     let mut tallies = Tallies::new(alloc);
     for spec in specs {
@@ -59,8 +60,12 @@ fn open_tallies(alloc: Global, specs: &[DbSpec]) -> Result<Option<Tallies>, OutO
 }
 
 /// What stands as a run of these databases begins, or the first cause that refuses them.
+#[tactic(auto, using(crate::proofs::Named::all_named))]
 pub fn opened(alloc: Global, specs: &[DbSpec]) -> Result<Opening, NewError>
-    ensures { OpensState specs.now result }
+    // The state is that of these databases; or they are refused by the first cause.
+    ensures opens { OpensState specs.now result }
+    // Each has a name, and the ids of its tables are ids.
+    ensures named { IfOk result (λ opening. list_all is_named_spec specs.now ≡ true) }
 {
     let Some(tallies) = open_tallies(alloc, specs)? else {
         return Err(NewError::BadCluster(ClusterCause::Path));

@@ -1,5 +1,5 @@
 -- What the advance and the deletes of a pass leave: both logs ready, with the same greatest numbers.
-use Rattle.std.proofs.Common.{◌≡◌, ◌≢◌, ◌⊎◌, ◌+◌, ℕ, ℤ, ◌==◌, ◌<◌, ◌^◌, max, not, ◌&&◌, nat_le, nat_lt, Bool, true, false, if◌then◌else◌, List, [], ◌∷◌, map, filter, Option, Some, None, IfSome, inl, inr, refl, sym, ap, ◌∙◌, subst, cond, arith}
+use Rattle.std.proofs.Common.{◌≡◌, ◌≢◌, ◌⊎◌, ℕ, ℤ, ◌==◌, ◌<◌, ◌^◌, max, not, ◌&&◌, nat_le, nat_lt, Bool, true, false, if◌then◌else◌, List, [], ◌∷◌, map, filter, Option, Some, None, Ok, IfSome, inl, inr, refl, sym, ap, ◌∙◌, subst, cond, arith}
 use Rattle.std.specs.Prelude.{decimal}
 use Rattle.std.proofs.lemmas.Bool.Decides.{nat_tests}
 use Rattle.slate_ids.specs.FinePath.{IsFine}
@@ -18,7 +18,6 @@ use Rattle.slate_store.specs.declared.list_dir.ListDir.{ListDir}
 use Rattle.slate_store.specs.declared.list_dir.ListDir.TheVariants as folders
 use Rattle.slate_store.specs.declared.object.ObjectMetadata.{ObjectMetadata}
 use Rattle.slate_store.specs.declared.object.StoredObject.{StoredObject}
-use Rattle.slate_store.specs.declared.store_answer.StoreAnswer.{StoreAnswer}
 use Rattle.slate_store.proofs.LookUps.{Entries}
 use Rattle.slate_txn_laws.proofs.Asides.{removed_ready, removed_top, stored_ready, stored_top}
 use Rattle.slate_txn_laws.proofs.BoundaryWalks.{boundary_top, bounded_ready}
@@ -222,7 +221,7 @@ module _ (db : List ℕ) (named : is_db_path db ≡ true) where
   advances_by : (tops : LogKind → Option ℕ) (log : LogKind) (n : ℕ) → MayBound tops log n → (o : Option StoredObject) → MayGoOn tops log (bound_goes n o)
   advances_by tops log n may None = by_zero (n == 0)
     where
-      by_zero : (b : Bool) → MayGoOn tops log (if b then End Over _ else Stay (Creating n))
+      by_zero : (b : Bool) → MayGoOn tops log (if b then End Over (Ok tt) else Stay (Creating n))
       by_zero true = tt
       by_zero false = may
   advances_by tops log n may (Some x) = by_boundary (boundary_of x.bytes)
@@ -231,7 +230,7 @@ module _ (db : List ℕ) (named : is_db_path db ≡ true) where
       by_boundary None = tt
       by_boundary (Some b) = by_order (nat_le n b)
         where
-          by_order : (le : Bool) → MayGoOn tops log (if le then End Over _ else Stay (Replacing n x.e_tag))
+          by_order : (le : Bool) → MayGoOn tops log (if le then End Over (Ok tt) else Stay (Replacing n x.e_tag))
           by_order true = tt
           by_order false = may
 

@@ -1,5 +1,5 @@
 -- The steps of a pass whose logs are ready, by the whole effect of each call.
-use Rattle.std.proofs.Common.{◌≡◌, ◌⊎◌, ℕ, ℤ, ◌==◌, ◌<◌, ◌^◌, ◌||◌, ◌&&◌, Bool, true, false, if◌then◌else◌, List, [], ◌∷◌, length, Option, Some, None, IfSome, Result, Ok, Err, inl, inr, refl, sym, ap, ◌∙◌, subst, arith}
+use Rattle.std.proofs.Common.{◌≡◌, ℕ, ℤ, ◌==◌, ◌<◌, ◌^◌, ◌||◌, ◌&&◌, Bool, true, false, if◌then◌else◌, List, [], ◌∷◌, length, Option, Some, None, IfSome, Result, Ok, Err, inl, inr, refl, sym, ap, ◌∙◌, subst, arith}
 use Rattle.std.proofs.lemmas.Bool.Decides.{nat_tests}
 use Rattle.slate_gc.specs.PassTurns.{stages_left, turned_from}
 use Rattle.slate_gc_complete.proofs.Leaving.{Each, IsOlder, IsVersion, Keeps, MayAdvance, MayBound, MayGo, MayGoOn, advance_goes_on, advance_kept, at_among, delete_kept, each_among, each_kept, each_listed, each_map, files_beside, greatest_may_bound, listed_versions, tables_beside, unneeded_older}
@@ -112,21 +112,21 @@ module _ (ways : Ways) (plain : PlainWays ways) (db : List ℕ) (named : is_db_p
   NamesAt t referenced.Over = ⊥
 
   -- the greatest numbers of both logs
-  abbrev tops_of : Store → LogKind → Option ℕ
+  abbrev pub tops_of : Store → LogKind → Option ℕ
   tops_of t log = top_of db log t
 
   -- the log whose boundary is moved up
-  abbrev pass_log : LogKind
+  abbrev pub pass_log : LogKind
   pass_log = log_or_manifests (log_of_pass settings.pass)
 
   -- both logs are ready, and what is left may go
-  record Deletes (t : Store) (left : List ObjectMetadata) : Type 0 where
+  pub record Deletes (t : Store) (left : List ObjectMetadata) : Type 0 where
     pub tops : LogKind → Option ℕ
     pub keeps : Keeps db named tops t
     pub may : Each (MayGo db named tops) left
 
   -- and the boundary may be put
-  record Advances (t : Store) (phase : AdvancePhase) (left : List ObjectMetadata) : Type 0 where
+  pub record Advances (t : Store) (phase : AdvancePhase) (left : List ObjectMetadata) : Type 0 where
     pub tops : LogKind → Option ℕ
     pub keeps : Keeps db named tops t
     pub may : Each (MayGo db named tops) left

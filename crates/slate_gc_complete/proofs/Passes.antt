@@ -104,12 +104,12 @@ module _ (setup : Setup) (plain : PlainWays setup.ways) (given : PicksListed set
 
 among_kept : (test : ObjectMetadata → Bool) (ms : List ObjectMetadata) (m : ObjectMetadata) → IsAmong m (filter test ms) → IsAmong m ms
 among_kept test [] m among = absurd among
-among_kept test (o ∷ ms) m among = by_test (test o) among
+among_kept test (o ∷ ms) m among = by_test (test o) among (among_kept test ms m)
   where
-    by_test : (b : Bool) → IsAmong m (cond b (o ∷ filter test ms) (filter test ms)) → IsAmong m (o ∷ ms)
-    by_test true (inl same) = inl same
-    by_test true (inr later) = inr (among_kept test ms m later)
-    by_test false later = inr (among_kept test ms m later)
+    by_test : (b : Bool) → IsAmong m (cond b (o ∷ filter test ms) (filter test ms)) → (IsAmong m (filter test ms) → IsAmong m ms) → IsAmong m (o ∷ ms)
+    by_test true (inl same) rest = inl same
+    by_test true (inr later) rest = inr (rest later)
+    by_test false later rest = inr (rest later)
 
 pub collector_picks : {F W : Type 0} (returns : F → List ObjectMetadata → List ObjectMetadata) (picks : W → List NumberRange → List ObjectMetadata → ℕ → ℤ → List ObjectMetadata) (filter : Option F) (wal : Option W)
     → IfSome wal (λ w. PicksOfListed (picks w))

@@ -102,7 +102,7 @@ module _ {P R : Type 0} (is_start : P → Bool) (asks : P → StoreCall) (goes :
     pub began : (tries : ℕ) (old new : Told) (s : Store) (start to : P) → Began is_start asks goes moment tries old new start to → Serves old new s → Holds s start → StandsIn (λ t. Holds t to) new
     began tries old new s start to ran serves h =
         let a = along ran.made old ran.mid s (Stay start) (Stay to) serves.contents
-            (λ (r : Rose old.faults ran.mid.faults). serves.calm (rose_after old.faults ran.mid.faults new.faults r (at_most_later ran.mid new (asks to) moment ran.last))) ran.run h in
+        (λ (r : Rose old.faults ran.mid.faults). serves.calm (rose_after old.faults ran.mid.faults new.faults r (at_most_later ran.mid new (asks to) moment ran.last))) ran.run h in
         record { left = a.left; contents = ran.last.contents ∙ a.contents; stands = a.holds }
 
 -- ---- a machine that begins again after a conflict
