@@ -21,7 +21,7 @@ use Rattle.slate_cluster_laws.proofs.Facts.{IsSound, IsAtMost, AdvanceKnows, Adv
 use Rattle.slate_cluster_laws.proofs.Puts.{Leaves, leaves_not}
 use Rattle.slate_cluster_laws.proofs.Moves.{move_leaves, move_reaches}
 
-at_least : (n b : ℕ) → nat_le n b ≡ true → n ≤ b
+pub at_least : (n b : ℕ) → nat_le n b ≡ true → n ≤ b
 at_least n b h = grind (arith, nat_tests)
 
 no_more : (n b : ℕ) → nat_le n b ≡ false → b ≤ n

@@ -94,7 +94,7 @@ module _ (k : LogKind) (db : List ℕ) (s : Store) (chains : Chains) (n : ℕ) (
 
     commit_brings : (made : ℤ) (g : CommitGoes (Held k)) → CommitBrings (log_of k) db s (chains k db) (author_of n puts made) g → ChangeBrings (commit_on made g)
     commit_brings made (Stay phase) b = b
-    commit_brings made (End phase (Ok version)) b = b
+    commit_brings made (End phase (Ok version)) b = record { link = b.link; at = b.at; value = b.value }
     commit_brings made (End phase (Err e)) b = tt
 
     pub change_brings : (now : ℤ) (work : LogWork (Held k)) (answer : StoreAnswer) → PhraseBrings s chains n (change_phrase k db puts work) now answer

@@ -13,6 +13,7 @@ use Rattle.slate_txn_log.specs.declared.read_phase.ReadPhase.{ReadPhase}
 use Rattle.slate_txn_log.specs.declared.read_phase.ReadPhase.TheVariants as reading
 use Rattle.slate_txn_log.specs.declared.right.Right.{Right}
 use Rattle.slate_cluster_protocol.specs.Chains.{Link, Log, link_at, top, IsChain, bytes_of, bound_in, AgreesAt}
+use Rattle.slate_cluster_protocol.specs.Holding.{IsPutBy}
 use Rattle.slate_cluster_protocol.specs.Reach.{IsNeeded, IsSpare}
 
 -- what is read back of a value, and the rules on it
@@ -49,6 +50,10 @@ pub record IsValue {V A : Type 0} (c : List (Link V A)) (n : ℕ) (v : V) : Type
 pub record Holds {V A : Type 0} (log : Log V A) (db : List ℕ) (s : Store) (c : List (Link V A)) (n : ℕ) (v : V) : Type 0 where
   pub same : (b : ℕ) → bound_in log db s ≡ Some b → b < n → IsValue c n v
 
+-- what an author put is the committed version of its number, by this author, unless the boundary has passed it
+pub record HoldsBy {V A : Type 0} (log : Log V A) (db : List ℕ) (s : Store) (c : List (Link V A)) (author : A) (n : ℕ) (v : V) : Type 0 where
+  pub same : (b : ℕ) → bound_in log db s ≡ Some b → b < n → IsPutBy log c author n v
+
 -- what an author made: of the committed version before, which follows lawfully; or of none, at the first number
 pub data IsMade {V A : Type 0} (log : Log V A) (c : List (Link V A)) (author : A) (n : ℕ) (v : V) : Type 0 where
   OfVersion : (old : Link V A) → link_at old.number c ≡ Some old → n ≡ old.number + 1 → log.makes author old.number old.value ≡ Ok (Some v) → log.refusal old.number old.value v (log.right author) ≡ None → log.fence author old.value ≡ None
@@ -71,7 +76,7 @@ ReadKnows log db s c reading.Over = ⊥
 -- what a committer knows
 abbrev pub CommitKnows : {V A : Type 0} → Log V A → List ℕ → Store → List (Link V A) → A → CommitPhase V → Type 0
 CommitKnows log db s c author (committing.Putting n bytes v) = IsNext log c author n bytes v
-CommitKnows log db s c author (committing.Bounding n v) = Holds log db s c n (log.normal v)
+CommitKnows log db s c author (committing.Bounding n v) = HoldsBy log db s c author n v
 CommitKnows log db s c author committing.Over = ⊥
 
 -- the boundary object, where it still has this tag, is at most a number
@@ -110,10 +115,10 @@ ReadBrings log db s c (End phase (Ok (Some version))) = IsValue c version.0 vers
 ReadBrings log db s c (End phase (Ok None)) = Unit {0}
 ReadBrings log db s c (End phase (Err e)) = Unit {0}
 
--- and of a commit: what was put is the committed version of its number
+-- and of a commit: what was put is the committed version of its number, by its author
 abbrev pub CommitBrings : {V A : Type 0} → Log V A → List ℕ → Store → List (Link V A) → A → Goes (CommitPhase V) (ℕ × V) → Type 0
 CommitBrings log db s c author (Stay phase) = CommitKnows log db s c author phase
-CommitBrings log db s c author (End phase (Ok version)) = IsValue c version.0 (log.normal version.1)
+CommitBrings log db s c author (End phase (Ok version)) = IsPutBy log c author version.0 version.1
 CommitBrings log db s c author (End phase (Err e)) = Unit {0}
 
 -- what a step can do to a log, as far as the others can see: the boundary doesn't fall, a tag is given once, what was

@@ -8,8 +8,9 @@ use Rattle.slate_txn_log.specs.declared.commit_phase.CommitPhase.TheVariants as 
 use Rattle.slate_txn_log.specs.declared.read_phase.ReadPhase.{ReadPhase}
 use Rattle.slate_txn_log.specs.declared.read_phase.ReadPhase.TheVariants as reading
 use Rattle.slate_cluster_protocol.specs.Chains.{Link, Log}
+use Rattle.slate_cluster_protocol.specs.Holding.{IsPutBy}
 use Rattle.slate_cluster_laws.proofs.Facts.IsMade.{OfVersion, OfNone}
-use Rattle.slate_cluster_laws.proofs.Facts.{IsValue, Holds, IsMade, IsNext, IsAtMost, IsReached, ReadKnows, CommitKnows, AdvanceKnows, Grows}
+use Rattle.slate_cluster_laws.proofs.Facts.{IsValue, Holds, HoldsBy, IsMade, IsNext, IsAtMost, IsReached, ReadKnows, CommitKnows, AdvanceKnows, Grows}
 
 module _ {V A : Type 0} (log : Log V A) (db : List ℕ) (s : Store) (c : List (Link V A)) (s' : Store) (c' : List (Link V A)) (g : Grows log db s c s' c') where
   pub kept_value : (n : ℕ) (v : V) → IsValue c n v → IsValue c' n v
@@ -17,6 +18,12 @@ module _ {V A : Type 0} (log : Log V A) (db : List ℕ) (s : Store) (c : List (L
 
   pub kept_holds : (n : ℕ) (v : V) → Holds log db s c n v → Holds log db s' c' n v
   kept_holds n v h = record { same = λ b' read lt. let was = g.bound b' read in let le = was.2 in kept_value n v (h.same was.0 was.1 (omega arith)) }
+
+  pub kept_put : (author : A) (n : ℕ) (v : V) → IsPutBy log c author n v → IsPutBy log c' author n v
+  kept_put author n v h = record { link = h.link; at = g.kept n h.link h.at; bytes = h.bytes; value = h.value; by = h.by }
+
+  pub kept_holds_by : (author : A) (n : ℕ) (v : V) → HoldsBy log db s c author n v → HoldsBy log db s' c' author n v
+  kept_holds_by author n v h = record { same = λ b' read lt. let was = g.bound b' read in let le = was.2 in kept_put author n v (h.same was.0 was.1 (omega arith)) }
 
   kept_made : (author : A) (n : ℕ) (v : V) → IsMade log c author n v → IsMade log c' author n v
   kept_made author n v (OfVersion old at number makes lawful passed) = OfVersion old (g.kept old.number old at) number makes lawful passed
@@ -31,7 +38,7 @@ module _ {V A : Type 0} (log : Log V A) (db : List ℕ) (s : Store) (c : List (L
 
   pub kept_commit : (author : A) (phase : CommitPhase V) → CommitKnows log db s c author phase → CommitKnows log db s' c' author phase
   kept_commit author (committing.Putting n bytes v) h = kept_next author n bytes v h
-  kept_commit author (committing.Bounding n v) h = kept_holds n (log.normal v) h
+  kept_commit author (committing.Bounding n v) h = kept_holds_by author n v h
   kept_commit author committing.Over h = h
 
   kept_most : (tag n : ℕ) → IsAtMost log db s tag n → IsAtMost log db s' tag n

@@ -1,5 +1,5 @@
 -- What the parties of a run hold.
-use Rattle.std.proofs.Common.{◌≡◌, ℕ, ◌<◌, ◌≤◌, ◌^◌, ℤ, nat_le, true, List, [], ◌∷◌, ◌++◌, Option, Some, None, Result, Ok, Err, refl, sym, ap, ◌∙◌, subst, arith}
+use Rattle.std.proofs.Common.{◌≡◌, ◌⊎◌, inl, inr, ℕ, ◌<◌, ◌≤◌, ◌^◌, ℤ, Bool, nat_le, true, false, List, [], ◌∷◌, ◌++◌, Option, Some, None, Result, Ok, Err, refl, sym, ap, ◌∙◌, subst, arith}
 use Rattle.std.proofs.lemmas.Bool.Decides.{nat_tests}
 use Rattle.std.specs.Prelude.{if◌then◌else◌}
 use Rattle.slate_txn_changes.specs.LogWorks.{WorkGoes, commit_on, work_asks as changes_ask, work_goes}
@@ -20,11 +20,12 @@ use Rattle.slate_layout_manifests.specs.Decoding.{decoded_manifest}
 use Rattle.slate_gc_passes.specs.GcPhase.{removed_goes}
 use Rattle.slate_layout_records.specs.RecordBytes.{decoded_record}
 use Rattle.slate_store.specs.declared.store_answer.StoreAnswer.{StoreAnswer}
+use Rattle.slate_store.specs.declared.store_answer.StoreAnswer.TheVariants.{Created}
 use Rattle.slate_store.specs.declared.store_call.StoreCall.{StoreCall}
 use Rattle.slate_state_updates.specs.ManifestChanges.{commit_of}
 use Rattle.slate_state_updates.specs.declared.manifest_change.ManifestChange.TheVariants.{DropExpired}
 use Rattle.slate_ids.specs.declared.object_path.ObjectPath.{ObjectPath}
-use Rattle.slate_store.specs.Machines.{End}
+use Rattle.slate_store.specs.Machines.{Stay, End}
 use Rattle.slate_store.specs.Store.{Store, effect}
 use Rattle.slate_store.specs.declared.mark.Mark.{Mark}
 use Rattle.slate_store.specs.declared.mark.Mark.TheVariants.{Good, Fail, Lost}
@@ -36,7 +37,7 @@ use Rattle.slate_gc_passes.specs.declared.gc_phase.GcPhase.TheVariants as gc
 use Rattle.slate_gc_passes.specs.declared.pass_phase.PassPhase.{PassPhase}
 use Rattle.slate_gc_passes.specs.declared.pass_phase.PassPhase.TheVariants as passing
 use Rattle.slate_txn_log.specs.Advance.{boundary_at}
-use Rattle.slate_txn_log.specs.CommitPhase.{CommitGoes, commit_asks, commit_goes, bounded_goes}
+use Rattle.slate_txn_log.specs.CommitPhase.{CommitGoes, commit_asks, commit_goes, created_goes, bounded_goes}
 use Rattle.slate_txn_log.specs.LogPaths.{version_path}
 use Rattle.slate_txn_log.specs.ReadPhase.{Reply, read_asks, read_goes}
 use Rattle.slate_txn_log.specs.declared.commit_phase.CommitPhase.{CommitPhase}
@@ -45,7 +46,7 @@ use Rattle.slate_txn_log.specs.declared.log_kind.LogKind.{LogKind}
 use Rattle.slate_txn_log.specs.declared.log_kind.LogKind.TheVariants as logs
 use Rattle.slate_txn_log.specs.declared.read_phase.ReadPhase.{ReadPhase}
 use Rattle.slate_cluster_protocol.specs.Chains.{Link, Log, bound_in, AgreesAt}
-use Rattle.slate_cluster_protocol.specs.Holding.{Fits, IsVersion, IsMadeOf, Each, IsManifestThat, IsRefused, picks_in, due_in}
+use Rattle.slate_cluster_protocol.specs.Holding.{Fits, FitsState, IsIn, IsPutBy, IsVersion, IsMadeOf, Each, IsManifestThat, IsRefused, picks_in, due_in}
 use Rattle.slate_cluster_protocol.specs.Holding.IsMadeOf.{OfVersion as Makes, OfNone as Begins}
 use Rattle.slate_cluster_protocol.specs.Lawful.{IsAccepted, AreGood, chains_at_end, course_after, gone_after}
 use Rattle.slate_cluster_protocol.specs.Logs.{Held, Chain, Chains, Author, Phrase, Puts, OfManifest, change_phrase, log_of, manifest_phrase, manifest_puts, manifests, phrase_of, record_phrase, record_puts, state_phrase, world_after}
@@ -65,9 +66,10 @@ use Rattle.slate_cluster_protocol.specs.declared.party.State.TheVariants.{Busy}
 use Rattle.slate_cluster_protocol.specs.declared.party.Task.{Task}
 use Rattle.slate_cluster_protocol.specs.declared.work.Work.{Work}
 use Rattle.slate_cluster_protocol.specs.declared.work.Work.TheVariants.{Manifests, Records, PutTable, Pass, Opening, Compacting}
+use Rattle.slate_cluster_laws.proofs.Advances.{at_least}
 use Rattle.slate_cluster_laws.proofs.AfterEvents.{after_inv, course_collected}
 use Rattle.slate_cluster_laws.proofs.Calls.{WorkKnows}
-use Rattle.slate_cluster_laws.proofs.Facts.{IsSound, IsMade, ReadKnows, ReadBrings}
+use Rattle.slate_cluster_laws.proofs.Facts.{HoldsBy, IsSound, IsMade, ReadKnows, ReadBrings, CommitKnows, CommitBrings}
 use Rattle.slate_cluster_laws.proofs.Facts.IsMade.{OfVersion, OfNone}
 use Rattle.slate_cluster_laws.proofs.GoingOn.{run_world}
 use Rattle.slate_cluster_laws.proofs.Manifests.{log_laws}
@@ -77,7 +79,7 @@ use Rattle.slate_cluster_laws.proofs.Removals.{good_run}
 use Rattle.slate_cluster_laws.proofs.Runs.{Inv, StateKnows}
 use Rattle.slate_cluster_laws.proofs.Steps.{PhraseKnows, db_in, work_db}
 use Rattle.slate_cluster_laws.proofs.Stores.{IsTidy}
-use Rattle.slate_cluster_laws.proofs.Turns.{read_step}
+use Rattle.slate_cluster_laws.proofs.Turns.{above_test, read_step, bound_step}
 
 pub above_bound : (specs : List DbSpec) (events : List Event) (k : LogKind) (db : List ℕ) (bound number : ℕ) → IsAccepted specs → HasDb (world_after events (opening_world specs)) db
     → bound_in (log_of k) db (world_after events (opening_world specs)).store ≡ Some bound → bound < number → number < 2 ^ 64
@@ -100,6 +102,35 @@ answers_of logs.Manifest db s c i tidy phase mark moment h to number v e =
     answered (log_of logs.Manifest) db s c _ to number v e (read_step (log_of logs.Manifest) (log_laws logs.Manifest) db s c i tidy phase mark moment h).brings
 answers_of logs.Compactions db s c i tidy phase mark moment h to number v e =
     answered (log_of logs.Compactions) db s c _ to number v e (read_step (log_of logs.Compactions) (log_laws logs.Compactions) db s c i tidy phase mark moment h).brings
+
+-- ---- the end of a commit
+
+-- the step of a put doesn't end it well
+created_ends : {T : Type 0} (n : ℕ) (v : T) (tag : Option ℕ) (to : CommitPhase T) (version : ℕ × T) → created_goes n v tag ≡ End to (Ok version) → ⊥
+created_ends n v (Some tag) to version e = cc e
+created_ends n v None to version e = cc e
+
+put_ends : {T : Type 0} (n : ℕ) (bytes : List ℕ) (v : T) (answer : StoreAnswer) (to : CommitPhase T) (version : ℕ × T) → commit_goes (Putting n bytes v) answer ≡ End to (Ok version) → ⊥
+put_ends n bytes v (Created tag) to version e = created_ends n v tag to version e
+put_ends n bytes v _ to version e = cc e
+
+-- the end of a commit answers a committed version, by its author
+module _ {V A : Type 0} (log : Log V A) (db : List ℕ) (s : Store) (c : List (Link V A)) (author : A) where
+  committed : (g : CommitGoes V) (to : CommitPhase V) (number : ℕ) (v : V) → g ≡ End to (Ok (number, v)) → CommitBrings log db s c author g → IsPutBy log c author number v
+  committed g to number v e b = subst (λ (x : CommitGoes V). CommitBrings log db s c author x) e b
+
+bound_ends : (k : LogKind) (db : List ℕ) (s : Store) (c : Chain k) (author : Author) → IsSound (log_of k) db s c → (n : ℕ) (w : Held k) (mark : Mark) (moment : ℤ) → CommitKnows (log_of k) db s c author (Bounding n w)
+    → (to : CommitPhase (Held k)) (number : ℕ) (v : Held k) → commit_goes (Bounding n w) (effect mark (commit_asks db k (Bounding n w)) moment s).answer ≡ End to (Ok (number, v)) → IsPutBy (log_of k) c author number v
+bound_ends logs.Manifest db s c author i n w mark moment h to number v e =
+    committed (log_of logs.Manifest) db s c author _ to number v e (bound_step (log_of logs.Manifest) (log_laws logs.Manifest) db s c i author n w mark moment h).brings
+bound_ends logs.Compactions db s c author i n w mark moment h to number v e =
+    committed (log_of logs.Compactions) db s c author _ to number v e (bound_step (log_of logs.Compactions) (log_laws logs.Compactions) db s c i author n w mark moment h).brings
+
+ends_of : (k : LogKind) (db : List ℕ) (s : Store) (c : Chain k) (author : Author) → IsSound (log_of k) db s c → (phase : CommitPhase (Held k)) (mark : Mark) (moment : ℤ) → CommitKnows (log_of k) db s c author phase
+    → (to : CommitPhase (Held k)) (number : ℕ) (v : Held k) → commit_goes phase (effect mark (commit_asks db k phase) moment s).answer ≡ End to (Ok (number, v)) → IsPutBy (log_of k) c author number v
+ends_of k db s c author i (Putting n bytes w) mark moment h to number v e = absurd (put_ends n bytes w _ to (number, v) e)
+ends_of k db s c author i (Bounding n w) mark moment h to number v e = bound_ends k db s c author i n w mark moment h to number v e
+ends_of k db s c author i Over mark moment h to number v e = absurd h
 
 -- ---- a commit whose number was collected
 
@@ -170,6 +201,83 @@ module _ (s : Store) (moment : ℤ) (mark : Mark) (facts : Facts) (call : Call) 
   work_fails (Opening db opening.Over) h = absurd h
   work_fails (Compacting db phase) h = compactor_fails db phase facts.compactor h
 
+-- ---- a put that was answered created
+
+-- where a put of a version leads to
+abbrev pub after_put : Phrase → Option Phrase
+after_put (Commits k db puts now (Putting number bytes v)) = Some (Commits k db puts now (Bounding number v))
+after_put _ = None
+
+-- a change under way that goes on so
+record ChangeIn (k : LogKind) (db : List ℕ) (puts : Puts) (phrase : Phrase) (g : WorkGoes (Held k)) : Type 0 where
+  pub work : LogWork (Held k)
+  pub is : g ≡ Stay work
+  pub same : change_phrase k db puts work ≡ phrase
+
+module _ (tag : ℕ) (moment : ℤ) (facts : Facts) (call : Call) (phrase : Phrase) where
+  change_created : (k : LogKind) (db : List ℕ) (puts : Puts) (commit_of : ℤ → ℕ → Held k → Result (Option (CommitPhase (Held k))) SlateDBError) (work : LogWork (Held k)) → after_put (change_phrase k db puts work) ≡ Some phrase
+      → ChangeIn k db puts phrase (work_goes k (log_of k).decoded commit_of moment work (Created (Some tag)))
+  change_created k db puts commit_of (Reading phase) e = absurd (cc e)
+  change_created k db puts commit_of (Committing made (Putting n bytes v)) e = record { work = Committing made (Bounding n v); is = refl; same = cc e }
+  change_created k db puts commit_of (Committing made (Bounding n v)) e = absurd (cc e)
+  change_created k db puts commit_of (Committing made Over) e = absurd (cc e)
+
+  manifest_created : (db : List ℕ) (p : ManifestChanging) → after_put (manifest_phrase db p) ≡ Some phrase
+      → ChangeIn logs.Manifest db (manifest_puts p.change) phrase (work_goes logs.Manifest decoded_manifest (manifest_put p.change) moment p.work (Created (Some tag)))
+  manifest_created db p e = change_created logs.Manifest db (manifest_puts p.change) (manifest_put p.change) p.work e
+
+  record_created : (db : List ℕ) (p : RecordChanging) → after_put (record_phrase db p) ≡ Some phrase
+      → ChangeIn logs.Compactions db (record_puts p.change) phrase (work_goes logs.Compactions decoded_record (record_put p.change) moment p.work (Created (Some tag)))
+  record_created db p e = change_created logs.Compactions db (record_puts p.change) (record_put p.change) p.work e
+
+  compactor_created : (db : List ℕ) (phase : StatePhase) (o : Option Compactor) → FitsState call phase o → after_put (state_phrase db phase) ≡ Some phrase → IsIn phrase (compactor_on facts db moment phase (Created (Some tag)) o).next
+  compactor_created db (compacting.OnRecord step p) (Some c) fits e =
+      let f = record_created db p e in
+      record { work = Compacting db (compacting.OnRecord step (record p { work = f.work })); is = ap (λ g. (state_on facts db (state_record step moment c p g)).next) f.is; same = f.same }
+  compactor_created db (compacting.OnManifest step p) (Some c) fits e =
+      let f = manifest_created db p e in
+      record { work = Compacting db (compacting.OnManifest step (record p { work = f.work })); is = ap (λ g. (state_on facts db (state_manifest step moment c p g)).next) f.is; same = f.same }
+  compactor_created db compacting.Over o fits e = absurd (cc e)
+  compactor_created db (compacting.OnRecord step p) None fits e = absurd fits
+  compactor_created db (compacting.OnManifest step p) None fits e = absurd fits
+
+  -- the call goes on to the read of the boundary
+  pub work_created : (work : Work) → Fits facts call work → after_put (phrase_of work) ≡ Some phrase → IsIn phrase (moved facts call work moment (Created (Some tag))).next
+  work_created (Manifests db p) fits e =
+      let f = manifest_created db p e in
+      record { work = Manifests db (record p { work = f.work }); is = ap (λ g. (manifest_on facts call db p g).next) f.is; same = f.same }
+  work_created (Records db p) fits e =
+      let f = record_created db p e in
+      record { work = Records db (record p { work = f.work }); is = ap (λ g. (record_on facts db p g).next) f.is; same = f.same }
+  work_created (PutTable db upload bytes) fits e = absurd (cc e)
+  work_created (Pass db settings filter (gc.Removing work)) fits e =
+      let f = change_created logs.Manifest db (OfManifest DropExpired) (commit_of encoded DropExpired) work e in
+      record { work = Pass db settings filter (gc.Removing f.work); is = ap (λ g. (pass_on facts db settings filter (removed_goes settings.pass g)).next) f.is; same = f.same }
+  work_created (Pass db settings filter (gc.Collecting at phase)) fits e = absurd (cc e)
+  work_created (Opening db (opening.Raising p)) fits e =
+      let f = manifest_created db p e in
+      record { work = Opening db (opening.Raising (record p { work = f.work })); is = ap (λ g. (open_on facts db (raising p g)).next) f.is; same = f.same }
+  work_created (Opening db (opening.OnRecord step m p)) fits e =
+      let f = record_created db p e in
+      record { work = Opening db (opening.OnRecord step m (record p { work = f.work })); is = ap (λ g. (open_on facts db (open_record step m moment p g)).next) f.is; same = f.same }
+  work_created (Opening db opening.Over) fits e = absurd (cc e)
+  work_created (Compacting db phase) fits e = compactor_created db phase facts.compactor fits e
+
+-- the boundary as a commit reads it
+read_by : (s : Store) (k : LogKind) (db : List ℕ) (b : ℕ) → bound_in (log_of k) db s ≡ Some b → boundary_at db k s ≡ Some b
+read_by s logs.Manifest db b e = e
+read_by s logs.Compactions db b e = e
+
+-- the step that reads the boundary after a put ends the call with a refusal, or what was put is the committed version of its number, by its author
+pub refused_or_own : (s : Store) (moment : ℤ) (mark : Mark) (facts : Facts) (call : Call) (work : Work) (k : LogKind) (db : List ℕ) (puts : Puts) (now : ℤ) (number : ℕ) (v : Held k) (c : Chain k) (author : Author)
+    → IsSound (log_of k) db s c → HoldsBy (log_of k) db s c author number v → phrase_of work ≡ Commits k db puts now (Bounding number v)
+    → IsRefused (moved facts call work moment (effect mark (asks work) moment s).answer).next ⊎ IsPutBy (log_of k) c author number v
+refused_or_own s moment mark facts call work k db puts now number v c author i h e = by_test i.bound i.read (nat_le number i.bound) refl
+  where
+    by_test : (b : ℕ) → bound_in (log_of k) db s ≡ Some b → (t : Bool) → nat_le number b ≡ t → IsRefused (moved facts call work moment (effect mark (asks work) moment s).answer).next ⊎ IsPutBy (log_of k) c author number v
+    by_test b read true is = inl (work_fails s moment mark facts call work (subst (PhraseFails s moment mark) (sym e) (bound_fails db k number v s moment mark b (read_by s k db b read) (at_least number b is))))
+    by_test b read false is = inr (h.same b read (above_test number b is))
+
 -- what was removed up to now was collected
 gone_collected : (specs : List DbSpec) (events : List Event) → IsAccepted specs → AreGood specs events → AllCollected (world_after events (opening_world specs)) (chains_at_end specs events) (gone_after specs events)
 gone_collected specs events accepted good =
@@ -233,6 +341,29 @@ module _ (specs : List DbSpec) (events : List Event) (n : ℕ) (p : Party) (task
       → read_goes k (log_of k).decoded phase (effect mark (read_asks db k phase) moment w.store).answer ≡ End to (Ok (Some (number, v))) → IsVersion (chains k db) number v
   read_answers k db phase mark moment to number v e answer = answers_of k db w.store (chains k db) (i.logs k db (has_db (Reads k db phase) e)) i.tidy phase mark moment (knows (Reads k db phase) e) to number v answer
 
+  -- what it has put is its own where the boundary is below the number
+  pub put_stands : (k : LogKind) (db : List ℕ) (puts : Puts) (now : ℤ) (number : ℕ) (v : Held k) (bound : ℕ) → phrase_of task.work ≡ Commits k db puts now (Bounding number v)
+      → bound_in (log_of k) db w.store ≡ Some bound → bound < number → IsPutBy (log_of k) (chains k db) (record { party = n; puts = puts; now = now }) number v
+  put_stands k db puts now number v bound e read lt = (knows (Commits k db puts now (Bounding number v)) e).same bound read lt
+
+  -- and so is what a commit ends with
+  pub commit_ends : (k : LogKind) (db : List ℕ) (puts : Puts) (now : ℤ) (phase : CommitPhase (Held k)) (mark : Mark) (moment : ℤ) (to : CommitPhase (Held k)) (number : ℕ) (v : Held k) → phrase_of task.work ≡ Commits k db puts now phase
+      → commit_goes phase (effect mark (commit_asks db k phase) moment w.store).answer ≡ End to (Ok (number, v)) → IsPutBy (log_of k) (chains k db) (record { party = n; puts = puts; now = now }) number v
+  commit_ends k db puts now phase mark moment to number v e answer =
+      ends_of k db w.store (chains k db) (record { party = n; puts = puts; now = now }) (i.logs k db (has_db (Commits k db puts now phase) e)) phase mark moment (knows (Commits k db puts now phase) e) to number v answer
+
+  -- a put that was answered created leads to the read of the boundary
+  pub created_goes_on : (k : LogKind) (db : List ℕ) (puts : Puts) (now : ℤ) (number : ℕ) (bytes : List ℕ) (v : Held k) (tag : ℕ) (moment : ℤ) → phrase_of task.work ≡ Commits k db puts now (Putting number bytes v)
+      → IsIn (Commits k db puts now (Bounding number v)) (moved p.facts task.call task.work moment (Created (Some tag))).next
+  created_goes_on k db puts now number bytes v tag moment e = work_created tag moment p.facts task.call (Commits k db puts now (Bounding number v)) task.work known.fits (ap after_put e)
+
+  -- the step that makes it ends the call with a refusal, or what was put is its own
+  pub own_or_refused : (k : LogKind) (db : List ℕ) (puts : Puts) (now : ℤ) (number : ℕ) (v : Held k) (mark : Mark) (moment : ℤ) → phrase_of task.work ≡ Commits k db puts now (Bounding number v)
+      → IsRefused (moved p.facts task.call task.work moment (effect mark (asks task.work) moment w.store).answer).next ⊎ IsPutBy (log_of k) (chains k db) (record { party = n; puts = puts; now = now }) number v
+  own_or_refused k db puts now number v mark moment e =
+      let phrase = Commits k db puts now (Bounding number v) in
+      refused_or_own w.store moment mark p.facts task.call task.work k db puts now number v (chains k db) (record { party = n; puts = puts; now = now }) (i.logs k db (has_db phrase e)) (knows phrase e) e
+
   -- the step of a commit whose number was collected ends the call with a refusal
   pub late_refused : (k : LogKind) (db : List ℕ) (puts : Puts) (now : ℤ) (number : ℕ) (v : Held k) (front back : List ObjectPath) (mark : Mark) (moment : ℤ) → phrase_of task.work ≡ Commits k db puts now (Bounding number v)
       → AreGood specs events → gone_after specs events ≡ front ++ version_path k db number ∷ back → IsRefused (moved p.facts task.call task.work moment (effect mark (asks task.work) moment w.store).answer).next
@@ -247,9 +378,5 @@ module _ (specs : List DbSpec) (events : List Event) (n : ℕ) (p : Party) (task
           let same_db : h.db ≡ db = cc (same) in
           let same_number : h.number ≡ number = cc (same) in
           let log = i.logs h.log h.db h.has in
-          let read : boundary_at db k w.store ≡ Some log.bound = subst (λ d. boundary_at d k w.store ≡ Some log.bound) same_db (subst (λ j. boundary_at h.db j w.store ≡ Some log.bound) same_log (by_kind h.log h.db log.bound log.read)) in
+          let read : boundary_at db k w.store ≡ Some log.bound = subst (λ d. boundary_at d k w.store ≡ Some log.bound) same_db (subst (λ j. boundary_at h.db j w.store ≡ Some log.bound) same_log (read_by w.store h.log h.db log.bound log.read)) in
           bound_fails db k number v w.store moment mark log.bound read (subst (λ j. j ≤ log.bound) same_number (h.bounded log.bound log.read))
-        where
-          by_kind : (k : LogKind) (db : List ℕ) (b : ℕ) → bound_in (log_of k) db w.store ≡ Some b → boundary_at db k w.store ≡ Some b
-          by_kind logs.Manifest db b e = e
-          by_kind logs.Compactions db b e = e

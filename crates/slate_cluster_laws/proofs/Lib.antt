@@ -45,6 +45,7 @@ mod Undisturbed
 mod StepsTold
 mod Known
 mod Holding
+mod OwnCalls
 mod Removals
 mod Zeros
 mod Tops

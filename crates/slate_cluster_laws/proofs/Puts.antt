@@ -19,7 +19,7 @@ use Rattle.slate_cluster_protocol.specs.Reach.IsNeeded.{Greatest, Named}
 use Rattle.slate_cluster_laws.proofs.Paths.{IsElsewhere, versions_apart, boundary_apart}
 use Rattle.slate_cluster_laws.proofs.Spares.{stays_unnamed}
 use Rattle.slate_cluster_laws.proofs.Facts.IsMade.{OfVersion, OfNone}
-use Rattle.slate_cluster_laws.proofs.Facts.{IsLog, IsCommitted, IsSound, Holds, IsMade, IsNext, Grows}
+use Rattle.slate_cluster_laws.proofs.Facts.{IsLog, IsCommitted, IsSound, HoldsBy, IsMade, IsNext, Grows}
 
 -- what one effect leaves of a log, by an author
 pub record Leaves {V A : Type 0} (log : Log V A) (db : List ℕ) (author : A) (s : Store) (c : List (Link V A)) (s' : Store) (c' : List (Link V A)) : Type 0 where
@@ -271,8 +271,8 @@ module _ {V A : Type 0} (log : Log V A) (db : List ℕ) where
         changed = Stays refl;
       }
 
-      -- so the committed value holds where the boundary has not passed it
-      late_holds : Holds log db after c n (log.normal v)
+      -- so it is the author's where the boundary has not passed it
+      late_holds : HoldsBy log db after c author n v
       late_holds = record {
         same = λ b read lt.
             let same_b : b ≡ i.bound = cc (put_bound, i.read, read) in
@@ -284,13 +284,13 @@ module _ {V A : Type 0} (log : Log V A) (db : List ℕ) where
     fresh_number e (OfVersion old at number makes lawful passed) = after_old e old at number makes lawful passed
     fresh_number e (OfNone number makes) = after_none e number makes
 
-    new_holds : Holds log db after (new ∷ c) n (log.normal v)
-    new_holds = record { same = λ b read lt. record { link = new; at = link_here n new c refl; value = refl } }
+    new_holds : HoldsBy log db after (new ∷ c) author n v
+    new_holds = record { same = λ b read lt. record { link = new; at = link_here n new c refl; bytes = h.encodes; value = refl; by = refl } }
 
     -- either way
     pub record AfterPut (c' : List (Link V A)) : Type 0 where
       pub leaves : Leaves log db author s c after c'
-      pub holds : Holds log db after c' n (log.normal v)
+      pub holds : HoldsBy log db after c' author n v
 
     after_put : (o : Option (Link V A)) → link_at n c ≡ o → AfterPut (if_new o new c)
     after_put None e = record { leaves = put_new (fresh_number e h.made); holds = new_holds }

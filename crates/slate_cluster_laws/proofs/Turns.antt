@@ -26,7 +26,7 @@ use Rattle.slate_cluster_protocol.specs.World.{wrote}
 use Rattle.slate_cluster_laws.proofs.Stores.{IsTidy}
 use Rattle.slate_cluster_laws.proofs.Lists.{listed_small}
 use Rattle.slate_cluster_laws.proofs.Links.{decodes}
-use Rattle.slate_cluster_laws.proofs.Facts.{IsLog, IsSound, IsValue, Holds, IsNext, ReadKnows, ReadBrings, CommitBrings}
+use Rattle.slate_cluster_laws.proofs.Facts.{IsLog, IsSound, IsValue, Holds, HoldsBy, IsNext, ReadKnows, ReadBrings, CommitBrings}
 use Rattle.slate_cluster_laws.proofs.Puts.{Leaves, leaves_not, put_leaves}
 
 -- the chain after a put, where it wrote
@@ -110,12 +110,12 @@ module _ {V A : Type 0} (log : Log V A) (laws : IsLog log) (db : List ℕ) (s : 
   -- ---- commits
 
   module _ (author : A) where
-    commit_test : (n : ℕ) (v : V) (b : ℕ) (t : Bool) → nat_le n b ≡ t → bound_in log db s ≡ Some b → Holds log db s c n (log.normal v)
+    commit_test : (n : ℕ) (v : V) (b : ℕ) (t : Bool) → nat_le n b ≡ t → bound_in log db s ≡ Some b → HoldsBy log db s c author n v
         → CommitBrings log db s c author (if t then End committing.Over (Err (TransactionalObjectVersionExists n (Some b))) else End committing.Over (Ok (n, v)))
     commit_test n v b true is read h = tt
     commit_test n v b false is read h = h.same b read (above_test n b is)
 
-    bounded_brings : (n : ℕ) (v : V) (b : Option ℕ) → bound_in log db s ≡ b → Holds log db s c n (log.normal v) → CommitBrings log db s c author (bounded_goes n v b)
+    bounded_brings : (n : ℕ) (v : V) (b : Option ℕ) → bound_in log db s ≡ b → HoldsBy log db s c author n v → CommitBrings log db s c author (bounded_goes n v b)
     bounded_brings n v None read h = tt
     bounded_brings n v (Some b) read h = commit_test n v b (nat_le n b) refl read h
 
@@ -124,7 +124,7 @@ module _ {V A : Type 0} (log : Log V A) (laws : IsLog log) (db : List ℕ) (s : 
       pub same : o.store ≡ s
       pub brings : CommitBrings log db s c author (commit_goes (committing.Bounding n v) o.answer)
 
-    pub bound_step : (n : ℕ) (v : V) (mark : Mark) (moment : ℤ) → Holds log db s c n (log.normal v) → AfterBound n v (effect mark (commit_asks db log.kind (committing.Bounding n v)) moment s)
+    pub bound_step : (n : ℕ) (v : V) (mark : Mark) (moment : ℤ) → HoldsBy log db s c author n v → AfterBound n v (effect mark (commit_asks db log.kind (committing.Bounding n v)) moment s)
     bound_step n v Good moment h = record { same = refl; brings = bounded_brings n v (bound_in log db s) refl h }
     bound_step n v Fail moment h = record { same = refl; brings = tt }
     bound_step n v Lost moment h = record { same = refl; brings = tt }
@@ -156,7 +156,7 @@ module _ {V A : Type 0} (log : Log V A) (laws : IsLog log) (db : List ℕ) (s : 
       not_put answer b = after_of (record { store = s; answer = answer }) false (wrote_not s.last_tag) (leaves_not log db author s c i, b)
 
       is_put : (answer : StoreAnswer) → object_at path s ≡ None
-          → (Holds log db (stored path bytes moment s) (with_link put c) n (log.normal v) → CommitBrings log db (stored path bytes moment s) (with_link put c) author (commit_goes (committing.Putting n bytes v) answer))
+          → (HoldsBy log db (stored path bytes moment s) (with_link put c) author n v → CommitBrings log db (stored path bytes moment s) (with_link put c) author (commit_goes (committing.Putting n bytes v) answer))
           → AfterPutting (record { store = stored path bytes moment s; answer = answer })
       is_put answer absent b =
           let p = put_leaves log db named laws author s c n bytes v moment i h absent in

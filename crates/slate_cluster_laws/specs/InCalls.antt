@@ -1,12 +1,15 @@
 -- What holds of a party in a call at the end of a run.
-use Rattle.std.specs.Prelude.{◌≡◌, ℕ, ℤ, ◌≤◌, List, ◌∷◌, ◌++◌, Some, Ok}
+use Rattle.std.specs.Prelude.{◌≡◌, ◌⊎◌, ℕ, ℤ, ◌<◌, ◌≤◌, List, ◌∷◌, ◌++◌, Some, Ok}
 use Rattle.slate_ids.specs.declared.gc_message.GcMessage.{GcMessage}
 use Rattle.slate_ids.specs.declared.object_path.ObjectPath.{ObjectPath}
 use Rattle.slate_store.specs.Machines.{End}
 use Rattle.slate_store.specs.Store.{effect}
 use Rattle.slate_store.specs.declared.mark.Mark.{Mark}
+use Rattle.slate_store.specs.declared.store_answer.StoreAnswer.TheVariants.{Created}
+use Rattle.slate_txn_log.specs.CommitPhase.{commit_asks, commit_goes}
 use Rattle.slate_txn_log.specs.LogPaths.{version_path}
 use Rattle.slate_txn_log.specs.ReadPhase.{read_asks, read_goes}
+use Rattle.slate_txn_log.specs.declared.commit_phase.CommitPhase.{CommitPhase}
 use Rattle.slate_txn_log.specs.declared.commit_phase.CommitPhase.TheVariants.{Putting, Bounding}
 use Rattle.slate_txn_log.specs.declared.log_kind.LogKind.{LogKind}
 use Rattle.slate_txn_log.specs.declared.log_kind.LogKind.TheVariants as logs
@@ -15,7 +18,7 @@ use Rattle.slate_gc_passes.specs.declared.pass_phase.PassPhase.{PassPhase}
 use Rattle.slate_script_events.specs.declared.db_spec.DbSpec.{DbSpec}
 use Rattle.slate_script_events.specs.declared.event.Event.{Event}
 use Rattle.slate_cluster_protocol.specs.Chains.{bound_in}
-use Rattle.slate_cluster_protocol.specs.Holding.{IsVersion, IsMadeOf, Each, IsManifestThat, IsRefused, picks_in, due_in}
+use Rattle.slate_cluster_protocol.specs.Holding.{IsIn, IsPutBy, IsVersion, IsMadeOf, Each, IsManifestThat, IsRefused, picks_in, due_in}
 use Rattle.slate_cluster_protocol.specs.Lawful.{chains_at_end, gone_after, world_at_end}
 use Rattle.slate_cluster_protocol.specs.Logs.{Held, Puts, log_of, manifests, phrase_of}
 use Rattle.slate_cluster_protocol.specs.Logs.Phrase.{Reads, Commits, Collects}
@@ -36,6 +39,34 @@ abbrev pub CommitsHold : List DbSpec → List Event → ℕ → Task → Type 0
 CommitsHold specs events n task =
     (k : LogKind) (db : List ℕ) (puts : Puts) (now : ℤ) (number : ℕ) (bytes : List ℕ) (v : Held k) → phrase_of task.work ≡ Commits k db puts now (Putting number bytes v)
     → IsMadeOf k (chains_at_end specs events k db) (record { party = n; puts = puts; now = now }) number v
+
+-- what a party has put, with the boundary to be read next, is the committed version of its number, by this party, where the boundary is below it
+abbrev pub PutsStand : List DbSpec → List Event → ℕ → Task → Type 0
+PutsStand specs events n task =
+    (k : LogKind) (db : List ℕ) (puts : Puts) (now : ℤ) (number : ℕ) (v : Held k) (bound : ℕ) → phrase_of task.work ≡ Commits k db puts now (Bounding number v)
+    → bound_in (log_of k) db (world_at_end specs events).store ≡ Some bound → bound < number
+    → IsPutBy (log_of k) (chains_at_end specs events k db) (record { party = n; puts = puts; now = now }) number v
+
+-- the step of a put that is answered created leads to the read of the boundary
+abbrev pub CreatedGoOn : Party → Task → Type 0
+CreatedGoOn p task =
+    (k : LogKind) (db : List ℕ) (puts : Puts) (now : ℤ) (number : ℕ) (bytes : List ℕ) (v : Held k) (tag : ℕ) (moment : ℤ) → phrase_of task.work ≡ Commits k db puts now (Putting number bytes v)
+    → IsIn (Commits k db puts now (Bounding number v)) (moved p.facts task.call task.work moment (Created (Some tag))).next
+
+-- a version with which the step of a commit ends it is the committed one of its number, by this party, whatever the step was marked
+abbrev pub CommitsEnd : List DbSpec → List Event → ℕ → Task → Type 0
+CommitsEnd specs events n task =
+    (k : LogKind) (db : List ℕ) (puts : Puts) (now : ℤ) (phase : CommitPhase (Held k)) (mark : Mark) (moment : ℤ)
+    → (to : CommitPhase (Held k)) (number : ℕ) (v : Held k) → phrase_of task.work ≡ Commits k db puts now phase
+    → commit_goes phase (effect mark (commit_asks db k phase) moment (world_at_end specs events).store).answer ≡ End to (Ok (number, v))
+    → IsPutBy (log_of k) (chains_at_end specs events k db) (record { party = n; puts = puts; now = now }) number v
+
+-- the step that reads the boundary to commit a number ends the call with a refusal, or what was put is the committed version of the number, by this party
+abbrev pub OwnOrRefused : List DbSpec → List Event → ℕ → Party → Task → Type 0
+OwnOrRefused specs events n p task =
+    (k : LogKind) (db : List ℕ) (puts : Puts) (now : ℤ) (number : ℕ) (v : Held k) (mark : Mark) (moment : ℤ) → phrase_of task.work ≡ Commits k db puts now (Bounding number v)
+    → IsRefused (moved p.facts task.call task.work moment (effect mark (asks task.work) moment (world_at_end specs events).store).answer).next
+    ⊎ IsPutBy (log_of k) (chains_at_end specs events k db) (record { party = n; puts = puts; now = now }) number v
 
 -- a version that the end of a read answers is a committed one, whatever the step was marked
 abbrev pub ReadsAnswer : List DbSpec → List Event → Task → Type 0

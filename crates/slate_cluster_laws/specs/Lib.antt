@@ -1,3 +1,4 @@
 pub mod LogsAtEnd
 pub mod InCalls
+pub mod OwnCalls
 pub mod PassPicks

@@ -22,5 +22,5 @@ pub use parties_known::known_as_told;
 pub use passes_alone::undisturbed_pass;
 pub use safe_parties::{
     above_boundary, changes_fit, commits_hold, due_bounded, epochs_stand, late_put_is_refused,
-    picks_spare, reads_answer,
+    own_calls, own_commits, picks_spare, puts_stand, reads_answer,
 };

@@ -3,14 +3,18 @@ ghost use Rattle.std.specs.Prelude.{◌≡◌, ℕ, ◌<◌, ◌^◌, List, Some
 ghost use Rattle.slate_script_events.specs.declared.db_spec.DbSpec.{DbSpec};
 ghost use Rattle.slate_script_events.specs.declared.event.Event.{Event};
 ghost use Rattle.slate_txn_log.specs.declared.log_kind.LogKind.{LogKind};
+ghost use Rattle.slate_cluster_protocol.specs.ByRows.{nobody};
 ghost use Rattle.slate_cluster_protocol.specs.Holding.{EpochsStand, Fits};
 ghost use Rattle.slate_cluster_protocol.specs.Lawful.{IsAccepted, AreGood, chains_at_end, world_at_end};
+ghost use Rattle.slate_cluster_protocol.specs.Logs.{opening_chains};
+ghost use Rattle.slate_cluster_protocol.specs.Specs.{opening_world};
 ghost use Rattle.slate_cluster_protocol.specs.World.{HasDb, party_of};
 ghost use Rattle.slate_cluster_protocol.specs.declared.party.Party.{Party};
 ghost use Rattle.slate_cluster_protocol.specs.declared.party.State.TheVariants.{Busy};
 ghost use Rattle.slate_cluster_protocol.specs.declared.party.Task.{Task};
-ghost use Rattle.slate_cluster_laws.specs.InCalls.{CommitsHold, DueBounded, InCall, LatePutsAreRefused, PicksSpare, ReadsAnswer};
+ghost use Rattle.slate_cluster_laws.specs.InCalls.{CommitsEnd, CommitsHold, CreatedGoOn, DueBounded, InCall, LatePutsAreRefused, OwnOrRefused, PicksSpare, PutsStand, ReadsAnswer};
 ghost use Rattle.slate_cluster_laws.specs.LogsAtEnd.{bound_at_end, AgreesAtEnd};
+ghost use Rattle.slate_cluster_laws.specs.OwnCalls.{OwnCalls};
 
 /// An object that stands above the boundary has the bytes that were committed at its number, and no other stands there.
 pub fn above_boundary()
@@ -25,6 +29,32 @@ pub fn above_boundary()
 pub fn commits_hold()
     ensures { (specs : List DbSpec) (events : List Event) (n : ℕ) (p : Party) (task : Task)
         → IsAccepted specs → InCall specs events n p task (CommitsHold specs events n task) }
+{}
+
+/// What a party has put, with the boundary to be read next, is the committed version of its number, with its bytes and by this party, where
+/// the boundary is below the number.
+pub fn puts_stand()
+    ensures { (specs : List DbSpec) (events : List Event) (n : ℕ) (p : Party) (task : Task)
+        → IsAccepted specs → InCall specs events n p task (PutsStand specs events n task) }
+{}
+
+/// A put of a version that is answered `created` leads to the read of the boundary; the step that makes it ends the call with a refusal, or what
+/// was put is the committed version of its number, with its bytes and by this party, whatever the step was marked; and so is a version with
+/// which the step of a commit ends it.
+pub fn own_commits()
+    ensures created { (specs : List DbSpec) (events : List Event) (n : ℕ) (p : Party) (task : Task)
+        → IsAccepted specs → InCall specs events n p task (CreatedGoOn p task) }
+    ensures ends { (specs : List DbSpec) (events : List Event) (n : ℕ) (p : Party) (task : Task)
+        → IsAccepted specs → InCall specs events n p task (CommitsEnd specs events n task) }
+    ensures refused { (specs : List DbSpec) (events : List Event) (n : ℕ) (p : Party) (task : Task)
+        → IsAccepted specs → InCall specs events n p task (OwnOrRefused specs events n p task) }
+{}
+
+/// Along each run: where a call has ended without a refusal, each version that it has put with the answer `created` is the committed one of its
+/// number, with these bytes and by its party.
+pub fn own_calls()
+    ensures { (specs : List DbSpec) (events : List Event) → IsAccepted specs
+        → OwnCalls events nobody (opening_world specs) (opening_chains specs) }
 {}
 
 /// What a party in a call puts is what its facts and its call say: the change of the call, and of a compactor that of the step, with its epoch

@@ -22,9 +22,9 @@ use Rattle.slate_txn_log.specs.declared.log_kind.LogKind.{LogKind}
 use Rattle.slate_txn_log.specs.declared.log_kind.LogKind.TheVariants as logs
 use Rattle.slate_gc_passes.specs.declared.pass_phase.PassPhase.{PassPhase}
 use Rattle.slate_gc_passes.specs.declared.pass_phase.PassPhase.TheVariants as passing
-use Rattle.slate_cluster_protocol.specs.Calls.{change_of, new_info, record_change_of, Next, Finish}
-use Rattle.slate_cluster_protocol.specs.Chains.{Link, link_at}
-use Rattle.slate_cluster_protocol.specs.Logs.{Author, Held, Chain, Chains, log_of}
+use Rattle.slate_cluster_protocol.specs.Calls.{change_of, new_info, record_change_of, Next, Go, Finish}
+use Rattle.slate_cluster_protocol.specs.Chains.{Link, Log, link_at}
+use Rattle.slate_cluster_protocol.specs.Logs.{Author, Held, Chain, Chains, Phrase, log_of, phrase_of}
 use Rattle.slate_cluster_protocol.specs.declared.party.Facts.{Facts}
 use Rattle.slate_cluster_protocol.specs.declared.party.Party.{Party}
 use Rattle.slate_cluster_protocol.specs.declared.party.State.{State}
@@ -46,6 +46,14 @@ pub record IsVersion {V A : Type 0} (c : List (Link V A)) (n : ℕ) (v : V) : Ty
   pub link : Link V A
   pub at : link_at n c ≡ Some link
   pub value : link.value ≡ v
+
+-- what an author put is the committed version of its number: the link has its bytes, what is read back of them, and this author
+pub record IsPutBy {V A : Type 0} (log : Log V A) (c : List (Link V A)) (author : A) (n : ℕ) (v : V) : Type 0 where
+  pub link : Link V A
+  pub at : link_at n c ≡ Some link
+  pub bytes : log.encoded v ≡ Ok link.bytes
+  pub value : link.value ≡ log.normal v
+  pub by : link.by ≡ Some author
 
 -- what an author commits at a number is what it makes of the committed version before; of none, where the number is the first
 pub data IsMadeOf (k : LogKind) (c : Chain k) (author : Author) (n : ℕ) (v : Held k) : Type 0 where
@@ -78,6 +86,12 @@ pub record IsManifestThat (db : List ℕ) (P : ℕ → Type 0) (m : ObjectMetada
 pub record IsRefused (next : Next) : Type 0 where
   pub error : SlateDBError
   pub is : next ≡ Finish (Refused error)
+
+-- a call that goes on in a phrase
+pub record IsIn (phrase : Phrase) (next : Next) : Type 0 where
+  pub work : Work
+  pub is : next ≡ Go work
+  pub same : phrase_of work ≡ phrase
 
 -- a number is at most the epoch of the greatest version of a chain, which has one
 abbrev pub AtMostTop : {V A : Type 0} → (V → ℕ) → ℕ → List (Link V A) → Type 0
