@@ -1,5 +1,5 @@
 -- What a call knows of its work, and what a step of it brings.
-use Rattle.std.proofs.Common.{◌≡◌, ℕ, ℤ, Bool, true, false, List, Option, Some, None, Ok, Err, refl, sym, ap, subst}
+use Rattle.std.proofs.Common.{◌≡◌, ℕ, ℤ, Bool, true, false, List, Option, Some, None, Ok, Err, refl, sym, subst}
 use Rattle.slate_txn_changes.specs.LogWorks.{WorkGoes, work_goes}
 use Rattle.slate_txn_changes.specs.declared.log_work.LogEnd.{LogEnd}
 use Rattle.slate_txn_changes.specs.declared.log_work.LogEnd.TheVariants.{Absent, Unchanged, Committed}
@@ -39,9 +39,9 @@ use Rattle.slate_store.specs.declared.store_answer.StoreAnswer.{StoreAnswer}
 use Rattle.slate_store.specs.declared.store_answer.StoreAnswer.TheVariants.{Written}
 use Rattle.slate_state_updates.specs.ManifestChanges.{commit_of}
 use Rattle.slate_state_updates.specs.declared.manifest_change.ManifestChange.TheVariants.{DropExpired}
-use Rattle.slate_cluster_protocol.specs.Calls.{end_of, facts_after, facts_at_start, facts_with, has_call, local_in, pass_settings, refusal_at_start, state_phase, unless_open, with_held, Next, Go, Finish}
+use Rattle.slate_cluster_protocol.specs.Calls.{end_of, facts_after, facts_at_start, facts_with, has_call, local_in, refusal_at_start, state_phase, unless_open, with_held, Next, Go, Finish}
 use Rattle.slate_cluster_protocol.specs.Chains.{link_at}
-use Rattle.slate_cluster_protocol.specs.Holding.{Fits, FitsState}
+use Rattle.slate_cluster_protocol.specs.Holding.{Fits, FitsState, IsOfLog, pass_log}
 use Rattle.slate_cluster_protocol.specs.Logs.{Chains, OfManifest, log_of, pass_phrase, phrase_of}
 use Rattle.slate_cluster_protocol.specs.Rows.{Standing, begin, begin_unless, compactor_on, first_next, manifest_on, moved, open_on, pass_on, put_on, record_on, state_on}
 use Rattle.slate_cluster_protocol.specs.Works.{db_of, pass_ways}
@@ -53,15 +53,15 @@ use Rattle.slate_cluster_laws.proofs.Changing.{ChangeBrings, ManifestBrings, Rec
 use Rattle.slate_cluster_laws.proofs.Facts.{IsSound}
 use Rattle.slate_cluster_laws.proofs.FactsKept.{SameParty, moved_same, starts_same}
 use Rattle.slate_cluster_laws.proofs.Opens.{Given, OpenBrings, OpenKnows, Raised, kept_given, kept_open, kept_raised, open_brings}
-use Rattle.slate_cluster_laws.proofs.Passes.{PassKnows, PassBrings, manifest_pass}
+use Rattle.slate_cluster_laws.proofs.Passes.{PassKnows, PassBrings, bounded_pass}
 use Rattle.slate_cluster_laws.proofs.StateCalls.{BeginsAs, StateBrings, state_begins, state_brings}
 use Rattle.slate_cluster_laws.proofs.Steps.{PhraseKnows, PhraseBrings}
 
 -- ---- what is known
 
--- a pass is one over the manifests that keeps the boundary
+-- a pass is one over a log, and keeps its boundary
 abbrev pub IsOver : Work → Type 0
-IsOver (works.Pass db settings filter phase) = settings ≡ manifest_pass settings.options
+IsOver (works.Pass db settings filter phase) = IsOfLog settings.pass × (settings ≡ bounded_pass settings.pass settings.options)
 IsOver _ = Unit {0}
 
 -- an open knows of the epoch that it raised
@@ -107,6 +107,12 @@ kept_work chains chains' _ kept h = tt
 
 -- ---- a step
 
+-- what a pass over a log knows before its list
+first_knows : (s : Store) (chains : Chains) (db : List ℕ) (pass : GcMessage) → IsOfLog pass → PassKnows (log_of (pass_log pass)) db s (chains (pass_log pass) db) (first_phase pass)
+first_knows s chains db of.Manifest h = tt
+first_knows s chains db of.Compactions h = tt
+first_knows s chains db _ h = absurd (cc (h))
+
 module _ (s : Store) (chains : Chains) (n : ℕ) (call : Call) (facts : Facts) (holds : Holds chains facts.db facts.compactor) where
   -- how a call goes on with the facts as they are, or to its end with facts that hold as much
   abbrev Stands : Standing → Type 0
@@ -142,7 +148,7 @@ module _ (s : Store) (chains : Chains) (n : ℕ) (call : Call) (facts : Facts) (
 
     -- ---- a whole pass
 
-    module _ (settings : PassSettings) (filter : FilterWord) (over : settings ≡ manifest_pass settings.options) (fits : (phase : GcPhase) → Fits facts call (works.Pass db settings filter phase)) where
+    module _ (settings : PassSettings) (filter : FilterWord) (over : IsOfLog settings.pass × (settings ≡ bounded_pass settings.pass settings.options)) (fits : (phase : GcPhase) → Fits facts call (works.Pass db settings filter phase)) where
       abbrev GcBrings : GcGoes → Type 0
       GcBrings (Stay phase) = PhraseKnows s chains n (pass_phrase db settings.pass phase)
       GcBrings (End phase r) = Unit {0}
@@ -152,12 +158,12 @@ module _ (s : Store) (chains : Chains) (n : ℕ) (call : Call) (facts : Facts) (
       pass_stands (End phase (Ok counts)) b = (holds, tt)
       pass_stands (End phase (Err e)) b = (holds, tt)
 
-      is_manifest : settings.pass ≡ of.Manifest
-      is_manifest = ap (λ (x : PassSettings). x.pass) over
+      abbrev Collected : PassGoes → Type 0
+      Collected g = PassBrings (log_of (pass_log settings.pass)) db s (chains (pass_log settings.pass) db) g
 
       -- it begins with its list
       begins : GcBrings (collects settings.pass)
-      begins = (is_manifest, subst (λ (p : GcMessage). PassKnows s (chains logs.Manifest db) db (first_phase p)) (sym is_manifest) tt)
+      begins = (over.0, first_knows s chains db settings.pass over.0)
 
       -- after a step of the removal of expired checkpoints
       removed_brings : (g : WorkGoes Manifest) → ChangeBrings logs.Manifest db s chains n (OfManifest DropExpired) (commit_of encoded DropExpired) g → GcBrings (removed_goes settings.pass g)
@@ -167,8 +173,8 @@ module _ (s : Store) (chains : Chains) (n : ℕ) (call : Call) (facts : Facts) (
       removed_brings (End work (Ok (Committed k m))) b = begins
       removed_brings (End work (Err e)) b = tt
 
-      collect_brings : (at : Option ℤ) (now : ℤ) (g : PassGoes) → PassBrings s (chains logs.Manifest db) db g → GcBrings (collect_on at now g)
-      collect_brings at now (Stay phase) b = (is_manifest, b)
+      collect_brings : (at : Option ℤ) (now : ℤ) (g : PassGoes) → Collected g → GcBrings (collect_on at now g)
+      collect_brings at now (Stay phase) b = (over.0, b)
       collect_brings at now (End phase r) b = tt
 
       gc_brings : (phase : GcPhase) (now : ℤ) (answer : StoreAnswer) → PhraseBrings s chains n (pass_phrase db settings.pass phase) now answer → GcBrings (gc_goes (pass_ways filter) settings now phase answer)
@@ -178,7 +184,7 @@ module _ (s : Store) (chains : Chains) (n : ℕ) (call : Call) (facts : Facts) (
       gc_brings (Collecting at phase) now answer b =
           let moment = moment_of_pass at now in
           collect_brings at moment (pass_goes (pass_ways filter) settings moment phase answer)
-          (subst (λ (x : PassSettings). PassBrings s (chains logs.Manifest db) db (pass_goes (pass_ways filter) x moment phase answer)) (sym over) (b settings.options filter moment))
+          (subst (λ (x : PassSettings). Collected (pass_goes (pass_ways filter) x moment phase answer)) (sym over.1) (b settings.options filter moment))
 
     -- ---- the calls of a compactor
 
@@ -230,14 +236,15 @@ upload_is_id Writer table first last h = h
 upload_is_id Worker table first last h = h
 upload_is_id _ table first last h = absurd cc
 
--- a pass that a party may start is one over the manifests
-over_manifests : (kind : PartyKind) (pass : GcMessage) (min_age : ℕ) (dry_run : Bool) (filter : FilterWord) → has_call kind (Pass pass min_age dry_run filter) ≡ true → pass ≡ of.Manifest
-over_manifests Collector of.Manifest min_age dry_run filter h = refl
-over_manifests Writer pass min_age dry_run filter h = absurd cc
-over_manifests CompactorKind pass min_age dry_run filter h = absurd cc
-over_manifests Worker pass min_age dry_run filter h = absurd cc
-over_manifests Holder pass min_age dry_run filter h = absurd cc
-over_manifests Collector _ min_age dry_run filter h = absurd cc
+-- a pass that a party may start is one over a log
+over_log : (kind : PartyKind) (pass : GcMessage) (min_age : ℕ) (dry_run : Bool) (filter : FilterWord) → has_call kind (Pass pass min_age dry_run filter) ≡ true → IsOfLog pass
+over_log Collector of.Manifest min_age dry_run filter h = refl
+over_log Collector of.Compactions min_age dry_run filter h = refl
+over_log Writer pass min_age dry_run filter h = absurd cc
+over_log CompactorKind pass min_age dry_run filter h = absurd cc
+over_log Worker pass min_age dry_run filter h = absurd cc
+over_log Holder pass min_age dry_run filter h = absurd cc
+over_log Collector _ min_age dry_run filter h = absurd cc
 
 module _ (s : Store) (chains : Chains) (n : ℕ) (facts : Facts) where
   -- a call of a compactor on its state begins with the compactor that is held
@@ -257,7 +264,7 @@ module _ (s : Store) (chains : Chains) (n : ℕ) (facts : Facts) where
   }
   first_reached (Pass pass min_age dry_run filter) may go = record {
     own = refl;
-    over = ap (λ (p : GcMessage). pass_settings p min_age dry_run) (over_manifests facts.kind pass min_age dry_run filter may);
+    over = (over_log facts.kind pass min_age dry_run filter may, refl);
     fits = refl;
     holds = tt;
     knows = tt;

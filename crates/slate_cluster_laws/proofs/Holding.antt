@@ -38,6 +38,7 @@ use Rattle.slate_gc_passes.specs.declared.pass_phase.PassPhase.{PassPhase}
 use Rattle.slate_gc_passes.specs.declared.pass_phase.PassPhase.TheVariants as passing
 use Rattle.slate_txn_log.specs.Advance.{boundary_at}
 use Rattle.slate_txn_log.specs.CommitPhase.{CommitGoes, commit_asks, commit_goes, created_goes, bounded_goes}
+use Rattle.slate_store.specs.declared.object.ObjectMetadata.{ObjectMetadata}
 use Rattle.slate_txn_log.specs.LogPaths.{version_path}
 use Rattle.slate_txn_log.specs.ReadPhase.{Reply, read_asks, read_goes}
 use Rattle.slate_txn_log.specs.declared.commit_phase.CommitPhase.{CommitPhase}
@@ -46,10 +47,10 @@ use Rattle.slate_txn_log.specs.declared.log_kind.LogKind.{LogKind}
 use Rattle.slate_txn_log.specs.declared.log_kind.LogKind.TheVariants as logs
 use Rattle.slate_txn_log.specs.declared.read_phase.ReadPhase.{ReadPhase}
 use Rattle.slate_cluster_protocol.specs.Chains.{Link, Log, bound_in, AgreesAt}
-use Rattle.slate_cluster_protocol.specs.Holding.{Fits, FitsState, IsIn, IsPutBy, IsVersion, IsMadeOf, Each, IsManifestThat, IsRefused, picks_in, due_in}
+use Rattle.slate_cluster_protocol.specs.Holding.{Fits, FitsState, IsIn, IsPutBy, IsVersion, IsMadeOf, Each, IsRefused, picks_in, due_in, IsVersionThat, pass_log}
 use Rattle.slate_cluster_protocol.specs.Holding.IsMadeOf.{OfVersion as Makes, OfNone as Begins}
 use Rattle.slate_cluster_protocol.specs.Lawful.{IsAccepted, AreGood, chains_at_end, course_after, gone_after}
-use Rattle.slate_cluster_protocol.specs.Logs.{Held, Chain, Chains, Author, Phrase, Puts, OfManifest, change_phrase, log_of, manifest_phrase, manifest_puts, manifests, phrase_of, record_phrase, record_puts, state_phrase, world_after}
+use Rattle.slate_cluster_protocol.specs.Logs.{Held, Chain, Chains, Author, Phrase, Puts, OfManifest, change_phrase, log_of, manifest_phrase, manifest_puts, phrase_of, record_phrase, record_puts, state_phrase, world_after}
 use Rattle.slate_cluster_protocol.specs.Logs.Phrase.{Reads, Commits, Collects}
 use Rattle.slate_cluster_protocol.specs.Owners.{owner_of}
 use Rattle.slate_cluster_protocol.specs.Owners.Owner.{Version}
@@ -80,6 +81,7 @@ use Rattle.slate_cluster_laws.proofs.Runs.{Inv, StateKnows}
 use Rattle.slate_cluster_laws.proofs.Steps.{PhraseKnows, db_in, work_db}
 use Rattle.slate_cluster_laws.proofs.Stores.{IsTidy}
 use Rattle.slate_cluster_laws.proofs.Turns.{above_test, read_step, bound_step}
+use Rattle.slate_cluster_laws.proofs.Tallies.{its_kind}
 
 pub above_bound : (specs : List DbSpec) (events : List Event) (k : LogKind) (db : List ℕ) (bound number : ℕ) → IsAccepted specs → HasDb (world_after events (opening_world specs)) db
     → bound_in (log_of k) db (world_after events (opening_world specs)).store ≡ Some bound → bound < number → number < 2 ^ 64
@@ -318,20 +320,26 @@ module _ (specs : List DbSpec) (events : List Event) (n : ℕ) (p : Party) (task
       → IsMadeOf k (chains k db) (record { party = n; puts = puts; now = now }) number v
   commit_holds k db puts now number bytes v e = made_of k (chains k db) _ number v (knows (Commits k db puts now (Putting number bytes v)) e).made
 
-  all_spare : (db : List ℕ) (phase : PassPhase) → PassKnows w.store (chains logs.Manifest db) db phase → Each (IsManifestThat db (IsSpare manifests (chains logs.Manifest db))) (picks_in phase)
-  all_spare db (passing.Advancing phase left counts) h = each_is db _ (IsSpare manifests (chains logs.Manifest db)) (λ k w. w.1) left h.1
-  all_spare db (passing.Deleting left counts) h = each_is db _ (IsSpare manifests (chains logs.Manifest db)) (λ k w. w.1) left h
-  all_spare db _ h = tt
+  -- where each is a version of a log, by the path of the log
+  at_log : (k : LogKind) (db : List ℕ) (P : ℕ → Type 0) (ms : List ObjectMetadata) → Each (IsVersionThat (log_of k).kind db P) ms → Each (IsVersionThat k db P) ms
+  at_log k db P ms h = subst (λ j. Each (IsVersionThat j db P) ms) (its_kind k) h
 
-  pub spare_picks : (db : List ℕ) (pass : GcMessage) (phase : PassPhase) → phrase_of task.work ≡ Collects db pass phase → Each (IsManifestThat db (IsSpare manifests (chains logs.Manifest db))) (picks_in phase)
-  spare_picks db pass phase e = all_spare db phase (knows (Collects db pass phase) e).1
+  all_spare : (k : LogKind) (db : List ℕ) (phase : PassPhase) → PassKnows (log_of k) db w.store (chains k db) phase → Each (IsVersionThat k db (IsSpare (log_of k) (chains k db))) (picks_in phase)
+  all_spare k db (passing.Advancing phase left counts) h = at_log k db _ left (each_is (log_of k).kind db _ (IsSpare (log_of k) (chains k db)) (λ n w. w.1) left h.1)
+  all_spare k db (passing.Deleting left counts) h = at_log k db _ left (each_is (log_of k).kind db _ (IsSpare (log_of k) (chains k db)) (λ n w. w.1) left h)
+  all_spare k db _ h = tt
 
-  all_bounded : (db : List ℕ) (bound : ℕ) → bound_in manifests db w.store ≡ Some bound → (phase : PassPhase) → PassKnows w.store (chains logs.Manifest db) db phase → Each (IsManifestThat db (λ k. k ≤ bound)) (due_in phase)
-  all_bounded db bound read (passing.Deleting left counts) h = each_is db _ (λ k. k ≤ bound) (λ k w. w.0.reached bound read) left h
-  all_bounded db bound read _ h = tt
+  pub spare_picks : (db : List ℕ) (pass : GcMessage) (phase : PassPhase) → phrase_of task.work ≡ Collects db pass phase
+      → Each (IsVersionThat (pass_log pass) db (IsSpare (log_of (pass_log pass)) (chains (pass_log pass) db))) (picks_in phase)
+  spare_picks db pass phase e = all_spare (pass_log pass) db phase (knows (Collects db pass phase) e).1
 
-  pub bounded_due : (db : List ℕ) (pass : GcMessage) (phase : PassPhase) (bound : ℕ) → phrase_of task.work ≡ Collects db pass phase → bound_in manifests db w.store ≡ Some bound → Each (IsManifestThat db (λ k. k ≤ bound)) (due_in phase)
-  bounded_due db pass phase bound e read = all_bounded db bound read phase (knows (Collects db pass phase) e).1
+  all_bounded : (k : LogKind) (db : List ℕ) (bound : ℕ) → bound_in (log_of k) db w.store ≡ Some bound → (phase : PassPhase) → PassKnows (log_of k) db w.store (chains k db) phase → Each (IsVersionThat k db (λ n. n ≤ bound)) (due_in phase)
+  all_bounded k db bound read (passing.Deleting left counts) h = at_log k db _ left (each_is (log_of k).kind db _ (λ n. n ≤ bound) (λ n w. w.0.reached bound read) left h)
+  all_bounded k db bound read _ h = tt
+
+  pub bounded_due : (db : List ℕ) (pass : GcMessage) (phase : PassPhase) (bound : ℕ) → phrase_of task.work ≡ Collects db pass phase → bound_in (log_of (pass_log pass)) db w.store ≡ Some bound
+      → Each (IsVersionThat (pass_log pass) db (λ n. n ≤ bound)) (due_in phase)
+  bounded_due db pass phase bound e read = all_bounded (pass_log pass) db bound read phase (knows (Collects db pass phase) e).1
 
   -- the database of a phrase is one of the cluster
   has_db : (phrase : Phrase) → phrase_of task.work ≡ phrase → HasDb w (db_in phrase)

@@ -1,4 +1,4 @@
--- What a list of manifests tells after the boundary was written, and after objects were deleted.
+-- What a list of the versions of a log tells after its boundary was written, and after objects were deleted.
 use Rattle.std.proofs.Common.{◌≡◌, ℕ, ℤ, Bool, true, false, List, [], ◌∷◌, map, filter, Option, Some, None, refl, sym, ap, ◌∙◌, subst, cond}
 use Rattle.std.specs.Prelude.{◌||◌, not, decimal, bytes_eq}
 use Rattle.std.specs.Map.{remove_entry}
@@ -10,29 +10,34 @@ use Rattle.std.specs.declared.cmp.Ordering.TheVariants.{Less, Equal, Greater}
 use Rattle.slate_ids.specs.Ids.{is_db_path}
 use Rattle.slate_ids.specs.PathText.{path_text, path_cmp}
 use Rattle.slate_ids.specs.declared.object_path.ObjectPath.{ObjectPath}
-use Rattle.slate_ids.specs.declared.object_path.ObjectPath.TheVariants as paths
 use Rattle.slate_ids.proofs.PathsApart.{same_path}
 use Rattle.slate_store.specs.Folders.{is_in}
 use Rattle.slate_store.specs.Store.{Store, object_at, has_tag, metadata, listed, removed, put_new, replace, whole}
-use Rattle.slate_store.specs.declared.list_dir.ListDir.TheVariants.{Manifests}
 use Rattle.slate_store.specs.declared.object.ObjectMetadata.{ObjectMetadata}
 use Rattle.slate_store.specs.declared.object.StoredObject.{StoredObject}
 use Rattle.slate_txn_log.specs.AdvancePhase.{advance_asks}
-use Rattle.slate_txn_log.specs.LogPaths.{boundary_path}
+use Rattle.slate_txn_log.specs.LogPaths.{boundary_path, folder}
 use Rattle.slate_txn_log.specs.declared.advance_phase.AdvancePhase.{AdvancePhase}
 use Rattle.slate_txn_log.specs.declared.advance_phase.AdvancePhase.TheVariants as advancing
-use Rattle.slate_txn_log.specs.declared.log_kind.LogKind.TheVariants.{Manifest as ManifestLog}
+use Rattle.slate_txn_log.specs.declared.log_kind.LogKind.{LogKind}
+use Rattle.slate_txn_log.specs.declared.log_kind.LogKind.TheVariants.{Manifest as ManifestLog, Compactions as RecordLog}
 use Rattle.slate_script_events.specs.WrittenFilters.{lies_at}
 use Rattle.slate_cluster_protocol.specs.Alone.{without}
 use Rattle.slate_cluster_laws.proofs.Ordered.{IsAbove, IsOrdered}
 use Rattle.slate_store.proofs.LookUps.{test_is, bytes_same, same_bytes, same_found}
+use Rattle.slate_cluster_laws.proofs.Paths.{boundary_fine}
 use Rattle.slate_cluster_laws.proofs.Stores.{IsTidy}
 
 abbrev Entries : Type 0
 Entries = List (ObjectPath × StoredObject)
 
-abbrev manifests_in : List ℕ → Entries → List ObjectMetadata
-manifests_in db es = map metadata (filter (λ o. is_in (Manifests db) o.0) es)
+abbrev versions_in : LogKind → List ℕ → Entries → List ObjectMetadata
+versions_in k db es = map metadata (filter (λ o. is_in (folder k db) o.0) es)
+
+-- the boundary isn't in the folder of its log
+boundary_off : (k : LogKind) (db : List ℕ) → is_in (folder k db) (boundary_path k db) ≡ false
+boundary_off ManifestLog db = refl
+boundary_off RecordLog db = refl
 
 -- ---- without some objects
 
@@ -56,50 +61,50 @@ without_one p ps (m ∷ ms) = test (bytes_eq (path_text m.location) (path_text p
         step true rest = rest
         step false rest = ap (λ (xs : List ObjectMetadata). m ∷ xs) rest
 
-module _ (db : List ℕ) where
-  listed_more : (b : Bool) (e : ObjectPath × StoredObject) (es : Entries) → is_in (Manifests db) e.0 ≡ b → manifests_in db (e ∷ es) ≡ cond b (metadata e ∷ manifests_in db es) (manifests_in db es)
-  listed_more true e es is = ap (λ (b : Bool). map metadata (cond b (e ∷ filter (λ o. is_in (Manifests db) o.0) es) (filter (λ o. is_in (Manifests db) o.0) es))) is
-  listed_more false e es is = ap (λ (b : Bool). map metadata (cond b (e ∷ filter (λ o. is_in (Manifests db) o.0) es) (filter (λ o. is_in (Manifests db) o.0) es))) is
+module _ (k : LogKind) (db : List ℕ) where
+  listed_more : (b : Bool) (e : ObjectPath × StoredObject) (es : Entries) → is_in (folder k db) e.0 ≡ b → versions_in k db (e ∷ es) ≡ cond b (metadata e ∷ versions_in k db es) (versions_in k db es)
+  listed_more true e es is = ap (λ (b : Bool). map metadata (cond b (e ∷ filter (λ o. is_in (folder k db) o.0) es) (filter (λ o. is_in (folder k db) o.0) es))) is
+  listed_more false e es is = ap (λ (b : Bool). map metadata (cond b (e ∷ filter (λ o. is_in (folder k db) o.0) es) (filter (λ o. is_in (folder k db) o.0) es))) is
 
-  same_more : (e : ObjectPath × StoredObject) (es fs : Entries) → manifests_in db es ≡ manifests_in db fs → manifests_in db (e ∷ es) ≡ manifests_in db (e ∷ fs)
-  same_more e es fs same = test (is_in (Manifests db) e.0) refl
+  same_more : (e : ObjectPath × StoredObject) (es fs : Entries) → versions_in k db es ≡ versions_in k db fs → versions_in k db (e ∷ es) ≡ versions_in k db (e ∷ fs)
+  same_more e es fs same = test (is_in (folder k db) e.0) refl
     where
-      test : (b : Bool) → is_in (Manifests db) e.0 ≡ b → manifests_in db (e ∷ es) ≡ manifests_in db (e ∷ fs)
+      test : (b : Bool) → is_in (folder k db) e.0 ≡ b → versions_in k db (e ∷ es) ≡ versions_in k db (e ∷ fs)
       test true is = listed_more true e es is ∙ (ap (λ (ms : List ObjectMetadata). metadata e ∷ ms) same ∙ sym (listed_more true e fs is))
       test false is = listed_more false e es is ∙ (same ∙ sym (listed_more false e fs is))
 
   -- ---- the boundary isn't in the folder
 
   module _ (named : is_db_path db ≡ true) where
-    boundary_not : (v : StoredObject) (es : Entries) → IsTidy es → manifests_in db (insert_entry path_cmp es (paths.ManifestBoundary db) v) ≡ manifests_in db es
-    boundary_not v [] tidy = refl
-    boundary_not v (e ∷ es) tidy = step (path_cmp (paths.ManifestBoundary db) e.0) refl (boundary_not v es tidy.1)
+    boundary_not : (v : StoredObject) (es : Entries) → IsTidy es → versions_in k db (insert_entry path_cmp es (boundary_path k db) v) ≡ versions_in k db es
+    boundary_not v [] tidy = listed_more false (boundary_path k db, v) [] (boundary_off k db)
+    boundary_not v (e ∷ es) tidy = step (path_cmp (boundary_path k db) e.0) refl (boundary_not v es tidy.1)
       where
-        step : (o : Ordering) → path_cmp (paths.ManifestBoundary db) e.0 ≡ o → manifests_in db (insert_entry path_cmp es (paths.ManifestBoundary db) v) ≡ manifests_in db es
-            → manifests_in db (match_ordering o ((paths.ManifestBoundary db, v) ∷ e ∷ es) ((e.0, v) ∷ es) (e ∷ insert_entry path_cmp es (paths.ManifestBoundary db) v)) ≡ manifests_in db (e ∷ es)
-        step Less at rest = refl
+        step : (o : Ordering) → path_cmp (boundary_path k db) e.0 ≡ o → versions_in k db (insert_entry path_cmp es (boundary_path k db) v) ≡ versions_in k db es
+            → versions_in k db (match_ordering o ((boundary_path k db, v) ∷ e ∷ es) ((e.0, v) ∷ es) (e ∷ insert_entry path_cmp es (boundary_path k db) v)) ≡ versions_in k db (e ∷ es)
+        step Less at rest = listed_more false (boundary_path k db, v) (e ∷ es) (boundary_off k db)
         step Equal at rest =
-            let same : paths.ManifestBoundary db ≡ e.0 = same_path (paths.ManifestBoundary db) e.0 named tidy.0 (same_found (paths.ManifestBoundary db) e.0 (ap is_eq at)) in
-            let off : is_in (Manifests db) e.0 ≡ false = ap (is_in (Manifests db)) (sym same) in
+            let same : boundary_path k db ≡ e.0 = same_path (boundary_path k db) e.0 (boundary_fine db named k) tidy.0 (same_found (boundary_path k db) e.0 (ap is_eq at)) in
+            let off : is_in (folder k db) e.0 ≡ false = ap (is_in (folder k db)) (sym same) ∙ boundary_off k db in
             listed_more false (e.0, v) es off ∙ sym (listed_more false e es off)
-        step Greater at rest = same_more e (insert_entry path_cmp es (paths.ManifestBoundary db) v) es rest
+        step Greater at rest = same_more e (insert_entry path_cmp es (boundary_path k db) v) es rest
 
     put_listed : (bytes : List ℕ) (moment : ℤ) (s : Store) → IsTidy s.objects → (o : Option StoredObject)
-        → listed (Manifests db) (put_new o (boundary_path ManifestLog db) bytes moment s).store ≡ listed (Manifests db) s
+        → listed (folder k db) (put_new o (boundary_path k db) bytes moment s).store ≡ listed (folder k db) s
     put_listed bytes moment s tidy (Some object) = refl
     put_listed bytes moment s tidy None = boundary_not _ s.objects tidy
 
     replace_listed : (bytes : List ℕ) (moment : ℤ) (s : Store) → IsTidy s.objects → (b : Bool)
-        → listed (Manifests db) (replace b (boundary_path ManifestLog db) bytes moment s).store ≡ listed (Manifests db) s
+        → listed (folder k db) (replace b (boundary_path k db) bytes moment s).store ≡ listed (folder k db) s
     replace_listed bytes moment s tidy false = refl
     replace_listed bytes moment s tidy true = boundary_not _ s.objects tidy
 
     -- a step of an advance leaves the list
     pub advance_listed : (moment : ℤ) (s : Store) → IsTidy s.objects → (phase : AdvancePhase)
-        → listed (Manifests db) (whole (advance_asks db ManifestLog phase) moment s).store ≡ listed (Manifests db) s
+        → listed (folder k db) (whole (advance_asks db k phase) moment s).store ≡ listed (folder k db) s
     advance_listed moment s tidy (advancing.Bounding n) = refl
-    advance_listed moment s tidy (advancing.Creating n) = put_listed (decimal n) moment s tidy (object_at (boundary_path ManifestLog db) s)
-    advance_listed moment s tidy (advancing.Replacing n tag) = replace_listed (decimal n) moment s tidy (has_tag tag (object_at (boundary_path ManifestLog db) s))
+    advance_listed moment s tidy (advancing.Creating n) = put_listed (decimal n) moment s tidy (object_at (boundary_path k db) s)
+    advance_listed moment s tidy (advancing.Replacing n tag) = replace_listed (decimal n) moment s tidy (has_tag tag (object_at (boundary_path k db) s))
     advance_listed moment s tidy advancing.Over = refl
 
   -- ---- a deleted object
@@ -123,19 +128,19 @@ module _ (db : List ℕ) where
     without_more e false ms is = ap (λ (c : Bool). cond (not (c || false)) (metadata e ∷ without (p ∷ []) ms) (without (p ∷ []) ms)) (told_by e false is)
 
     -- an entry at another path stays
-    other_stays : (e : ObjectPath × StoredObject) (es fs : Entries) → is_at (path_cmp p.location) e.0 ≡ false → manifests_in db es ≡ without (p ∷ []) (manifests_in db fs)
-        → manifests_in db (e ∷ es) ≡ without (p ∷ []) (manifests_in db (e ∷ fs))
-    other_stays e es fs off rest = test (is_in (Manifests db) e.0) refl
+    other_stays : (e : ObjectPath × StoredObject) (es fs : Entries) → is_at (path_cmp p.location) e.0 ≡ false → versions_in k db es ≡ without (p ∷ []) (versions_in k db fs)
+        → versions_in k db (e ∷ es) ≡ without (p ∷ []) (versions_in k db (e ∷ fs))
+    other_stays e es fs off rest = test (is_in (folder k db) e.0) refl
       where
-        test : (b : Bool) → is_in (Manifests db) e.0 ≡ b → manifests_in db (e ∷ es) ≡ without (p ∷ []) (manifests_in db (e ∷ fs))
+        test : (b : Bool) → is_in (folder k db) e.0 ≡ b → versions_in k db (e ∷ es) ≡ without (p ∷ []) (versions_in k db (e ∷ fs))
         test true is =
             listed_more true e es is
             ∙ (ap (λ (ms : List ObjectMetadata). metadata e ∷ ms) rest
-            ∙ (sym (without_more e false (manifests_in db fs) off) ∙ ap (without (p ∷ [])) (sym (listed_more true e fs is))))
+            ∙ (sym (without_more e false (versions_in k db fs) off) ∙ ap (without (p ∷ [])) (sym (listed_more true e fs is))))
         test false is = listed_more false e es is ∙ (rest ∙ ap (without (p ∷ [])) (sym (listed_more false e fs is)))
 
     -- it isn't among those above it
-    none_above : (es : Entries) → IsAbove p.location es → manifests_in db es ≡ without (p ∷ []) (manifests_in db es)
+    none_above : (es : Entries) → IsAbove p.location es → versions_in k db es ≡ without (p ∷ []) (versions_in k db es)
     none_above [] h = refl
     none_above (e ∷ es) h = other_stays e es es (ap is_eq h.0) (none_above es h.1)
 
@@ -144,19 +149,19 @@ module _ (db : List ℕ) where
     above_same e [] same h = tt
     above_same e (f ∷ es) same h = (ap (λ (text : List ℕ). slice_cmp nat_cmp text (path_text f.0)) same ∙ h.0, above_same e es same h.1)
 
-    left_objects : (es : Entries) → IsOrdered es → manifests_in db (remove_entry (is_at (path_cmp p.location)) es) ≡ without (p ∷ []) (manifests_in db es)
+    left_objects : (es : Entries) → IsOrdered es → versions_in k db (remove_entry (is_at (path_cmp p.location)) es) ≡ without (p ∷ []) (versions_in k db es)
     left_objects [] h = refl
     left_objects (e ∷ es) h = test (is_at (path_cmp p.location) e.0) refl (left_objects es h.1)
       where
-        test : (b : Bool) → is_at (path_cmp p.location) e.0 ≡ b → manifests_in db (remove_entry (is_at (path_cmp p.location)) es) ≡ without (p ∷ []) (manifests_in db es)
-            → manifests_in db (cond b es (e ∷ remove_entry (is_at (path_cmp p.location)) es)) ≡ without (p ∷ []) (manifests_in db (e ∷ es))
-        test true is rest = none_above es (above_same e.0 es (same_found p.location e.0 is) h.0) ∙ sym (dropped (is_in (Manifests db) e.0) refl)
+        test : (b : Bool) → is_at (path_cmp p.location) e.0 ≡ b → versions_in k db (remove_entry (is_at (path_cmp p.location)) es) ≡ without (p ∷ []) (versions_in k db es)
+            → versions_in k db (cond b es (e ∷ remove_entry (is_at (path_cmp p.location)) es)) ≡ without (p ∷ []) (versions_in k db (e ∷ es))
+        test true is rest = none_above es (above_same e.0 es (same_found p.location e.0 is) h.0) ∙ sym (dropped (is_in (folder k db) e.0) refl)
           where
-            dropped : (b : Bool) → is_in (Manifests db) e.0 ≡ b → without (p ∷ []) (manifests_in db (e ∷ es)) ≡ without (p ∷ []) (manifests_in db es)
-            dropped true there = ap (without (p ∷ [])) (listed_more true e es there) ∙ without_more e true (manifests_in db es) is
+            dropped : (b : Bool) → is_in (folder k db) e.0 ≡ b → without (p ∷ []) (versions_in k db (e ∷ es)) ≡ without (p ∷ []) (versions_in k db es)
+            dropped true there = ap (without (p ∷ [])) (listed_more true e es there) ∙ without_more e true (versions_in k db es) is
             dropped false there = ap (without (p ∷ [])) (listed_more false e es there)
         test false is rest = other_stays e (remove_entry (is_at (path_cmp p.location)) es) es is rest
 
     -- after a delete the list is without the object at its path
-    pub delete_listed : (s : Store) → IsOrdered s.objects → listed (Manifests db) (removed p.location s) ≡ without (p ∷ []) (listed (Manifests db) s)
+    pub delete_listed : (s : Store) → IsOrdered s.objects → listed (folder k db) (removed p.location s) ≡ without (p ∷ []) (listed (folder k db) s)
     delete_listed s ordered = left_objects s.objects ordered

@@ -32,6 +32,7 @@ mod OpeningTables
 mod Opening
 mod Exact
 mod ManifestPicks
+mod LogPicks
 mod ExactByRule
 mod Safety
 mod Rising

@@ -35,7 +35,8 @@ numbers k db es = map metadata (filter (λ o. is_in (folder k db) o.0) es)
 
 -- ---- the versions of a log
 
-number_back : (k : LogKind) (db : List ℕ) (n : ℕ) → number_of k (version_path k db n) ≡ Some n
+-- the number of a version's path
+pub number_back : (k : LogKind) (db : List ℕ) (n : ℕ) → number_of k (version_path k db n) ≡ Some n
 number_back Manifest db n = refl
 number_back Compactions db n = refl
 
@@ -44,11 +45,11 @@ is_listed Manifest db n = bytes_same db
 is_listed Compactions db n = bytes_same db
 
 -- what a folder of versions lists
-record IsListed (k : LogKind) (db : List ℕ) (p : ObjectPath) : Type 0 where
+pub record IsListed (k : LogKind) (db : List ℕ) (p : ObjectPath) : Type 0 where
   pub number : ℕ
   pub is : p ≡ version_path k db number
 
-listed_is : (k : LogKind) (db : List ℕ) (p : ObjectPath) → is_in (folder k db) p ≡ true → IsListed k db p
+pub listed_is : (k : LogKind) (db : List ℕ) (p : ObjectPath) → is_in (folder k db) p ≡ true → IsListed k db p
 listed_is Manifest db (paths.Manifest of n) h = record { number = n; is = ap (λ d. paths.Manifest d n) (sym (same_bytes db of h)) }
 listed_is Manifest db _ h = absurd cc
 listed_is Compactions db (paths.Record of n) h = record { number = n; is = ap (λ d. paths.Record d n) (sym (same_bytes db of h)) }
@@ -167,6 +168,10 @@ module _ {V A : Type 0} (log : Log V A) (db : List ℕ) (named : is_db_path db �
       by_object None e h stands = absurd cc
       by_object (Some object) e h stands = by_link (link_at n c) object.bytes refl (sym (ap bytes_of e) ∙ stands)
 
+  -- no number of the list is above the greatest committed one
+  pub listed_most : IsTidy s.objects → IfSome (greatest log.kind (listed (folder log.kind db) s)) (λ n. n ≤ top c)
+  listed_most tidy = list_has (λ n. n ≤ top c) log.kind db s stands_most tidy
+
   -- the boundary is below the greatest version, where there is one
   pub bound_below : 0 < top c → i.bound < top c
   bound_below some = ⊎_elim (λ (no : i.bound ≤ 0). omega arith) (λ (pos : 0 < i.bound). i.below pos) (le_or_lt i.bound 0)
@@ -186,7 +191,7 @@ module _ {V A : Type 0} (log : Log V A) (db : List ℕ) (named : is_db_path db �
   -- the greatest number of the list is the greatest committed one, where there is one
   pub list_top : 0 < top c → IsTidy s.objects → greatest log.kind (listed (folder log.kind db) s) ≡ Some (top c)
   list_top some tidy =
-      exact (greatest log.kind (listed (folder log.kind db) s)) (list_has (λ n. n ≤ top c) log.kind db s stands_most tidy) (has_least log.kind (top c) None (listed (folder log.kind db) s) (top_found some tidy))
+      exact (greatest log.kind (listed (folder log.kind db) s)) (listed_most tidy) (has_least log.kind (top c) None (listed (folder log.kind db) s) (top_found some tidy))
     where
       both : (a b : ℕ) → a ≤ b → b ≤ a → a ≡ b
       both a b h k = omega arith

@@ -1,33 +1,25 @@
 -- What a pass over the manifests picks, by the phase in which its answers begin.
-use Rattle.std.proofs.Common.{◌≡◌, ℕ, ℤ, nat_le, Bool, true, false, List, [], ◌∷◌, length, Option, Some, None, Result, Ok, Err, refl, sym, ap, ◌∙◌}
+use Rattle.std.proofs.Common.{◌≡◌, ℕ, ℤ, nat_le, Bool, true, false, List, [], ◌∷◌, length, Option, Some, None, Result, Ok, Err, refl, ◌∙◌}
 use Rattle.std.specs.Prelude.{if◌then◌else◌}
 use Rattle.std.specs.Option.{option_or}
 use Rattle.slate_ids.specs.declared.error.SlateDBError.{SlateDBError}
 use Rattle.slate_ids.specs.declared.error.SlateDBError.TheVariants.{ManifestMissing}
 use Rattle.slate_ids.specs.declared.gc_message.GcMessage.TheVariants as of
-use Rattle.slate_layout.specs.Codec.{encoded}
 use Rattle.slate_layout_manifests.specs.Decoding.{decoded_manifest}
 use Rattle.slate_model.specs.declared.manifest.Manifest.{Manifest}
 use Rattle.slate_store.specs.Machines.{Stay, End}
 use Rattle.slate_store.specs.declared.object.ObjectMetadata.{ObjectMetadata}
 use Rattle.slate_store.specs.declared.object.StoredObject.{StoredObject}
 use Rattle.slate_store.specs.declared.store_answer.StoreAnswer.TheVariants.{Found, Got}
-use Rattle.slate_script_events.specs.declared.call.Call.{Call}
-use Rattle.slate_script_events.specs.declared.call.Call.TheVariants as calls
 use Rattle.slate_script_events.specs.declared.filter_word.FilterWord.{FilterWord}
-use Rattle.slate_script_events.specs.declared.reply.Reply.TheVariants.{Refused}
 use Rattle.slate_txn_log.specs.Boundary.{boundary_got, greatest}
-use Rattle.slate_txn_log.specs.CommitPhase.{CommitGoes, commit_goes}
-use Rattle.slate_txn_log.specs.ReadPhase.{Reply, read_goes}
-use Rattle.slate_txn_log.specs.declared.commit_phase.CommitPhase.{CommitPhase}
 use Rattle.slate_txn_log.specs.declared.log_kind.LogKind.TheVariants.{Manifest as ManifestLog}
 use Rattle.slate_gc_passes.specs.Exact.{chosen, or_nothing, picked_above, picked_along}
-use Rattle.slate_gc_passes.specs.GcPhase.{GcGoes, collect_on, commit_on, gc_goes, gc_start, moment_of_pass, read_on, removal_goes}
+use Rattle.slate_gc_passes.specs.GcPhase.{GcGoes, collect_on, moment_of_pass}
 use Rattle.slate_gc_passes.specs.Pass.{bounded_goes, chosen_goes, decoded_goes, manifests_goes}
 use Rattle.slate_gc_passes.specs.declared.directory_options.GarbageCollectorDirectoryOptions.{GarbageCollectorDirectoryOptions}
 use Rattle.slate_gc_passes.specs.declared.gc_phase.GcPhase.{GcPhase}
-use Rattle.slate_txn_changes.specs.declared.log_work.LogWork.TheVariants.{Reading, Committing}
-use Rattle.slate_gc_passes.specs.declared.gc_phase.GcPhase.TheVariants.{Removing, Collecting}
+use Rattle.slate_gc_passes.specs.declared.gc_phase.GcPhase.TheVariants.{Collecting}
 use Rattle.slate_gc_passes.specs.declared.heads.Heads.{Heads}
 use Rattle.slate_gc_passes.specs.declared.pass_counts.PassCounts.{PassCounts}
 use Rattle.slate_gc_passes.specs.declared.pass_phase.PassPhase.TheVariants as passing
@@ -35,16 +27,11 @@ use Rattle.slate_gc_passes.specs.declared.pass_settings.PassSettings.{PassSettin
 use Rattle.slate_gc_picks.specs.Ages.{aged}
 use Rattle.slate_gc_picks.specs.Filter.{picks}
 use Rattle.slate_gc_picks.specs.VersionPicks.{unneeded}
-use Rattle.slate_state_updates.specs.ManifestChanges.{commit_of}
-use Rattle.slate_state_updates.specs.declared.manifest_change.ManifestChange.TheVariants.{DropExpired}
-use Rattle.slate_cluster_protocol.specs.Calls.{pass_settings}
-use Rattle.slate_cluster_protocol.specs.Passes.{manifest_picks, picks_at, picks_of, picks_read, pass_answers, picked, picked_so_far, reply_of}
-use Rattle.slate_cluster_protocol.specs.Rows.{Answered, Standing}
+use Rattle.slate_cluster_protocol.specs.Passes.{manifest_picks, manifests_read, picks_at, picks_of}
+use Rattle.slate_cluster_protocol.specs.Rows.{Answered}
 use Rattle.slate_cluster_protocol.specs.Specs.{listed_or_none}
 use Rattle.slate_cluster_protocol.specs.Works.{pass_ways}
-use Rattle.slate_cluster_protocol.specs.declared.party.Facts.{Facts}
-use Rattle.slate_cluster_laws.proofs.Exact.{standing_at, went, replied_answers}
-use Rattle.slate_cluster_laws.proofs.Passes.{manifest_pass}
+use Rattle.slate_cluster_laws.proofs.Passes.{bounded_pass}
 
 -- ---- of its answers
 
@@ -123,7 +110,7 @@ module _ (settings : PassSettings) (word : FilterWord) where
   second_same now found (_, at) boundary answers = none_listed now found (greatest ManifestLog found) _ (λ n ms. refl)
 
   -- what the answers of a pass have picked
-  pub picks_same : (answers : List Answered) → listed_or_none (picks_read settings word answers) ≡ list_picks answers
+  pub picks_same : (answers : List Answered) → listed_or_none (manifests_read settings word answers) ≡ list_picks answers
   picks_same [] = refl
   picks_same ((Found found, now) ∷ []) = none_listed now found (greatest ManifestLog found) [] (λ n ms. refl)
   picks_same ((Found found, now) ∷ (Got (Some object), at) ∷ []) = two_same now found object at [] (λ n ms. refl)
@@ -137,7 +124,7 @@ module _ (settings : PassSettings) (word : FilterWord) where
 
 module _ (options : GarbageCollectorDirectoryOptions) (word : FilterWord) where
   abbrev settings : PassSettings
-  settings = manifest_pass options
+  settings = bounded_pass of.Manifest options
 
   -- the objects that the machine has picked from here on
   abbrev picked_from : GcGoes → List Answered → List ObjectMetadata
@@ -182,62 +169,8 @@ module _ (options : GarbageCollectorDirectoryOptions) (word : FilterWord) where
   listed_from now found None answers = none_ended _ _ answers
   listed_from now found (Some n) answers = get_from (Some now) n (length found) (aged options.min_age now found) answers
 
-  list_from : (heads : Heads) (versions : List (ℕ × Manifest)) (answers : List Answered) → picked_from (Stay (Collecting None (passing.Listing heads versions))) answers ≡ list_picks settings word answers
+  -- from its list on
+  pub list_from : (heads : Heads) (versions : List (ℕ × Manifest)) (answers : List Answered) → picked_from (Stay (Collecting None (passing.Listing heads versions))) answers ≡ list_picks settings word answers
   list_from heads versions [] = refl
   list_from heads versions ((Found found, now) ∷ answers) = listed_from now found (greatest ManifestLog found) answers
   list_from heads versions ((_, now) ∷ answers) = none_ended _ _ answers
-
--- a pass that still removes, or that is to list
-abbrev pub IsRemoval : GcPhase → Type 0
-IsRemoval (Removing (Reading phase)) = Unit {0}
-IsRemoval (Removing (Committing now phase)) = Unit {0}
-IsRemoval (Collecting None (passing.Listing heads versions)) = Unit {0}
-IsRemoval (Collecting _ _) = ⊥
-
-abbrev Removes : GcGoes → Type 0
-Removes (Stay phase) = IsRemoval phase
-Removes (End phase r) = Unit {0}
-
-removal_removes : (now : ℤ) (n : ℕ) (m : Manifest) (r : Result (Option (CommitPhase Manifest)) SlateDBError) → Removes (removal_goes of.Manifest now n m r)
-removal_removes now n m (Ok (Some commit)) = tt
-removal_removes now n m (Ok None) = tt
-removal_removes now n m (Err e) = tt
-
-read_removes : (now : ℤ) (g : Reply Manifest) → Removes (read_on encoded of.Manifest now g)
-read_removes now (Stay phase) = tt
-read_removes now (End phase (Ok None)) = tt
-read_removes now (End phase (Ok (Some version))) = removal_removes now version.0 version.1 (commit_of encoded DropExpired now version.0 version.1)
-read_removes now (End phase (Err e)) = tt
-
-commit_removes : (made : ℤ) (g : CommitGoes Manifest) → Removes (commit_on of.Manifest made g)
-commit_removes made (Stay phase) = tt
-commit_removes made (End phase (Ok version)) = tt
-commit_removes made (End phase (Err e)) = tt
-
-module _ (facts : Facts) (min_age : ℕ) (dry_run : Bool) (word : FilterWord) where
-  abbrev call : Call
-  call = calls.Pass of.Manifest min_age dry_run word
-
-  abbrev own : PassSettings
-  own = pass_settings of.Manifest min_age dry_run
-
-  abbrev at_goes : GcGoes → Standing
-  at_goes g = standing_at facts call facts.db own word g
-
-  -- the picks of the answers from where the call stands are those of its machine
-  picks_from : (answers : List Answered) (g : GcGoes) → Removes g → (or_nothing (picked_along (pass_ways word) own g answers)).objects ≡ listed_or_none (picks_read own word (pass_answers call (at_goes g) answers))
-  picks_from [] g h = refl
-  picks_from (a ∷ answers) (End phase (Ok counts)) h = sym (ap (λ (xs : List Answered). listed_or_none (picks_read own word xs)) (replied_answers call facts (reply_of counts) answers))
-  picks_from (a ∷ answers) (End phase (Err e)) h = sym (ap (λ (xs : List Answered). listed_or_none (picks_read own word xs)) (replied_answers call facts (Refused e) answers))
-  picks_from (a ∷ answers) (Stay (Removing (Reading phase))) h =
-      picks_from answers (gc_goes (pass_ways word) own a.1 (Removing (Reading phase)) a.0) (read_removes a.1 (read_goes ManifestLog decoded_manifest phase a.0))
-      ∙ sym (ap (λ (st : Standing). listed_or_none (picks_read own word (pass_answers call st answers))) (went facts call facts.db own word (Removing (Reading phase)) a))
-  picks_from (a ∷ answers) (Stay (Removing (Committing made phase))) h =
-      picks_from answers (gc_goes (pass_ways word) own a.1 (Removing (Committing made phase)) a.0) (commit_removes made (commit_goes phase a.0))
-      ∙ sym (ap (λ (st : Standing). listed_or_none (picks_read own word (pass_answers call st answers))) (went facts call facts.db own word (Removing (Committing made phase)) a))
-  picks_from (a ∷ answers) (Stay (Collecting None (passing.Listing heads versions))) h = list_from own.options word heads versions (a ∷ answers) ∙ sym (picks_same own word (a ∷ answers))
-  picks_from (a ∷ answers) (Stay (Collecting _ _)) h = absurd h
-
-  -- what a pass over the manifests has picked is what its answers to the list, to the get of the greatest and to the get of the boundary give
-  pub picks_are : (answers : List Answered) → (picked_so_far own word answers).objects ≡ picked facts call own word answers
-  picks_are answers = picks_from answers (Stay gc_start) tt

@@ -11,13 +11,13 @@ use Rattle.slate_store.specs.declared.store_answer.StoreAnswer.{StoreAnswer}
 use Rattle.slate_store.specs.declared.store_call.StoreCall.{StoreCall}
 use Rattle.slate_txn_log.specs.declared.commit_phase.CommitPhase.TheVariants as committing
 use Rattle.slate_txn_log.specs.declared.log_kind.LogKind.{LogKind}
-use Rattle.slate_txn_log.specs.declared.log_kind.LogKind.TheVariants as logs
 use Rattle.slate_script_events.specs.declared.call.Call.{Call}
 use Rattle.slate_script_events.specs.declared.event.Event.{Event}
 use Rattle.slate_script_events.specs.declared.event.Event.TheVariants.{Open, Start, Step, Stop}
 use Rattle.slate_script_events.specs.declared.party_kind.PartyKind.{PartyKind}
 use Rattle.slate_cluster_protocol.specs.Chains.{Changed, link_at}
 use Rattle.slate_cluster_protocol.specs.Chains.Changed.{Stays}
+use Rattle.slate_cluster_protocol.specs.Holding.{pass_log}
 use Rattle.slate_cluster_protocol.specs.Logs.{Author, log_of, Chain, Chains, Phrase, Reads, Commits, Uploads, Collects, phrase_of, put_by, chains_put, chains_stepped, chains_state, chains_at, chains_after, world_after, chains_of}
 use Rattle.slate_cluster_protocol.specs.Rows.{Standing, begin, moved}
 use Rattle.slate_cluster_protocol.specs.Works.{db_of, asks}
@@ -75,7 +75,7 @@ phrase_kept : (s : Store) (chains : Chains) (s' : Store) (chains' : Chains) (n :
 phrase_kept s chains s' chains' n (Reads k db phase) g h = kept_read (log_of k) db s (chains k db) s' (chains' k db) g phase h
 phrase_kept s chains s' chains' n (Commits k db puts now phase) g h = kept_commit (log_of k) db s (chains k db) s' (chains' k db) g (author_of n puts now) phase h
 phrase_kept s chains s' chains' n (Uploads db table bytes) g h = h
-phrase_kept s chains s' chains' n (Collects db pass phase) g h = (h.0, kept_pass s (chains logs.Manifest db) s' (chains' logs.Manifest db) db g phase h.1)
+phrase_kept s chains s' chains' n (Collects db pass phase) g h = (h.0, kept_pass (log_of (pass_log pass)) db s (chains (pass_log pass) db) s' (chains' (pass_log pass) db) g phase h.1)
 
 module _ (s : Store) (chains : Chains) (s' : Store) (chains' : Chains) (d : List ℕ) (grows : (k : LogKind) → LogGrows s chains s' chains' k d) where
   versions_kept : (k : LogKind) (n : ℕ) (l : _) → link_at n (chains k d) ≡ Some l → link_at n (chains' k d) ≡ Some l

@@ -28,8 +28,8 @@ use Rattle.slate_gc_passes.specs.declared.pass_phase.PassPhase.{PassPhase}
 use Rattle.slate_gc_passes.specs.declared.pass_phase.PassPhase.TheVariants as passing
 use Rattle.slate_cluster_protocol.specs.ByRows.{AllTold, all_told_after, entry_store}
 use Rattle.slate_cluster_protocol.specs.Chains.{bound_in}
-use Rattle.slate_cluster_protocol.specs.Holding.{IsManifestThat}
-use Rattle.slate_cluster_protocol.specs.Logs.{Chains, Phrase, Reads, Commits, Uploads, Collects, log_of, manifests, phrase_of, chains_state, chains_at, chains_after, chains_of}
+use Rattle.slate_cluster_protocol.specs.Holding.{IsVersionThat, pass_log}
+use Rattle.slate_cluster_protocol.specs.Logs.{Chains, Phrase, Reads, Commits, Uploads, Collects, log_of, phrase_of, chains_state, chains_at, chains_after, chains_of}
 use Rattle.slate_cluster_protocol.specs.Owners.{owner_of}
 use Rattle.slate_cluster_protocol.specs.Owners.Owner.{Version}
 use Rattle.slate_cluster_protocol.specs.Reach.{IsNeeded, InReach, Reachable, IsSpare}
@@ -52,6 +52,7 @@ use Rattle.slate_cluster_laws.proofs.Rows.{AllMatch, ended, event_brings, all_af
 use Rattle.slate_cluster_laws.proofs.Runs.{Inv, StateKnows, log_after, same_tallies, event_inv}
 use Rattle.slate_cluster_laws.proofs.Spares.{not_needed}
 use Rattle.slate_cluster_laws.proofs.Steps.{PhraseKnows, db_in, phrase_asks, work_asks, work_db}
+use Rattle.slate_cluster_laws.proofs.Tallies.{its_kind}
 use Rattle.slate_cluster_laws.proofs.Zeros.{NoZero, zero_stays}
 
 -- ---- what an event leaves of each log
@@ -148,12 +149,15 @@ module _ (w : World) (chains : Chains) (v : World) (chains' : Chains) (a : Event
   all_stay [] h = tt
   all_stay (path ∷ paths) h = (stays_gone path h.0, all_stay paths h.1)
 
-  -- and so does what a delete of a manifest removes that is spare and at or below the boundary
-  delete_gone : (db : List ℕ) (m : ObjectMetadata) (b : Bool) → HasDb w db → IsManifestThat db (λ n. IsReached manifests db w.store n × IsSpare manifests (chains logs.Manifest db) n) m → AllCollected v chains' (path_if b m.location)
-  delete_gone db m true has h = (stays_gone m.location (record { log = logs.Manifest; db = db; number = h.number; is = h.is; has = has; spare = h.has.1; bounded = h.has.0.reached }), tt)
-  delete_gone db m false has h = tt
+  -- and so does what a delete of a version removes that is spare and at or below the boundary
+  delete_gone : (k : LogKind) (db : List ℕ) (m : ObjectMetadata) (b : Bool) → HasDb w db → IsVersionThat (log_of k).kind db (λ n. IsReached (log_of k) db w.store n × IsSpare (log_of k) (chains k db) n) m
+      → AllCollected v chains' (path_if b m.location)
+  delete_gone k db m true has h =
+      let is = h.is ∙ ap (λ j. version_path j db h.number) (its_kind k) in
+      (stays_gone m.location (record { log = k; db = db; number = h.number; is = is; has = has; spare = h.has.1; bounded = h.has.0.reached }), tt)
+  delete_gone k db m false has h = tt
 
-  collect_gone : (db : List ℕ) (pass : GcMessage) (phase : PassPhase) (s : Store) → HasDb w db → PassKnows w.store (chains logs.Manifest db) db phase → AllCollected v chains' (removed_by_call (pass_asks db pass phase) w.store s)
+  collect_gone : (db : List ℕ) (pass : GcMessage) (phase : PassPhase) (s : Store) → HasDb w db → PassKnows (log_of (pass_log pass)) db w.store (chains (pass_log pass) db) phase → AllCollected v chains' (removed_by_call (pass_asks db pass phase) w.store s)
   collect_gone db pass (passing.Listing heads versions) s has k = tt
   collect_gone db pass (passing.Getting n listed found) s has k = tt
   collect_gone db pass (passing.Bounding n listed candidates) s has k = tt
@@ -162,7 +166,7 @@ module _ (w : World) (chains : Chains) (v : World) (chains' : Chains) (a : Event
   collect_gone db pass (passing.Advancing (advancing.Replacing n tag) left counts) s has k = tt
   collect_gone db pass (passing.Advancing advancing.Over left counts) s has k = tt
   collect_gone db pass (passing.Deleting [] counts) s has k = tt
-  collect_gone db pass (passing.Deleting (m ∷ ms) counts) s has k = delete_gone db m (took_away m.location w.store s) has k.0
+  collect_gone db pass (passing.Deleting (m ∷ ms) counts) s has k = delete_gone (pass_log pass) db m (took_away m.location w.store s) has k.0
   collect_gone db pass _ s has k = absurd k
 
   read_gone : {T : Type 0} (db : List ℕ) (k : LogKind) (phase : ReadPhase T) (s : Store) → AllCollected v chains' (removed_by_call (read_asks db k phase) w.store s)

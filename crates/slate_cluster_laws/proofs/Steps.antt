@@ -31,6 +31,7 @@ use Rattle.slate_gc_passes.specs.declared.pass_phase.PassPhase.{PassPhase}
 use Rattle.slate_script_events.specs.declared.filter_word.FilterWord.{FilterWord}
 use Rattle.slate_script_events.specs.declared.filter_word.FilterWord.TheVariants.{Nothing}
 use Rattle.slate_cluster_protocol.specs.Chains.{Link, with_link}
+use Rattle.slate_cluster_protocol.specs.Holding.{IsOfLog, pass_log}
 use Rattle.slate_cluster_protocol.specs.Logs.{Author, Puts, OfManifest, First, manifest_puts, record_puts, Held, log_of, Chain, Chains, Phrase, Reads, Commits, Uploads, Collects, change_phrase, manifest_phrase, record_phrase, phrase_of, Put, put_by, chain_with, chains_put}
 use Rattle.slate_cluster_protocol.specs.Works.{db_of, asks, pass_ways}
 use Rattle.slate_cluster_protocol.specs.World.{wrote}
@@ -44,16 +45,17 @@ use Rattle.slate_cluster_laws.proofs.Manifests.{log_laws}
 use Rattle.slate_cluster_laws.proofs.Paths.{AreApart, nobodys_elsewhere, table_nobodys}
 use Rattle.slate_cluster_laws.proofs.Puts.{Leaves, leaves_not, elsewhere_leaves}
 use Rattle.slate_cluster_laws.proofs.Turns.{chain_if, read_step, bound_step, put_step}
-use Rattle.slate_cluster_laws.proofs.Passes.{PassKnows, PassBrings, manifest_pass, pass_step}
+use Rattle.slate_cluster_laws.proofs.Passes.{PassKnows, PassBrings, AfterPass, bounded_pass, manifest_step, record_step}
 
 -- ---- phrases
 
--- the log of a phrase, and its database; the put of a table is of no log, and leaves that of manifests as it is
+-- the log of a phrase, and its database: of a pass, the one whose versions it deletes; the put of a table is of no log, and leaves that of manifests
+-- as it is
 abbrev pub log_in : Phrase → LogKind
 log_in (Reads k db phase) = k
 log_in (Commits k db puts now phase) = k
 log_in (Uploads db table bytes) = logs.Manifest
-log_in (Collects db pass phase) = logs.Manifest
+log_in (Collects db pass phase) = pass_log pass
 
 abbrev pub db_in : Phrase → List ℕ
 db_in (Reads k db phase) = db
@@ -137,7 +139,7 @@ abbrev pub PhraseKnows : Store → Chains → ℕ → Phrase → Type 0
 PhraseKnows s chains n (Reads k db phase) = ReadKnows (log_of k) db s (chains k db) phase
 PhraseKnows s chains n (Commits k db puts now phase) = CommitKnows (log_of k) db s (chains k db) (author_of n puts now) phase
 PhraseKnows s chains n (Uploads db table bytes) = is_id table ≡ true
-PhraseKnows s chains n (Collects db pass phase) = (pass ≡ of.Manifest) × PassKnows s (chains logs.Manifest db) db phase
+PhraseKnows s chains n (Collects db pass phase) = IsOfLog pass × PassKnows (log_of (pass_log pass)) db s (chains (pass_log pass) db) phase
 
 -- what a phrase's answer at a moment brings
 abbrev pub PhraseBrings : Store → Chains → ℕ → Phrase → ℤ → StoreAnswer → Type 0
@@ -145,7 +147,8 @@ PhraseBrings s chains n (Reads k db phase) moment answer = ReadBrings (log_of k)
 PhraseBrings s chains n (Commits k db puts now phase) moment answer = CommitBrings (log_of k) db s (chains k db) (author_of n puts now) (commit_goes phase answer)
 PhraseBrings s chains n (Uploads db table bytes) moment answer = Unit {0}
 PhraseBrings s chains n (Collects db pass phase) moment answer =
-    (options : GarbageCollectorDirectoryOptions) (word : FilterWord) (now : ℤ) → PassBrings s (chains logs.Manifest db) db (pass_goes (pass_ways word) (manifest_pass options) now phase answer)
+    (options : GarbageCollectorDirectoryOptions) (word : FilterWord) (now : ℤ)
+    → PassBrings (log_of (pass_log pass)) db s (chains (pass_log pass) db) (pass_goes (pass_ways word) (bounded_pass pass options) now phase answer)
 
 -- ---- the chain of this log after a put, and those of the others
 
@@ -247,24 +250,28 @@ module _ (s : Store) (chains : Chains) (n : ℕ) (tidy : IsTidy s.objects) (mark
         brings = tt;
       }
 
-  -- a step of what a pass over the manifests collects; what it leaves of its log doesn't hang on its options, its filter and its moment
-  manifests_collect : (db : List ℕ) (named : is_db_path db ≡ true) (i : IsSound (log_of logs.Manifest) db s (chains logs.Manifest db)) (phase : PassPhase) → PassKnows s (chains logs.Manifest db) db phase
-      → AfterPhrase s chains n (Collects db of.Manifest phase) mark moment
-  manifests_collect db named i phase h =
+  -- a step of what a pass collects, by its steps under all settings: what it leaves of its log doesn't hang on its options, its filter and its moment
+  collect_step : (db : List ℕ) (pass : GcMessage) → IsSound (log_of (pass_log pass)) db s (chains (pass_log pass) db) → (phase : PassPhase)
+      → ((options : GarbageCollectorDirectoryOptions) (word : FilterWord) (now : ℤ)
+      → AfterPass (log_of (pass_log pass)) db (author_of n First (pos 0)) s (chains (pass_log pass) db) (bounded_pass pass options) word now phase (effect mark (pass_asks db pass phase) moment s))
+      → AfterPhrase s chains n (Collects db pass phase) mark moment
+  collect_step db pass i phase step =
+      let k = pass_log pass in
       let author = author_of n First (pos 0) in
-      let o = effect mark (pass_asks db of.Manifest phase) moment s in
-      let c = chains logs.Manifest db in
-      let chain = none_put (wrote s o.store) chains logs.Manifest db in
-      let step = λ (options : GarbageCollectorDirectoryOptions) (word : FilterWord) (now : ℤ). pass_step db named author options word now s c i tidy phase mark moment h in
+      let o = effect mark (pass_asks db pass phase) moment s in
+      let chain = none_put (wrote s o.store) chains k db in
       record {
-        leaves = subst (λ (d : Chain logs.Manifest). Leaves (log_of logs.Manifest) db author s c o.store d) (sym chain) (step default_options Nothing moment).leaves;
-        brings = λ options word now. subst (λ (d : Chain logs.Manifest). PassBrings o.store d db (pass_goes (pass_ways word) (manifest_pass options) now phase o.answer)) (sym chain) (step options word now).brings;
+        leaves = subst (λ (c : Chain k). Leaves (log_of k) db author s (chains k db) o.store c) (sym chain) (step default_options Nothing moment).leaves;
+        brings = λ options word now. subst (λ (c : Chain k). PassBrings (log_of k) db o.store c (pass_goes (pass_ways word) (bounded_pass pass options) now phase o.answer)) (sym chain) (step options word now).brings;
       }
 
-  -- a step of what a pass collects
-  collects : (db : List ℕ) (pass : GcMessage) (named : is_db_path db ≡ true) (i : IsSound (log_of logs.Manifest) db s (chains logs.Manifest db)) (phase : PassPhase) → (pass ≡ of.Manifest) × PassKnows s (chains logs.Manifest db) db phase
-      → AfterPhrase s chains n (Collects db pass phase) mark moment
-  collects db pass named i phase h = subst (λ (p : GcMessage). AfterPhrase s chains n (Collects db p phase) mark moment) (sym h.0) (manifests_collect db named i phase h.1)
+  collects : (db : List ℕ) (pass : GcMessage) (named : is_db_path db ≡ true) (i : IsSound (log_of (pass_log pass)) db s (chains (pass_log pass) db)) (phase : PassPhase)
+      → IsOfLog pass × PassKnows (log_of (pass_log pass)) db s (chains (pass_log pass) db) phase → AfterPhrase s chains n (Collects db pass phase) mark moment
+  collects db of.Manifest named i phase h =
+      collect_step db of.Manifest i phase (λ options word now. manifest_step db named (author_of n First (pos 0)) options word now s (chains logs.Manifest db) i tidy phase mark moment h.1)
+  collects db of.Compactions named i phase h =
+      collect_step db of.Compactions i phase (λ options word now. record_step db named (author_of n First (pos 0)) options word now s (chains logs.Compactions db) i tidy phase mark moment h.1)
+  collects db _ named i phase h = absurd (cc (h.0))
 
   pub phrase_step : (phrase : Phrase) → is_db_path (db_in phrase) ≡ true → IsSound (log_of (log_in phrase)) (db_in phrase) s (chains (log_in phrase) (db_in phrase)) → PhraseKnows s chains n phrase → AfterPhrase s chains n phrase mark moment
   phrase_step (Reads k db phase) named i h = reads k db i phase h

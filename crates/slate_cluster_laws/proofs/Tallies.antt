@@ -22,12 +22,12 @@ use Rattle.slate_txn_log.specs.declared.log_kind.LogKind.TheVariants as logs
 use Rattle.slate_txn_log.specs.declared.read_phase.ReadPhase.{ReadPhase}
 use Rattle.slate_txn_log.specs.declared.read_phase.ReadPhase.TheVariants as reading
 use Rattle.slate_ids.specs.declared.gc_message.GcMessage.{GcMessage}
-use Rattle.slate_ids.specs.declared.gc_message.GcMessage.TheVariants as of
 use Rattle.slate_gc_passes.specs.Pass.{pass_asks}
 use Rattle.slate_gc_passes.specs.Rows.{log_of_pass, log_or_manifests}
 use Rattle.slate_gc_passes.specs.declared.pass_phase.PassPhase.{PassPhase}
 use Rattle.slate_gc_passes.specs.declared.pass_phase.PassPhase.TheVariants as passing
 use Rattle.slate_cluster_protocol.specs.Chains.{Link, link_at, top, if_new}
+use Rattle.slate_cluster_protocol.specs.Holding.{pass_log}
 use Rattle.slate_cluster_protocol.specs.Logs.{Author, Held, log_of, Chain, Chains, Phrase, Reads, Commits, Uploads, Collects, put_by, chains_put}
 use Rattle.slate_cluster_protocol.specs.World.{tally_of, number_in, tallied, committed, raise_tally, to_manifest, to_record}
 use Rattle.slate_cluster_protocol.specs.declared.tally.Tally.{Tally}
@@ -86,26 +86,27 @@ delete_after k db s p own Good = Gone p own refl
 delete_after k db s p own Fail = Same refl
 delete_after k db s p own Lost = Gone p own refl
 
-pass_after : (s : Store) (c : Chain logs.Manifest) (db : List ℕ) (mark : Mark) (moment : ℤ) → top c < 2 ^ 64 → (phase : PassPhase) → PassKnows s c db phase → StoreAfter logs.Manifest db s (effect mark (pass_asks db of.Manifest phase) moment s).store
-pass_after s c db mark moment small (passing.Listing heads versions) h = got_after logs.Manifest db s mark _
-pass_after s c db mark moment small (passing.Getting n listed found) h = got_after logs.Manifest db s mark _
-pass_after s c db mark moment small (passing.Bounding n listed candidates) h = got_after logs.Manifest db s mark _
-pass_after s c db mark moment small (passing.Advancing phase left counts) h = advance_after logs.Manifest db s mark moment phase
-pass_after s c db mark moment small (passing.Deleting [] counts) h = got_after logs.Manifest db s mark _
-pass_after s c db mark moment small (passing.Deleting (m ∷ left) counts) h =
+-- where a log lies
+pub its_kind : (k : LogKind) → (log_of k).kind ≡ k
+its_kind logs.Manifest = refl
+its_kind logs.Compactions = refl
+
+pass_after : (pass : GcMessage) (s : Store) (c : Chain (pass_log pass)) (db : List ℕ) (mark : Mark) (moment : ℤ) → top c < 2 ^ 64 → (phase : PassPhase) → PassKnows (log_of (pass_log pass)) db s c phase
+    → StoreAfter (pass_log pass) db s (effect mark (pass_asks db pass phase) moment s).store
+pass_after pass s c db mark moment small (passing.Listing heads versions) h = got_after (pass_log pass) db s mark _
+pass_after pass s c db mark moment small (passing.Getting n listed found) h = got_after (pass_log pass) db s mark _
+pass_after pass s c db mark moment small (passing.Bounding n listed candidates) h = got_after (pass_log pass) db s mark _
+pass_after pass s c db mark moment small (passing.Advancing phase left counts) h = advance_after (pass_log pass) db s mark moment phase
+pass_after pass s c db mark moment small (passing.Deleting [] counts) h = got_after (pass_log pass) db s mark _
+pass_after pass s c db mark moment small (passing.Deleting (m ∷ left) counts) h =
     let lt = h.0.has.1.below in
-    delete_after logs.Manifest db s m.location (OwnVersion h.0.number (omega arith) h.0.is) mark
-pass_after s c db mark moment small _ h = absurd h
+    delete_after (pass_log pass) db s m.location (OwnVersion h.0.number (omega arith) (h.0.is ∙ ap (λ j. version_path j db h.0.number) (its_kind (pass_log pass)))) mark
+pass_after pass s c db mark moment small _ h = absurd h
 
 read_after : (k : LogKind) (db : List ℕ) (s : Store) (chains : Chains) (n : ℕ) (mark : Mark) (moment : ℤ) (phase : ReadPhase (Held k)) → PhraseKnows s chains n (Reads k db phase)
     → StoreAfter k db s (effect mark (phrase_asks (Reads k db phase)) moment s).store
 read_after k db s chains n mark moment reading.Over h = absurd h
 read_after k db s chains n mark moment _ h = got_after k db s mark _
-
--- where a log lies
-pub its_kind : (k : LogKind) → (log_of k).kind ≡ k
-its_kind logs.Manifest = refl
-its_kind logs.Compactions = refl
 
 commit_after : (k : LogKind) (db : List ℕ) (s : Store) (chains : Chains) (n : ℕ) (mark : Mark) (moment : ℤ) (puts : _) (now : ℤ) (phase : CommitPhase (Held k)) → PhraseKnows s chains n (Commits k db puts now phase)
     → StoreAfter k db s (effect mark (phrase_asks (Commits k db puts now phase)) moment s).store
@@ -128,7 +129,7 @@ store_after s chains n mark moment (Commits k db puts now phase) named i h = com
 store_after s chains n mark moment (Uploads db table bytes) named i h =
     else_after logs.Manifest db (paths.Table db table) bytes moment s (table_nobodys db table named h) (taken mark (Put (paths.Table db table) bytes) s)
 store_after s chains n mark moment (Collects db pass phase) named i h =
-    subst (λ (p : GcMessage). StoreAfter logs.Manifest db s (effect mark (pass_asks db p phase) moment s).store) (sym h.0) (pass_after s (chains logs.Manifest db) db mark moment i.small phase h.1)
+    pass_after pass s (chains (pass_log pass) db) db mark moment i.small phase h.1
 
 pub tidy_after : (k : LogKind) (db : List ℕ) (s s' : Store) → is_db_path db ≡ true → StoreAfter k db s s' → IsTidy s.objects → IsTidy s'.objects
 tidy_after k db s s' named (Same e) h = subst (λ (t : Store). IsTidy t.objects) (sym e) h
@@ -248,7 +249,7 @@ module _ (s : Store) (chains : Chains) (tallies : Tallies) (told : (k : LogKind)
   advance_tallies k db (advancing.Replacing n tag) b = refl
   advance_tallies k db advancing.Over b = refl
 
-  pass_tallies : (db : List ℕ) (pass : GcMessage) (phase : PassPhase) (b : Bool) → PassKnows s (chains logs.Manifest db) db phase → tallied (pass_asks db pass phase) b tallies ≡ tallies
+  pass_tallies : (db : List ℕ) (pass : GcMessage) (phase : PassPhase) (b : Bool) → PassKnows (log_of (pass_log pass)) db s (chains (pass_log pass) db) phase → tallied (pass_asks db pass phase) b tallies ≡ tallies
   pass_tallies db pass (passing.Listing heads versions) b h = refl
   pass_tallies db pass (passing.Getting n listed found) b h = refl
   pass_tallies db pass (passing.Bounding n listed candidates) b h = refl

@@ -5,18 +5,18 @@ use Rattle.std.proofs.lemmas.Bool.Decides.{nat_tests}
 use Rattle.std.specs.Prelude.{if◌then◌else◌}
 use Rattle.std.specs.List.{list_all}
 use Rattle.slate_ids.specs.Ids.{is_db_path}
-use Rattle.slate_ids.specs.declared.gc_message.GcMessage.TheVariants as of
+use Rattle.slate_ids.specs.declared.gc_message.GcMessage.{GcMessage}
 use Rattle.slate_layout_manifests.specs.Decoding.{decoded_manifest}
 use Rattle.slate_layout.specs.laws.Codecs.{codec_round_trip}
 use Rattle.slate_store.specs.Machines.{Stay, End}
 use Rattle.slate_store.specs.Store.{Store, Outcome, object_at, whole, under, taken, effect}
 use Rattle.slate_store.specs.declared.mark.Mark.{Mark}
 use Rattle.slate_store.specs.declared.mark.Mark.TheVariants.{Good, Fail, Lost}
-use Rattle.slate_store.specs.declared.object.ObjectMetadata.{ObjectMetadata}
 use Rattle.slate_store.specs.declared.object.StoredObject.{StoredObject}
 use Rattle.slate_store.specs.declared.store_answer.StoreAnswer.{StoreAnswer}
 use Rattle.slate_store.specs.declared.store_call.StoreCall.{StoreCall}
 use Rattle.slate_txn_log.specs.LogPaths.{version_path}
+use Rattle.slate_txn_log.specs.declared.log_kind.LogKind.{LogKind}
 use Rattle.slate_txn_log.specs.declared.log_kind.LogKind.TheVariants as logs
 use Rattle.slate_txn_log.specs.declared.read_phase.ReadPhase.TheVariants as reading
 use Rattle.slate_gc_passes.specs.GcPhase.{GcGoes, gc_asks, gc_goes}
@@ -39,6 +39,7 @@ use Rattle.slate_script_events.specs.declared.reply.Reply.TheVariants.{Refused}
 use Rattle.slate_script_events.specs.declared.reply.Reply.TheVariants as reply
 use Rattle.slate_cluster_protocol.specs.Alone.{all_told, is_answer, is_quiet, reply_at, answers_in, Leaves, PassesAlone}
 use Rattle.slate_cluster_protocol.specs.Alone.Leaves.{Collects, Exhausts}
+use Rattle.slate_cluster_protocol.specs.Holding.{IsOfLog, pass_log}
 use Rattle.slate_cluster_protocol.specs.ByRows.{Doing, Rests, Answers, Stays, Told, AllTold, nobody, reply_in, asked_entry, step_entry, start_entry, stop_entry, entry_by, told_call, told_after, party_in, all_told_after, entry_store, trail_by}
 use Rattle.slate_cluster_protocol.specs.Calls.{pass_settings}
 use Rattle.slate_cluster_protocol.specs.Chains.{Link, link_at, link_bytes, bytes_of, top}
@@ -57,17 +58,16 @@ use Rattle.slate_cluster_protocol.specs.declared.party.State.TheVariants.{Restin
 use Rattle.slate_cluster_protocol.specs.declared.tally.Tally.{Tally}
 use Rattle.slate_cluster_laws.proofs.FactsKept.{starts_same}
 use Rattle.slate_cluster_laws.proofs.AfterEvents.{none_come, course_inv}
-use Rattle.slate_cluster_laws.proofs.Alone.{IsLatest, IsFine, Knows, EndsWith, RemovalEnds, standing, next_of, Ends, Brings, step_brings}
+use Rattle.slate_cluster_laws.proofs.Alone.{HasBound, IsLatest, IsFine, Knows, RemovalEnds, standing, next_of, Ends, Brings, step_brings}
 use Rattle.slate_cluster_laws.proofs.Alone.RemovalEnds.{Lists, Lacks}
 use Rattle.slate_cluster_laws.proofs.Changes.{By, event_changes}
-use Rattle.slate_cluster_laws.proofs.ManifestPicks.{picks_same}
 use Rattle.slate_cluster_laws.proofs.Facts.{IsSound}
 use Rattle.slate_cluster_laws.proofs.GoingOn.{run_world, run_split}
 use Rattle.slate_cluster_laws.proofs.Links.{link_here, none_above}
 use Rattle.slate_cluster_laws.proofs.Listed.{bound_below, list_top}
 use Rattle.slate_cluster_laws.proofs.Opening.{opening_inv}
 use Rattle.slate_cluster_laws.proofs.Ordered.{IsOrdered, event_ordered, all_ordered}
-use Rattle.slate_cluster_laws.proofs.Passes.{manifest_pass}
+use Rattle.slate_cluster_laws.proofs.Passes.{bounded_pass}
 use Rattle.slate_cluster_laws.proofs.Removals.{good_run}
 use Rattle.slate_cluster_laws.proofs.Rows.{CallIs, Matches, AllMatch, Brought, event_brings, all_after, more_answers, ended, rows_run}
 use Rattle.slate_cluster_laws.proofs.Runs.{Inv, event_inv}
@@ -131,9 +131,9 @@ module _ (db : List ℕ) (named : is_db_path db ≡ true) (s : Store) where
               free = λ small. no_bytes (object_at (version_path logs.Manifest db (l.number + 1)) s) (i.above (l.number + 1) after_bound small ∙ ap link_bytes none_next);
             }
 
-  fine_by : IsTidy s.objects → IsOrdered s.objects → (c : Chain logs.Manifest) → IsSound manifests db s c → TopHasSource c → IsFine db s
-  fine_by tidy ordered [] i h = absurd h
-  fine_by tidy ordered (l ∷ c) i h = record {
+  fine_by : (k : LogKind) → HasBound k db s → IsTidy s.objects → IsOrdered s.objects → (c : Chain logs.Manifest) → IsSound manifests db s c → TopHasSource c → IsFine k db s
+  fine_by k own tidy ordered [] i h = absurd h
+  fine_by k own tidy ordered (l ∷ c) i h = record {
     tidy = tidy;
     ordered = ordered;
     bound = i.bound;
@@ -143,10 +143,15 @@ module _ (db : List ℕ) (named : is_db_path db ≡ true) (s : Store) where
     latest = latest l c i h;
     greatest = list_top manifests db named s (l ∷ c) i (some_number (l ∷ c) i.chain h) tidy;
     below = below l c i h;
+    own = own;
   }
 
-fine : (db : List ℕ) (w : World) (chains : Chains) → IsGood db w chains → IsFine db w.store
-fine db w chains g = fine_by db (g.inv.named db g.has) w.store g.inv.tidy g.ordered (chains logs.Manifest db) (g.inv.logs logs.Manifest db g.has) g.source
+bound_there : (k : LogKind) (db : List ℕ) (w : World) (chains : Chains) → Inv w chains → HasDb w db → HasBound k db w.store
+bound_there logs.Manifest db w chains i has = record { bound = (i.logs logs.Manifest db has).bound; read = (i.logs logs.Manifest db has).read }
+bound_there logs.Compactions db w chains i has = record { bound = (i.logs logs.Compactions db has).bound; read = (i.logs logs.Compactions db has).read }
+
+fine : (k : LogKind) (db : List ℕ) (w : World) (chains : Chains) → IsGood db w chains → IsFine k db w.store
+fine k db w chains g = fine_by db (g.inv.named db g.has) w.store k (bound_there k db w chains g.inv g.has) g.inv.tidy g.ordered (chains logs.Manifest db) (g.inv.logs logs.Manifest db g.has) g.source
 
 -- ---- entries
 
@@ -236,7 +241,7 @@ trail_more : (e : Event) (es : List Event) (all : AllTold) (w : World) (d : Tran
 trail_more e es all w d b =
     ap (λ (s : Store). d.entry ∷ trail_by es (all_told_after e d.entry all) s) b.store ∙ ap (λ (y : Entry). y ∷ trail_by es (all_told_after e y all) (entry_store y w.store)) b.entry
 
-module _ (facts : Facts) (call : Call) (db : List ℕ) (named : is_db_path db ≡ true) (options : GarbageCollectorDirectoryOptions) (word : FilterWord) (n : ℕ) where
+module _ (facts : Facts) (call : Call) (db : List ℕ) (named : is_db_path db ≡ true) (pass : GcMessage) (log : IsOfLog pass) (options : GarbageCollectorDirectoryOptions) (word : FilterWord) (n : ℕ) where
   -- what is said of the party in its call, with these answers
   abbrev in_call : List Answered → Told
   in_call answers = record { facts = facts; doing = Answers call answers }
@@ -247,11 +252,11 @@ module _ (facts : Facts) (call : Call) (db : List ℕ) (named : is_db_path db �
 
   -- what a store call of a phase does
   abbrev outcome : GcPhase → ℤ → Mark → Store → Outcome
-  outcome phase moment mark s = effect mark (gc_asks db of.Manifest phase) moment s
+  outcome phase moment mark s = effect mark (gc_asks db pass phase) moment s
 
   -- how the pass goes on after it
   abbrev gone_on : GcPhase → ℤ → Outcome → GcGoes
-  gone_on phase moment o = gc_goes (pass_ways word) (manifest_pass options) moment phase o.answer
+  gone_on phase moment o = gc_goes (pass_ways word) (bounded_pass pass options) moment phase o.answer
 
   -- the reply of a standing
   abbrev reply_then : Standing → Option Reply
@@ -261,9 +266,9 @@ module _ (facts : Facts) (call : Call) (db : List ℕ) (named : is_db_path db �
   data EventIs (e : Event) (all : AllTold) (x : Entry) (s : Store) (phase : GcPhase) (answers : List Answered) : Type 0 where
     Passes : MakesNone x → all_told_after e x all n ≡ Some (in_call answers) → EventIs e all x s phase answers
     Halts : MakesNone x → all_told_after e x all n ≡ Some stopped → EventIs e all x s phase answers
-    Steps : (k : ℕ) (moment : ℤ) (mark : Mark) (o : Option Reply) → x ≡ Called k (gc_asks db of.Manifest phase) moment mark (outcome phase moment mark s).answer o
-        → stands_after facts call (answers ++ ((outcome phase moment mark s).answer, moment) ∷ []) ≡ next_of facts call db options word (gone_on phase moment (outcome phase moment mark s))
-        → o ≡ reply_then (next_of facts call db options word (gone_on phase moment (outcome phase moment mark s)))
+    Steps : (k : ℕ) (moment : ℤ) (mark : Mark) (o : Option Reply) → x ≡ Called k (gc_asks db pass phase) moment mark (outcome phase moment mark s).answer o
+        → stands_after facts call (answers ++ ((outcome phase moment mark s).answer, moment) ∷ []) ≡ next_of facts call db pass options word (gone_on phase moment (outcome phase moment mark s))
+        → o ≡ reply_then (next_of facts call db pass options word (gone_on phase moment (outcome phase moment mark s)))
         → all_told_after e x all n ≡ Some (told_call facts call (answers ++ ((outcome phase moment mark s).answer, moment) ∷ []) o) → EventIs e all x s phase answers
 
   number_is : (a b : ℕ) → (a == b) ≡ true → a ≡ b
@@ -286,7 +291,7 @@ module _ (facts : Facts) (call : Call) (db : List ℕ) (named : is_db_path db �
     own_told e x same = ap (λ (b : Bool). if b then told_after e x (all n) else all n) same
 
     -- in its call
-    module _ (phase : GcPhase) (answers : List Answered) (at : all n ≡ Some (in_call answers)) (stands : stands_after facts call answers ≡ standing facts call db options word phase) (d : Transition) where
+    module _ (phase : GcPhase) (answers : List Answered) (at : all n ≡ Some (in_call answers)) (stands : stands_after facts call answers ≡ standing facts call db pass options word phase) (d : Transition) where
       own_event : (e : Event) → happens w e ≡ Some d → all (party_in e) ≡ Some (in_call answers) → d.entry ≡ entry_by e (Some (in_call answers)) w.store
           → all_told_after e d.entry all n ≡ told_after e d.entry (Some (in_call answers)) → EventIs e all d.entry w.store phase answers
       own_event (Open k kind d') h here is told = absurd (no_open k kind d' (in_call answers) d here h)
@@ -298,7 +303,7 @@ module _ (facts : Facts) (call : Call) (db : List ℕ) (named : is_db_path db �
           let o = outcome phase moment mark w.store in
           let a : Answered = (o.answer, moment) in
           let reply = reply_in (row facts call (answers ++ a ∷ [])) in
-          let entry : d.entry ≡ Called k (gc_asks db of.Manifest phase) moment mark o.answer reply = is ∙ ap (λ (st : Standing). asked_entry k moment mark w.store facts call answers (row_of st.next)) stands in
+          let entry : d.entry ≡ Called k (gc_asks db pass phase) moment mark o.answer reply = is ∙ ap (λ (st : Standing). asked_entry k moment mark w.store facts call answers (row_of st.next)) stands in
           let next = more_answers call (begin facts call) answers a ∙ ap (λ (st : Standing). answered call st.facts st.next a) stands in
           Steps k moment mark reply entry next (ap reply_then next) (told ∙ ap (λ (x : Entry). told_after (Step k moment mark) x (Some (in_call answers))) entry)
 
@@ -336,9 +341,9 @@ module _ (facts : Facts) (call : Call) (db : List ℕ) (named : is_db_path db �
   -- from where the party is in a phase, to the end
   abbrev Walks : List Event → AllTold → Store → Store → Type 0
   Walks es all s t =
-      (phase : GcPhase) (answers : List Answered) → all n ≡ Some (in_call answers) → stands_after facts call answers ≡ standing facts call db options word phase → Knows db s phase
+      (phase : GcPhase) (answers : List Answered) → all n ≡ Some (in_call answers) → stands_after facts call answers ≡ standing facts call db pass options word phase → Knows (pass_log pass) db s phase
       → (between : List Entry) (last : Entry) (r : Reply) → trail_by es all s ≡ between ++ last ∷ [] → list_all (is_quiet n) (between ++ last ∷ []) ≡ true
-      → list_all (λ x. is_none (reply_at x)) between ≡ true → reply_at last ≡ Some r → Ends facts call db options word phase s (answers_in (between ++ last ∷ [])) r t
+      → list_all (λ x. is_none (reply_at x)) between ≡ true → reply_at last ≡ Some r → Ends facts call db pass options word phase s (answers_in (between ++ last ∷ [])) r t
 
   -- a party that was stopped has no reply
   abbrev Ceases : List Event → AllTold → Store → Type 0
@@ -346,15 +351,15 @@ module _ (facts : Facts) (call : Call) (db : List ℕ) (named : is_db_path db �
       all n ≡ Some stopped → (between : List Entry) (last : Entry) (r : Reply) → trail_by es all s ≡ between ++ last ∷ [] → list_all (is_quiet n) (between ++ last ∷ []) ≡ true → reply_at last ≡ Some r → ⊥
 
   -- the end of the pass
-  end_of : (P : List Answered → Reply → Store → Type 0) (s : Store) (g : GcGoes) (r : Reply) → Brings facts call db options word s P g → reply_then (next_of facts call db options word g) ≡ Some r → P [] r s
+  end_of : (P : List Answered → Reply → Store → Type 0) (s : Store) (g : GcGoes) (r : Reply) → Brings facts call db pass options word s P g → reply_then (next_of facts call db pass options word g) ≡ Some r → P [] r s
   end_of P s (Stay phase) r b h = absurd cc
   end_of P s (End phase (Ok counts)) r b h = let same : reply.Pass counts.picked counts.deleted counts.failed ≡ r = cc in subst (λ (x : Reply). P [] x s) same b
   end_of P s (End phase (Err e)) r b h = let same : Refused e ≡ r = cc in subst (λ (x : Reply). P [] x s) same b
 
   -- it goes on
-  more_of : (P : List Answered → Reply → Store → Type 0) (s t : Store) (g : GcGoes) (answers later : List Answered) (r : Reply) → Brings facts call db options word s P g
-      → is_none (reply_then (next_of facts call db options word g)) ≡ true
-      → ((phase : GcPhase) → g ≡ Stay phase → Knows db s phase → Ends facts call db options word phase s later r t) → P later r t
+  more_of : (P : List Answered → Reply → Store → Type 0) (s t : Store) (g : GcGoes) (answers later : List Answered) (r : Reply) → Brings facts call db pass options word s P g
+      → is_none (reply_then (next_of facts call db pass options word g)) ≡ true
+      → ((phase : GcPhase) → g ≡ Stay phase → Knows (pass_log pass) db s phase → Ends facts call db pass options word phase s later r t) → P later r t
   more_of P s t (Stay phase) answers later r b h f = b.1 later r t (f phase refl b.0)
   more_of P s t (End phase (Ok counts)) answers later r b h f = absurd cc
   more_of P s t (End phase (Err e)) answers later r b h f = absurd cc
@@ -373,52 +378,52 @@ module _ (facts : Facts) (call : Call) (db : List ℕ) (named : is_db_path db �
     b = event_brings e all w d m h
 
     -- a store call that didn't fault brings what it is to bring
-    brings_then : (phase : GcPhase) (moment : ℤ) (mark : Mark) → Knows db w.store phase → is_answer (outcome phase moment mark w.store).answer ≡ true
-        → Brings facts call db options word (outcome phase moment mark w.store).store (λ later r u. Ends facts call db options word phase w.store (((outcome phase moment mark w.store).answer, moment) ∷ later) r u)
+    brings_then : (phase : GcPhase) (moment : ℤ) (mark : Mark) → Knows (pass_log pass) db w.store phase → is_answer (outcome phase moment mark w.store).answer ≡ true
+        → Brings facts call db pass options word (outcome phase moment mark w.store).store (λ later r u. Ends facts call db pass options word phase w.store (((outcome phase moment mark w.store).answer, moment) ∷ later) r u)
         (gone_on phase moment (outcome phase moment mark w.store))
     brings_then phase moment mark k ok =
-        subst (λ (o : Outcome). Brings facts call db options word o.store (λ later r u. Ends facts call db options word phase w.store ((o.answer, moment) ∷ later) r u) (gone_on phase moment o))
-        (sym (no_fault mark (gc_asks db of.Manifest phase) moment w.store ok)) (step_brings facts call db options word w.store (fine db w chains good) moment named phase k)
+        subst (λ (o : Outcome). Brings facts call db pass options word o.store (λ later r u. Ends facts call db pass options word phase w.store ((o.answer, moment) ∷ later) r u) (gone_on phase moment o))
+        (sym (no_fault mark (gc_asks db pass phase) moment w.store ok)) (step_brings facts call db options word w.store moment pass log (fine (pass_log pass) db w chains good) named phase k)
 
     answers_well : (k : ℕ) (asked : StoreCall) (moment : ℤ) (mark : Mark) (answer : StoreAnswer) (o : Option Reply) → d.entry ≡ Called k asked moment mark answer o → is_quiet n d.entry ≡ true → is_answer answer ≡ true
     answers_well k asked moment mark answer o is quiet = (and_parts (k == n) (is_answer answer) (sym (ap (is_quiet n) is) ∙ quiet)).1
 
     -- the last entry
-    ends_with : (phase : GcPhase) (answers : List Answered) → Knows db w.store phase → (r : Reply) → EventIs e all d.entry w.store phase answers → is_quiet n d.entry ≡ true → reply_at d.entry ≡ Some r → t ≡ d.world.store
-        → Ends facts call db options word phase w.store (answers_in (d.entry ∷ [])) r t
+    ends_with : (phase : GcPhase) (answers : List Answered) → Knows (pass_log pass) db w.store phase → (r : Reply) → EventIs e all d.entry w.store phase answers → is_quiet n d.entry ≡ true → reply_at d.entry ≡ Some r → t ≡ d.world.store
+        → Ends facts call db pass options word phase w.store (answers_in (d.entry ∷ [])) r t
     ends_with phase answers k r (Passes none told) quiet replied last = absurd (none_replied d.entry r none replied)
     ends_with phase answers k r (Halts none told) quiet replied last = absurd (none_replied d.entry r none replied)
     ends_with phase answers k r (Steps j moment mark o is next follows told) quiet replied last =
         let s' = (outcome phase moment mark w.store).store in
         let store : t ≡ s' = last ∙ (b.store ∙ ap (λ (x : Entry). entry_store x w.store) is) in
-        let ended = end_of (λ later r u. Ends facts call db options word phase w.store (((outcome phase moment mark w.store).answer, moment) ∷ later) r u) s' (gone_on phase moment (outcome phase moment mark w.store)) r
-        (brings_then phase moment mark k (answers_well j (gc_asks db of.Manifest phase) moment mark (outcome phase moment mark w.store).answer o is quiet)) (sym follows ∙ (sym (ap reply_at is) ∙ replied)) in
-        subst (λ (x : Entry). Ends facts call db options word phase w.store (answers_in (x ∷ [])) r t) (sym is)
-        (subst (λ (u : Store). Ends facts call db options word phase w.store (((outcome phase moment mark w.store).answer, moment) ∷ []) r u) (sym store) ended)
+        let ended = end_of (λ later r u. Ends facts call db pass options word phase w.store (((outcome phase moment mark w.store).answer, moment) ∷ later) r u) s' (gone_on phase moment (outcome phase moment mark w.store)) r
+        (brings_then phase moment mark k (answers_well j (gc_asks db pass phase) moment mark (outcome phase moment mark w.store).answer o is quiet)) (sym follows ∙ (sym (ap reply_at is) ∙ replied)) in
+        subst (λ (x : Entry). Ends facts call db pass options word phase w.store (answers_in (x ∷ [])) r t) (sym is)
+        (subst (λ (u : Store). Ends facts call db pass options word phase w.store (((outcome phase moment mark w.store).answer, moment) ∷ []) r u) (sym store) ended)
 
     -- an entry before the last
-    goes_with : (phase : GcPhase) (answers : List Answered) → Knows db w.store phase → stands_after facts call answers ≡ standing facts call db options word phase → EventIs e all d.entry w.store phase answers → is_quiet n d.entry ≡ true
+    goes_with : (phase : GcPhase) (answers : List Answered) → Knows (pass_log pass) db w.store phase → stands_after facts call answers ≡ standing facts call db pass options word phase → EventIs e all d.entry w.store phase answers → is_quiet n d.entry ≡ true
         → is_none (reply_at d.entry) ≡ true → (between : List Entry) (last : Entry) (r : Reply) → trail ≡ between ++ last ∷ [] → list_all (is_quiet n) (between ++ last ∷ []) ≡ true
-        → list_all (λ x. is_none (reply_at x)) between ≡ true → reply_at last ≡ Some r → Ends facts call db options word phase w.store (answers_in (d.entry ∷ between ++ last ∷ [])) r t
+        → list_all (λ x. is_none (reply_at x)) between ≡ true → reply_at last ≡ Some r → Ends facts call db pass options word phase w.store (answers_in (d.entry ∷ between ++ last ∷ [])) r t
     goes_with phase answers k stands (Halts none told) quiet goes between last r rest quiets go ends = absurd (ceases told between last r rest quiets ends)
     goes_with phase answers k stands (Passes none told) quiet goes between last r rest quiets go ends =
         let store : d.world.store ≡ w.store = b.store ∙ none_store d.entry w.store none in
-        let rested = walks phase answers told stands (subst (λ (s : Store). Knows db s phase) (sym store) k) between last r rest quiets go ends in
-        subst (λ (later : List Answered). Ends facts call db options word phase w.store later r t) (sym (none_answered d.entry (between ++ last ∷ []) none))
-        (subst (λ (s : Store). Ends facts call db options word phase s (answers_in (between ++ last ∷ [])) r t) store rested)
+        let rested = walks phase answers told stands (subst (λ (s : Store). Knows (pass_log pass) db s phase) (sym store) k) between last r rest quiets go ends in
+        subst (λ (later : List Answered). Ends facts call db pass options word phase w.store later r t) (sym (none_answered d.entry (between ++ last ∷ []) none))
+        (subst (λ (s : Store). Ends facts call db pass options word phase s (answers_in (between ++ last ∷ [])) r t) store rested)
     goes_with phase answers k stands (Steps j moment mark o is next follows told) quiet goes between last r rest quiets go ends =
         let a : Answered = ((outcome phase moment mark w.store).answer, moment) in
         let s' = (outcome phase moment mark w.store).store in
         let g = gone_on phase moment (outcome phase moment mark w.store) in
         let store : d.world.store ≡ s' = b.store ∙ ap (λ (x : Entry). entry_store x w.store) is in
         let none : o ≡ None = none_is o (sym (ap (λ (x : Entry). is_none (reply_at x)) is) ∙ goes) in
-        let more = more_of (λ later r u. Ends facts call db options word phase w.store (((outcome phase moment mark w.store).answer, moment) ∷ later) r u) s' t g answers (answers_in (between ++ last ∷ [])) r
-        (brings_then phase moment mark k (answers_well j (gc_asks db of.Manifest phase) moment mark (outcome phase moment mark w.store).answer o is quiet)) (ap is_none (sym follows ∙ none))
+        let more = more_of (λ later r u. Ends facts call db pass options word phase w.store (((outcome phase moment mark w.store).answer, moment) ∷ later) r u) s' t g answers (answers_in (between ++ last ∷ [])) r
+        (brings_then phase moment mark k (answers_well j (gc_asks db pass phase) moment mark (outcome phase moment mark w.store).answer o is quiet)) (ap is_none (sym follows ∙ none))
         (λ phase' stay known.
-        subst (λ (s : Store). Ends facts call db options word phase' s (answers_in (between ++ last ∷ [])) r t) store
-        (walks phase' (answers ++ a ∷ []) (told ∙ ap (λ (x : Option Reply). Some (told_call facts call (answers ++ a ∷ []) x)) none) (next ∙ ap (next_of facts call db options word) stay)
-        (subst (λ (s : Store). Knows db s phase') (sym store) known) between last r rest quiets go ends)) in
-        subst (λ (x : Entry). Ends facts call db options word phase w.store (answers_in (x ∷ between ++ last ∷ [])) r t) (sym is) more
+        subst (λ (s : Store). Ends facts call db pass options word phase' s (answers_in (between ++ last ∷ [])) r t) store
+        (walks phase' (answers ++ a ∷ []) (told ∙ ap (λ (x : Option Reply). Some (told_call facts call (answers ++ a ∷ []) x)) none) (next ∙ ap (next_of facts call db pass options word) stay)
+        (subst (λ (s : Store). Knows (pass_log pass) db s phase') (sym store) known) between last r rest quiets go ends)) in
+        subst (λ (x : Entry). Ends facts call db pass options word phase w.store (answers_in (x ∷ between ++ last ∷ [])) r t) (sym is) more
 
     one_walks : Walks (e ∷ es) all w.store t
     one_walks phase answers at stands k [] last r is quiet goes ends =
@@ -426,7 +431,7 @@ module _ (facts : Facts) (call : Call) (db : List ℕ) (named : is_db_path db �
         let same : d.entry ≡ last = cc in
         let none : trail ≡ [] = cc in
         let q : is_quiet n d.entry ≡ true = ap (is_quiet n) same ∙ (and_parts (is_quiet n last) true quiet).0 in
-        subst (λ (x : Entry). Ends facts call db options word phase w.store (answers_in (x ∷ [])) r t) same
+        subst (λ (x : Entry). Ends facts call db pass options word phase w.store (answers_in (x ∷ [])) r t) same
         (ends_with phase answers k r (is_event w all m phase answers at stands d e h b.entry q) q (ap reply_at same ∙ ends) (end (no_trail es (all_told_after e d.entry all) d.world.store none)))
     one_walks phase answers at stands k (y ∷ ys) last r is quiet goes ends =
         let whole : d.entry ∷ trail ≡ y ∷ ys ++ last ∷ [] = trail_more e es all w d b ∙ is in
@@ -435,7 +440,7 @@ module _ (facts : Facts) (call : Call) (db : List ℕ) (named : is_db_path db �
         let p = and_parts (is_quiet n y) (list_all (is_quiet n) (ys ++ last ∷ [])) quiet in
         let o = and_parts (is_none (reply_at y)) (list_all (λ x. is_none (reply_at x)) ys) goes in
         let q : is_quiet n d.entry ≡ true = ap (is_quiet n) same ∙ p.0 in
-        subst (λ (x : Entry). Ends facts call db options word phase w.store (answers_in (x ∷ ys ++ last ∷ [])) r t) same
+        subst (λ (x : Entry). Ends facts call db pass options word phase w.store (answers_in (x ∷ ys ++ last ∷ [])) r t) same
         (goes_with phase answers k stands (is_event w all m phase answers at stands d e h b.entry q) q (ap (λ (x : Entry). is_none (reply_at x)) same ∙ o.0) ys last r rest p.1 o.1 ends)
 
     one_ceases : Ceases (e ∷ es) all w.store
@@ -535,11 +540,11 @@ has_db w chains n facts call i m = by_party (party_of n w.parties) refl m
 
 -- the law: a pass that nobody disturbs, between two moments of a run
 pub passes_alone : (specs : List DbSpec) (front middle : List Event) → IsAccepted specs → AreGood specs (front ++ middle) → PassesAlone specs front (course_after specs front) (course_after specs (front ++ middle))
-passes_alone specs front middle accepted good n facts min_age dry_run filter between last r more u =
+passes_alone specs front middle accepted good n facts pass min_age dry_run filter between last r log more u =
     let c = course_after specs front in
     let v = course_after specs (front ++ middle) in
-    let call = calls.Pass of.Manifest min_age dry_run filter in
-    let settings = pass_settings of.Manifest min_age dry_run in
+    let call = calls.Pass pass min_age dry_run filter in
+    let settings = pass_settings pass min_age dry_run in
     let w0 = opening_world specs in
     let all = all_told front nobody w0.store in
     let split = run_split front middle 0 (opening specs) v (good_run specs (front ++ middle) good) in
@@ -552,12 +557,10 @@ passes_alone specs front middle accepted good n facts min_age dry_run filter bet
     let begins = begins_good specs accepted facts.db has0 in
     let g = subst (λ (w : World). IsGood facts.db w (chains_of front w0 (opening_chains specs))) (sym there) (run_good facts.db front w0 (opening_chains specs) begins) in
     let entries = same_rest c.trail (trail_by middle all c.world.store) (between ++ last ∷ []) (sym (rows_run middle 0 c v all match split.second) ∙ more) in
-    let walks = (walk facts call facts.db (i.named facts.db has) settings.options filter n middle 0 c v (chains_of front w0 (opening_chains specs)) all g match split.second).0 in
+    let walks = (walk facts call facts.db (i.named facts.db has) pass log settings.options filter n middle 0 c v (chains_of front w0 (opening_chains specs)) all g match split.second).0 in
     left facts call settings filter (answers_in (between ++ last ∷ [])) r v.world.store (walks (Removing (Reading reading.Listing)) [] u.begins refl tt between last r entries u.quiet u.goes_on u.ends)
   where
-    left : (facts : Facts) (call : Call) (settings : PassSettings) (word : FilterWord) (answers : List Answered) (r : Reply) (s : Store) → RemovalEnds facts.db settings word (pass_answers call (begin facts call) answers) r s
+    left : (facts : Facts) (call : Call) (settings : PassSettings) (word : FilterWord) (answers : List Answered) (r : Reply) (s : Store) → RemovalEnds (pass_log settings.pass) facts.db settings word (pass_answers call (begin facts call) answers) r s
         → Leaves facts call settings word answers r s
     left facts call settings word answers r s (Lacks none is) = Exhausts none is
-    left facts call settings word answers r s (Lists found moment later lists e) =
-        let h = subst (λ (ps : List ObjectMetadata). EndsWith facts.db ps found r s) (sym (picks_same settings word (pass_answers call (begin facts call) answers))) e in
-        Collects (record { found = found; moment = moment; later = later; lists = lists; replied = h.replied; left = h.left })
+    left facts call settings word answers r s (Lists found moment later lists e) = Collects (record { found = found; moment = moment; later = later; lists = lists; replied = e.replied; left = e.left })

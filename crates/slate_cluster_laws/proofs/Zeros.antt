@@ -24,7 +24,6 @@ use Rattle.slate_txn_log.specs.declared.advance_phase.AdvancePhase.TheVariants a
 use Rattle.slate_txn_log.specs.declared.commit_phase.CommitPhase.{CommitPhase}
 use Rattle.slate_txn_log.specs.declared.commit_phase.CommitPhase.TheVariants as committing
 use Rattle.slate_txn_log.specs.declared.log_kind.LogKind.{LogKind}
-use Rattle.slate_txn_log.specs.declared.log_kind.LogKind.TheVariants as logs
 use Rattle.slate_txn_log.specs.declared.read_phase.ReadPhase.{ReadPhase}
 use Rattle.slate_txn_log.specs.declared.read_phase.ReadPhase.TheVariants as reading
 use Rattle.slate_ids.specs.declared.gc_message.GcMessage.{GcMessage}
@@ -33,6 +32,7 @@ use Rattle.slate_gc_passes.specs.Rows.{log_of_pass, log_or_manifests}
 use Rattle.slate_gc_passes.specs.declared.pass_phase.PassPhase.{PassPhase}
 use Rattle.slate_gc_passes.specs.declared.pass_phase.PassPhase.TheVariants as passing
 use Rattle.slate_cluster_protocol.specs.Chains.{Link, Log}
+use Rattle.slate_cluster_protocol.specs.Holding.{pass_log}
 use Rattle.slate_cluster_protocol.specs.Logs.{Chains, Author, Held, Phrase, Reads, Commits, Uploads, Collects, log_of, phrase_of}
 use Rattle.slate_cluster_protocol.specs.Owners.{owner_of}
 use Rattle.slate_cluster_protocol.specs.Owners.Owner.{Version, Boundary, Table}
@@ -146,7 +146,7 @@ module _ (k : LogKind) (d : List ℕ) (named : is_db_path d ≡ true) where
   advance_else db j (advancing.Replacing n tag) own = boundary_else j db own
   advance_else db j advancing.Over own = tt
 
-  collect_else : (s : Store) (chains : Chains) (db : List ℕ) (pass : GcMessage) (phase : PassPhase) → is_db_path db ≡ true → PassKnows s (chains logs.Manifest db) db phase → WritesElse zero_path (pass_asks db pass phase)
+  collect_else : (s : Store) (chains : Chains) (db : List ℕ) (pass : GcMessage) (phase : PassPhase) → is_db_path db ≡ true → PassKnows (log_of (pass_log pass)) db s (chains (pass_log pass) db) phase → WritesElse zero_path (pass_asks db pass phase)
   collect_else s chains db pass (passing.ReadingRecord phase) own h = absurd h
   collect_else s chains db pass (passing.ReadingManifest least phase) own h = absurd h
   collect_else s chains db pass (passing.Fetching heads phase) own h = absurd h

@@ -12,15 +12,14 @@ use Rattle.slate_txn_log.specs.ReadPhase.{read_asks, read_goes}
 use Rattle.slate_txn_log.specs.declared.commit_phase.CommitPhase.{CommitPhase}
 use Rattle.slate_txn_log.specs.declared.commit_phase.CommitPhase.TheVariants.{Putting, Bounding}
 use Rattle.slate_txn_log.specs.declared.log_kind.LogKind.{LogKind}
-use Rattle.slate_txn_log.specs.declared.log_kind.LogKind.TheVariants as logs
 use Rattle.slate_txn_log.specs.declared.read_phase.ReadPhase.{ReadPhase}
 use Rattle.slate_gc_passes.specs.declared.pass_phase.PassPhase.{PassPhase}
 use Rattle.slate_script_events.specs.declared.db_spec.DbSpec.{DbSpec}
 use Rattle.slate_script_events.specs.declared.event.Event.{Event}
 use Rattle.slate_cluster_protocol.specs.Chains.{bound_in}
-use Rattle.slate_cluster_protocol.specs.Holding.{IsIn, IsPutBy, IsVersion, IsMadeOf, Each, IsManifestThat, IsRefused, picks_in, due_in}
+use Rattle.slate_cluster_protocol.specs.Holding.{IsIn, IsPutBy, IsVersion, IsMadeOf, Each, IsRefused, picks_in, due_in, IsVersionThat, pass_log}
 use Rattle.slate_cluster_protocol.specs.Lawful.{chains_at_end, gone_after, world_at_end}
-use Rattle.slate_cluster_protocol.specs.Logs.{Held, Puts, log_of, manifests, phrase_of}
+use Rattle.slate_cluster_protocol.specs.Logs.{Held, Puts, log_of, phrase_of}
 use Rattle.slate_cluster_protocol.specs.Logs.Phrase.{Reads, Commits, Collects}
 use Rattle.slate_cluster_protocol.specs.Reach.{IsSpare}
 use Rattle.slate_cluster_protocol.specs.Rows.{moved}
@@ -75,17 +74,17 @@ ReadsAnswer specs events task =
     → read_goes k (log_of k).decoded phase (effect mark (read_asks db k phase) moment (world_at_end specs events).store).answer ≡ End to (Ok (Some (number, v)))
     → IsVersion (chains_at_end specs events k db) number v
 
--- what is picked, and what is left of it, are manifests below the greatest committed version, and that version names none of them
+-- what is picked, and what is left of it, are versions of the log of the pass, below the greatest committed one, which names none of them
 abbrev pub PicksSpare : List DbSpec → List Event → Task → Type 0
 PicksSpare specs events task =
     (db : List ℕ) (pass : GcMessage) (phase : PassPhase) → phrase_of task.work ≡ Collects db pass phase
-    → Each (IsManifestThat db (IsSpare manifests (chains_at_end specs events logs.Manifest db))) (picks_in phase)
+    → Each (IsVersionThat (pass_log pass) db (IsSpare (log_of (pass_log pass)) (chains_at_end specs events (pass_log pass) db))) (picks_in phase)
 
--- what is left of the picks is at or below the boundary
+-- what is left of the picks is at or below the boundary of the log of the pass
 abbrev pub DueBounded : List DbSpec → List Event → Task → Type 0
 DueBounded specs events task =
     (db : List ℕ) (pass : GcMessage) (phase : PassPhase) (bound : ℕ) → phrase_of task.work ≡ Collects db pass phase
-    → bound_in manifests db (world_at_end specs events).store ≡ Some bound → Each (IsManifestThat db (λ number. number ≤ bound)) (due_in phase)
+    → bound_in (log_of (pass_log pass)) db (world_at_end specs events).store ≡ Some bound → Each (IsVersionThat (pass_log pass) db (λ number. number ≤ bound)) (due_in phase)
 
 -- where the object of a number was removed, the step that reads the boundary to commit this number ends the call with a refusal, whatever the mark
 abbrev pub LatePutsAreRefused : List DbSpec → List Event → Party → Task → Type 0

@@ -15,7 +15,7 @@ mod safe_parties;
 pub use chains::{changed, list_top, put_elsewhere, taken_path};
 pub use courses::{begins, goes_on, lawful, stops};
 pub use events_done::{bad_after, checkpoints_carried, ulids_carried};
-pub use exact_passes::{dry_run, exact_by_rule, exact_pass, manifest_picks};
+pub use exact_passes::{dry_run, exact_by_rule, exact_pass, manifest_picks, record_picks};
 pub use needs::needed_versions;
 pub use openings::opening_stands;
 pub use parties_known::known_as_told;

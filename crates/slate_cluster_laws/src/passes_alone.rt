@@ -6,7 +6,7 @@ ghost use Rattle.slate_cluster_protocol.specs.Alone.{PassesAlone};
 ghost use Rattle.slate_cluster_protocol.specs.Lawful.{IsAccepted, AreGood, course_after};
 
 /// Where between the start of a pass and its end no other party's step makes a store call, and none of its own faults, it ends with
-/// the reply of a pass: the manifests left are those that its list found, less what it picks, and all that it picked is deleted. The
+/// the reply of a pass: the versions of its log left are those that its list found, less what it picks, and all that it picked is deleted. The
 /// removal of expired checkpoints alone may end it before its list, where it has no number left. Opens, starts, stops and idle steps
 /// of others may come between.
 pub fn undisturbed_pass()

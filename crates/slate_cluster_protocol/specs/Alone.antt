@@ -1,12 +1,12 @@
--- A pass over the manifests that nobody disturbs: the manifests that it leaves are those that its list found, less what it picks.
+-- A pass over a log that nobody disturbs: the versions that it leaves are those that its list found, less what it picks.
 use Rattle.std.specs.Prelude.{◌≡◌, ℕ, ℤ, ◌==◌, ◌&&◌, not, Bool, true, false, List, [], ◌∷◌, ◌++◌, map, filter, length, min, Option, Some, None, is_none}
 use Rattle.std.specs.List.{list_all}
 use Rattle.slate_ids.specs.Limits.{last_number}
 use Rattle.slate_ids.specs.PathText.{path_text}
 use Rattle.slate_ids.specs.declared.error.SlateDBError.TheVariants.{Exhausted}
-use Rattle.slate_ids.specs.declared.gc_message.GcMessage.TheVariants as of
+use Rattle.slate_ids.specs.declared.gc_message.GcMessage.{GcMessage}
 use Rattle.slate_store.specs.Store.{Store, listed}
-use Rattle.slate_store.specs.declared.list_dir.ListDir.TheVariants.{Manifests}
+use Rattle.slate_txn_log.specs.LogPaths.{folder}
 use Rattle.slate_store.specs.declared.object.ObjectMetadata.{ObjectMetadata}
 use Rattle.slate_store.specs.declared.store_answer.StoreAnswer.{StoreAnswer}
 use Rattle.slate_store.specs.declared.store_answer.StoreAnswer.TheVariants.{Found, Fault}
@@ -24,6 +24,7 @@ use Rattle.slate_script_events.specs.declared.reply.Reply.TheVariants.{Refused}
 use Rattle.slate_script_events.specs.declared.reply.Reply.TheVariants as reply
 use Rattle.slate_cluster_protocol.specs.ByRows.{Answers, AllTold, nobody, entry_by, party_in, all_told_after, entry_store}
 use Rattle.slate_cluster_protocol.specs.Calls.{pass_settings}
+use Rattle.slate_cluster_protocol.specs.Holding.{IsOfLog, pass_log}
 use Rattle.slate_cluster_protocol.specs.Passes.{pass_answers, picked}
 use Rattle.slate_cluster_protocol.specs.Rows.{Answered, begin}
 use Rattle.slate_cluster_protocol.specs.Runs.{Course}
@@ -74,7 +75,7 @@ pub record IsUndisturbed (specs : List DbSpec) (front : List Event) (n : ℕ) (f
 abbrev pub without : List ObjectMetadata → List ObjectMetadata → List ObjectMetadata
 without picks found = filter (λ m. not (lies_at (map (λ p. path_text p.location) picks) m)) found
 
--- the pass listed, and ended with the reply of a pass: all that it picked is deleted, and nothing failed. The manifests that are left at its
+-- the pass listed, and ended with the reply of a pass: all that it picked is deleted, and nothing failed. The versions of its log that are left at its
 -- database are those that it listed, less what it picked
 pub record HasCollected (facts : Facts) (call : Call) (settings : PassSettings) (filter : FilterWord) (answers : List Answered) (r : Reply) (s : Store) : Type 0 where
   pub found : List ObjectMetadata
@@ -82,7 +83,7 @@ pub record HasCollected (facts : Facts) (call : Call) (settings : PassSettings) 
   pub later : List Answered
   pub lists : pass_answers call (begin facts call) answers ≡ (Found found, moment) ∷ later
   pub replied : r ≡ reply.Pass (length (picked facts call settings filter answers)) (min (length (picked facts call settings filter answers)) last_number) 0
-  pub left : listed (Manifests facts.db) s ≡ without (picked facts call settings filter answers) found
+  pub left : listed (folder (pass_log settings.pass) facts.db) s ≡ without (picked facts call settings filter answers) found
 
 -- what a pass that nobody disturbs leaves: it has collected; or the removal of expired checkpoints had no number left for its version, and
 -- ended the pass before its list
@@ -90,10 +91,10 @@ pub data Leaves (facts : Facts) (call : Call) (settings : PassSettings) (filter 
   Collects : HasCollected facts call settings filter answers r s → Leaves facts call settings filter answers r s
   Exhausts : pass_answers call (begin facts call) answers ≡ [] → r ≡ Refused (Exhausted last_number) → Leaves facts call settings filter answers r s
 
--- of each pass over the manifests that nobody disturbs from the moment after a front of events, where the first course stands, to a later one
+-- of each pass over a log that nobody disturbs from the moment after a front of events, where the first course stands, to a later one
 abbrev pub PassesAlone : List DbSpec → List Event → Course → Course → Type 0
 PassesAlone specs front before after =
-    (n : ℕ) (facts : Facts) (min_age : ℕ) (dry_run : Bool) (filter : FilterWord) (between : List Entry) (last : Entry) (r : Reply)
-    → after.trail ≡ before.trail ++ (between ++ last ∷ [])
-    → IsUndisturbed specs front n facts (Pass of.Manifest min_age dry_run filter) between last r
-    → Leaves facts (Pass of.Manifest min_age dry_run filter) (pass_settings of.Manifest min_age dry_run) filter (answers_in (between ++ last ∷ [])) r after.world.store
+    (n : ℕ) (facts : Facts) (pass : GcMessage) (min_age : ℕ) (dry_run : Bool) (filter : FilterWord) (between : List Entry) (last : Entry) (r : Reply)
+    → IsOfLog pass → after.trail ≡ before.trail ++ (between ++ last ∷ [])
+    → IsUndisturbed specs front n facts (Pass pass min_age dry_run filter) between last r
+    → Leaves facts (Pass pass min_age dry_run filter) (pass_settings pass min_age dry_run) filter (answers_in (between ++ last ∷ [])) r after.world.store

@@ -87,9 +87,10 @@ holder_has (RefreshCheckpoint id lifetime) = is_some lifetime
 holder_has (DeleteCheckpoint id) = true
 holder_has _ = false
 
--- the call of a collector: so far, the pass of manifests alone
+-- the calls of a collector: so far, the passes over the two logs
 abbrev pub collector_has : Call → Bool
 collector_has (Pass of.Manifest min_age dry_run filter) = true
+collector_has (Pass of.Compactions min_age dry_run filter) = true
 collector_has _ = false
 
 -- whether a kind of party has a call

@@ -20,6 +20,8 @@ use Rattle.slate_ids.specs.declared.error.SlateDBError.{SlateDBError}
 use Rattle.slate_txn_log.specs.LogPaths.{version_path}
 use Rattle.slate_txn_log.specs.declared.log_kind.LogKind.{LogKind}
 use Rattle.slate_txn_log.specs.declared.log_kind.LogKind.TheVariants as logs
+use Rattle.slate_ids.specs.declared.gc_message.GcMessage.{GcMessage}
+use Rattle.slate_gc_passes.specs.Rows.{log_of_pass, log_or_manifests}
 use Rattle.slate_gc_passes.specs.declared.pass_phase.PassPhase.{PassPhase}
 use Rattle.slate_gc_passes.specs.declared.pass_phase.PassPhase.TheVariants as passing
 use Rattle.slate_cluster_protocol.specs.Calls.{change_of, new_info, record_change_of, Next, Go, Finish}
@@ -76,10 +78,18 @@ abbrev pub Each : (ObjectMetadata → Type 0) → List ObjectMetadata → Type 0
 Each P [] = Unit {0}
 Each P (m ∷ ms) = P m × Each P ms
 
--- an object is the manifest of a database at a number that has it
-pub record IsManifestThat (db : List ℕ) (P : ℕ → Type 0) (m : ObjectMetadata) : Type 0 where
+-- the log of a pass: the one whose versions it deletes, where it does
+abbrev pub pass_log : GcMessage → LogKind
+pass_log pass = log_or_manifests (log_of_pass pass)
+
+-- a pass deletes versions of a log
+abbrev pub IsOfLog : GcMessage → Type 0
+IsOfLog pass = log_of_pass pass ≡ Some (pass_log pass)
+
+-- an object is the version of a log of a database at a number that has it
+pub record IsVersionThat (k : LogKind) (db : List ℕ) (P : ℕ → Type 0) (m : ObjectMetadata) : Type 0 where
   pub number : ℕ
-  pub is : m.location ≡ version_path logs.Manifest db number
+  pub is : m.location ≡ version_path k db number
   pub has : P number
 
 -- a call that ends with a refusal

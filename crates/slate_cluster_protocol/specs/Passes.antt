@@ -1,6 +1,7 @@
 -- What a pass picks of what it read, and the deletes that it makes: one for each pick, in their order.
 use Rattle.std.specs.Prelude.{◌≡◌, ℕ, ℤ, nat_le, Bool, true, false, List, [], ◌∷◌, ◌++◌, map, filter, length, Option, Some, None, Result, Ok, if◌then◌else◌}
 use Rattle.slate_ids.specs.declared.error.SlateDBError.{SlateDBError}
+use Rattle.slate_ids.specs.declared.gc_message.GcMessage.{GcMessage}
 use Rattle.slate_ids.specs.declared.gc_message.GcMessage.TheVariants as of
 use Rattle.slate_layout_manifests.specs.Decoding.{decoded_manifest}
 use Rattle.slate_model.specs.declared.manifest.Manifest.{Manifest}
@@ -20,7 +21,8 @@ use Rattle.slate_script_events.specs.declared.filter_word.FilterWord.{FilterWord
 use Rattle.slate_script_events.specs.declared.reply.Reply.{Reply}
 use Rattle.slate_script_events.specs.declared.reply.Reply.TheVariants as reply
 use Rattle.slate_txn_log.specs.Boundary.{boundary_got, greatest}
-use Rattle.slate_txn_log.specs.declared.log_kind.LogKind.TheVariants.{Manifest as ManifestLog}
+use Rattle.slate_txn_log.specs.declared.log_kind.LogKind.TheVariants.{Manifest as ManifestLog, Compactions as RecordLog}
+use Rattle.slate_gc_passes.specs.Candidates.{old_records}
 use Rattle.slate_gc_passes.specs.Exact.{Chosen, counts_before, or_nothing, picked_along, with_delete}
 use Rattle.slate_gc_passes.specs.GcPhase.{gc_start}
 use Rattle.slate_gc_passes.specs.PassCounts.{counts_of}
@@ -45,7 +47,7 @@ use Rattle.slate_store.specs.Store.{Store}
 abbrev pub picked_so_far : PassSettings → FilterWord → List Answered → Chosen
 picked_so_far settings filter answers = or_nothing (picked_along (pass_ways filter) settings (Stay gc_start) answers)
 
--- ---- what a pass over the manifests picks, in its own words
+-- ---- what a pass over a log picks, in its own words
 
 -- the picks among the objects that were listed at a moment, by the greatest version's number and its value
 abbrev pub manifest_picks : PassSettings → FilterWord → ℤ → List ObjectMetadata → ℕ → Manifest → List ObjectMetadata
@@ -62,10 +64,30 @@ picks_of settings filter (Found found, now) (Got (Some object), at) (Got boundar
     picks_at settings filter now found (greatest ManifestLog found) (decoded_manifest object.bytes) (boundary_got boundary)
 picks_of settings filter _ _ _ = None
 
--- of the answers of a pass from its list on; nothing, before it has read all
+-- of the answers of a pass over the manifests from its list on; nothing, before it has read all
+abbrev pub manifests_read : PassSettings → FilterWord → List Answered → Option (List ObjectMetadata)
+manifests_read settings filter (list ∷ version ∷ boundary ∷ answers) = picks_of settings filter list version boundary
+manifests_read settings filter _ = None
+
+-- the picks among the records that were listed at a moment: of the aged ones below the greatest listed
+abbrev pub record_picks : PassSettings → FilterWord → ℤ → List ObjectMetadata → List ObjectMetadata
+record_picks settings filter now found =
+    picks (pass_ways filter).allows settings.options.dry_run (old_records settings.options.min_age now found (greatest RecordLog found))
+
+-- of the answers of a pass over the records from its list on: it reads nothing else
+abbrev pub records_read : PassSettings → FilterWord → List Answered → Option (List ObjectMetadata)
+records_read settings filter ((Found found, now) ∷ answers) = Some (record_picks settings filter now found)
+records_read settings filter _ = None
+
+-- by the pass
+abbrev pub read_by : GcMessage → PassSettings → FilterWord → List Answered → Option (List ObjectMetadata)
+read_by of.Manifest settings filter answers = manifests_read settings filter answers
+read_by of.Compactions settings filter answers = records_read settings filter answers
+read_by _ settings filter answers = None
+
+-- of the answers of a pass over a log from its list on
 abbrev pub picks_read : PassSettings → FilterWord → List Answered → Option (List ObjectMetadata)
-picks_read settings filter (list ∷ version ∷ boundary ∷ answers) = picks_of settings filter list version boundary
-picks_read settings filter _ = None
+picks_read settings filter answers = read_by settings.pass settings filter answers
 
 -- whether a pass collects: the expired checkpoints are removed
 abbrev pub is_collecting : Next → Bool
@@ -77,7 +99,7 @@ abbrev pub pass_answers : Call → Standing → List Answered → List Answered
 pass_answers call standing [] = []
 pass_answers call standing (a ∷ answers) = if is_collecting standing.next then a ∷ answers else pass_answers call (answered call standing.facts standing.next a) answers
 
--- what a pass over the manifests picks, by its answers so far
+-- what a pass over a log picks, by its answers so far
 abbrev pub picked : Facts → Call → PassSettings → FilterWord → List Answered → List ObjectMetadata
 picked facts call settings filter answers = listed_or_none (picks_read settings filter (pass_answers call (begin facts call) answers))
 
@@ -130,7 +152,7 @@ pub record IsExact (facts : Facts) (call : Call) (settings : PassSettings) (filt
   pub whole : (counts : PassCounts) → (stands_after facts call answers).next ≡ Finish (reply_of counts)
       → (left ≡ []) × (reply_of counts ≡ reply_of (with_deletes (counts_before settings (picked_so_far settings filter answers)) (deletes_made facts call answers)))
 
--- the same of a pass over the manifests, by its rule: it has deleted a front of what the rule picks of what the pass read; where it ended without a
+-- the same of a pass over a log, by its rule: it has deleted a front of what the rule picks of what the pass read; where it ended without a
 -- refusal, all of it, deletes that faulted included, and its reply has the counts of these picks and of its deletes
 pub record IsExactByRule (facts : Facts) (call : Call) (settings : PassSettings) (filter : FilterWord) (answers : List Answered) : Type 0 where
   pub left : List ObjectMetadata
@@ -140,10 +162,12 @@ pub record IsExactByRule (facts : Facts) (call : Call) (settings : PassSettings)
 
 -- ---- in a trail
 
--- of a party that is in a pass with these answers: over the manifests, which is the one that a collector of a cluster has, by its rule
+-- of a party that is in a pass with these answers: over a log, as each that a collector of a cluster has, by its rule
 abbrev pub ExactDoing : Facts → Doing → Answered → Type 0
 ExactDoing facts (Answers (Pass of.Manifest min_age dry_run filter) answers) a =
     IsExactByRule facts (Pass of.Manifest min_age dry_run filter) (pass_settings of.Manifest min_age dry_run) filter (answers ++ a ∷ [])
+ExactDoing facts (Answers (Pass of.Compactions min_age dry_run filter) answers) a =
+    IsExactByRule facts (Pass of.Compactions min_age dry_run filter) (pass_settings of.Compactions min_age dry_run) filter (answers ++ a ∷ [])
 ExactDoing facts (Answers (Pass pass min_age dry_run filter) answers) a = IsExact facts (Pass pass min_age dry_run filter) (pass_settings pass min_age dry_run) filter (answers ++ a ∷ [])
 ExactDoing facts _ a = Unit {0}
 
