@@ -122,7 +122,7 @@ fn compactions(rt: &impl Abort, alloc: Global, text: &'static str, first: u64) -
     counts(rt, alloc, lists)
 }
 
-// Runs lists on the database with compactions. Calls of all kinds are done, and some are refused.
+// Runs lists on the database with compactions. Calls of all kinds are done, some are refused, and passes delete of both logs.
 fn check_compactions(rt: &impl Abort, alloc: Global, first: u64) {
     let counts = compactions(rt, alloc, RECORDED, first);
     check_least(
@@ -137,6 +137,9 @@ fn check_compactions(rt: &impl Abort, alloc: Global, first: u64) {
             ("finishes", counts.finishes, 4),
             ("states", counts.states, 3),
             ("flushes", counts.flushes, 3),
+            ("passes", counts.passes, 10),
+            ("passes over records", counts.record_passes, 20),
+            ("late records", counts.late_records, 1),
         ],
     );
 }
@@ -167,6 +170,9 @@ fn lists_61_to_80_keep_both_logs_of_a_new_database(rt: HostRuntime) {
             ("conflicts", counts.conflicts, 5),
             ("states", counts.states, 3),
             ("flushes", counts.flushes, 3),
+            ("passes", counts.passes, 10),
+            ("passes over records", counts.record_passes, 20),
+            ("late records", counts.late_records, 1),
         ],
     );
 }

@@ -298,7 +298,7 @@ fn is_own(party: Party, heads: Heads, log: Log) -> bool {
         Word::Claim | Word::Report => log == Log::Records,
         Word::Finish => false,
         Word::OpenCompactor => true,
-        Word::Other => log == Log::Manifests,
+        Word::RecordPass | Word::Other => log == Log::Manifests,
     }
 }
 
@@ -306,6 +306,9 @@ fn is_own(party: Party, heads: Heads, log: Log) -> bool {
 fn put_late(rt: &impl Abort, audit: &mut Audit, party: u32, version: (Log, u64)) {
     let (log, number) = version;
     set_stands_in(audit, log, number, true);
+    if log == Log::Records {
+        one_more(&mut audit.counts.late_records);
+    }
     let inserted: Result<_, _> = audit.late.insert(party, number);
     inserted.expect(rt, "memory");
 }
@@ -448,6 +451,13 @@ fn started(rt: &impl Abort, audit: &mut Audit, party: u32, event: &Event) {
     }
 }
 
+// No reachable manifest is removed, nor the greatest record.
+fn check_reachable(rt: &impl Abort, audit: &Audit) {
+    let records = audit.records.as_slice();
+    assert!(rt; keeps(audit.manifests.as_slice(), audit.reachable.as_slice()));
+    assert!(rt; keeps(records, &[records.len() as u64]) || records.is_empty());
+}
+
 // Takes an event and its entry, after which no reachable number is removed.
 fn entered(
     rt: &impl Abort,
@@ -478,7 +488,7 @@ fn entered(
                 bounded(rt, audit, *party, reply);
                 replied(rt, audit, *party, reply);
             }
-            assert!(rt; keeps(audit.manifests.as_slice(), audit.reachable.as_slice()));
+            check_reachable(rt, audit);
         }
         _ => {}
     }
@@ -542,9 +552,17 @@ fn is_chain(rt: &impl Abort, log: Log, versions: &[Version], run: Run<'_>) -> bo
     good && none
 }
 
-// The boundary, or 0 where there is none.
-fn boundary(rt: &impl Abort, store: &MemoryStore) -> u64 {
-    let path = ObjectPath::ManifestBoundary(db(rt));
+// The path of a log's boundary.
+fn boundary_path(log: Log, db: DbPath) -> ObjectPath {
+    match log {
+        Log::Manifests => ObjectPath::ManifestBoundary(db),
+        Log::Records => ObjectPath::RecordBoundary(db),
+    }
+}
+
+// The boundary of a log, or 0 where there is none.
+fn boundary(rt: &impl Abort, log: Log, store: &MemoryStore) -> u64 {
+    let path = boundary_path(log, db(rt));
     let object = store.object(&path);
     drop(path);
     match object {
@@ -553,9 +571,9 @@ fn boundary(rt: &impl Abort, store: &MemoryStore) -> u64 {
     }
 }
 
-// Whether the boundary is below the greatest number and at or above each removed one.
+// Whether the boundary is below the greatest number, where there is one, and at or above each removed one.
 fn bounds(versions: &[Version], boundary: u64) -> bool {
-    let mut good = boundary < versions.len() as u64;
+    let mut good = boundary < versions.len() as u64 || (boundary == 0 && versions.is_empty());
     let mut number = 1u64;
     for version in versions {
         good = good && (number <= boundary || !version.removed);
@@ -586,13 +604,18 @@ fn begun(rt: &impl Abort, alloc: Global, before: &MemoryStore, counts: Counts) -
     audit
 }
 
+// The boundary of a log is as its versions allow, and each of them is as it was told.
+fn check_log(rt: &impl Abort, log: Log, versions: &[Version], run: Run<'_>) {
+    let found = boundary(rt, log, run.after);
+    assert!(rt; bounds(versions, found), "the boundary");
+    assert!(rt; is_chain(rt, log, versions, run));
+}
+
 // The end of an audit, and what was counted.
 fn ended(rt: &impl Abort, audit: Audit, run: Run<'_>) -> Counts {
-    let manifests = audit.manifests.as_slice();
-    assert!(rt; keeps(manifests, audit.reachable.as_slice()));
-    assert!(rt; bounds(manifests, boundary(rt, run.after)), "the boundary");
-    assert!(rt; is_chain(rt, Log::Manifests, manifests, run));
-    assert!(rt; is_chain(rt, Log::Records, audit.records.as_slice(), run));
+    check_reachable(rt, &audit);
+    check_log(rt, Log::Manifests, audit.manifests.as_slice(), run);
+    check_log(rt, Log::Records, audit.records.as_slice(), run);
     let mut counts = audit.counts;
     counts.tables = counts.tables.saturating_add(audit.heads.tables);
     drop(audit);
@@ -601,10 +624,10 @@ fn ended(rt: &impl Abort, audit: Audit, run: Run<'_>) -> Counts {
 
 /// Audits a run over the database `db`, and counts on. Each put of a version that had its effect is of the next number of its log, or of
 /// one that was collected, and then it isn't done. After each entry no manifest is removed that is the greatest committed one or that a
-/// checkpoint of its value names. Epochs never fall, the record's is never above that of the manifest, and a record with compactions keeps
-/// some, whose least id never falls. But for opens, a compactor and a writer put under the epoch of their last open alone. At the end each
-/// version that was never removed stands as it was put first, none stands after them, and the boundary is below the greatest number and at
-/// or above each removed one.
+/// checkpoint of its value names, nor the greatest record. Epochs never fall, the record's is never above that of the manifest, and a record
+/// with compactions keeps some, whose least id never falls. But for opens, a compactor and a writer put under the epoch of their last open
+/// alone. At the end, of each log, each version that was never removed stands as it was put first, none stands after them, and the boundary
+/// is below the greatest number and at or above each removed one.
 pub(crate) fn audited(rt: &impl Abort, alloc: Global, run: Run<'_>, counts: Counts) -> Counts {
     let mut audit = begun(rt, alloc, run.before, counts);
     let mut place = 0usize;

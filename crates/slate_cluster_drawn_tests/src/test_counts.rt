@@ -1,16 +1,20 @@
 //! What audited runs had in them.
 
-use slate_ids::SlateDBError;
+use slate_ids::{GcMessage, SlateDBError};
 use slate_script::{Call, Reply};
 use std::process::Abort;
 
 /// What audited runs had in them.
 #[derive(Clone, Copy)]
 pub(crate) struct Counts {
-    /// Passes that ended after deletes.
+    /// Passes over manifests that ended after deletes.
     pub passes: u64,
+    /// Passes over records that ended after deletes.
+    pub record_passes: u64,
     /// Puts of numbers that were collected before, which the boundary answered.
     pub late_puts: u64,
+    /// Puts of records whose numbers were collected before.
+    pub late_records: u64,
     /// Flushes that were refused for a table from before the floor.
     pub late_tables: u64,
     /// Tables of the greatest versions.
@@ -35,7 +39,9 @@ impl Counts {
     pub(crate) fn new() -> Counts {
         Counts {
             passes: 0,
+            record_passes: 0,
             late_puts: 0,
+            late_records: 0,
             late_tables: 0,
             tables: 0,
             opens: 0,
@@ -70,6 +76,8 @@ pub(crate) enum Word {
     Claim,
     Report,
     Flush,
+    /// A pass over records.
+    RecordPass,
     Other,
 }
 
@@ -85,6 +93,10 @@ pub(crate) fn word_of(call: &Call) -> Word {
         Call::Claim { .. } => Word::Claim,
         Call::Report { .. } => Word::Report,
         Call::Flush { .. } => Word::Flush,
+        Call::Pass {
+            pass: GcMessage::Compactions,
+            ..
+        } => Word::RecordPass,
         _ => Word::Other,
     }
 }
@@ -115,6 +127,14 @@ fn count_refused(counts: &mut Counts, refusal: &SlateDBError) {
     }
 }
 
+// A pass that ended after deletes.
+fn count_pass(counts: &mut Counts, word: Word) {
+    match word {
+        Word::RecordPass => one_more(&mut counts.record_passes),
+        _ => one_more(&mut counts.passes),
+    }
+}
+
 /// Counts the reply of a call.
 pub(crate) fn counted(counts: &mut Counts, word: Word, reply: &Reply) {
     match reply {
@@ -127,7 +147,7 @@ pub(crate) fn counted(counts: &mut Counts, word: Word, reply: &Reply) {
         }
         Reply::Pass { deleted, .. } => {
             if *deleted > 0 {
-                one_more(&mut counts.passes);
+                count_pass(counts, word);
             }
         }
         _ => {}

@@ -9,13 +9,23 @@ use slate_store::Mark;
 use std::alloc::Global;
 use std::process::Abort;
 
-/// Which parties a list has, by their six places.
+/// Which parties a list has, by their places.
 #[derive(Clone, Copy)]
 pub(crate) enum Mix {
     /// Two writers with their uploads and flushes, two holders and two collectors.
     Collectors,
-    /// Two compactors, two workers, a writer and a holder.
+    /// Two compactors, two workers, a writer, a holder and a collector.
     Compactors,
+}
+
+// How many places a mix has.
+fn places(mix: Mix) -> u64
+    ensures { 0 < result }
+{
+    match mix {
+        Mix::Collectors => 6,
+        Mix::Compactors => 7,
+    }
 }
 
 // How many compactions the opening record has.
@@ -34,8 +44,8 @@ struct Draws {
     // The tail of the next table or view.
     next_tail: u128,
     // The table that the worker or writer of each place uploaded last, and the compaction that it claimed last.
-    uploaded: [Option<Ulid>; 6],
-    claimed: [Option<Ulid>; 6],
+    uploaded: [Option<Ulid>; 7],
+    claimed: [Option<Ulid>; 7],
     // The compaction that a compactor was to schedule last.
     scheduled: Ulid,
     // The place of the compactor that was to open last, which is fenced the least.
@@ -43,7 +53,7 @@ struct Draws {
     // The place whose party rests for a while.
     resting: usize,
     // The parties of the moment.
-    parties: [u32; 6],
+    parties: [u32; 7],
 }
 
 impl Draws {
@@ -66,12 +76,12 @@ impl Draws {
         self.below(times) == 0
     }
 
-    // One of the six places; half the time one of the two of writers.
+    // One of the places; half the time one of the first two, of writers or of compactors.
     fn any_place(&mut self) -> usize {
         if self.once_in(2) {
             self.below(2) as usize
         } else {
-            self.below(6) as usize
+            self.below(places(self.mix)) as usize
         }
     }
 
@@ -86,19 +96,30 @@ impl Draws {
     }
 
     // A place; the leading compactor and the workers have the most.
-    fn busy_place(&mut self) -> usize {
-        match self.below(14) {
+    fn weighed_place(&mut self) -> usize {
+        match self.below(16) {
             0 => 0,
             1 => 1,
             2 | 3 | 4 | 5 => self.leading,
             6 | 7 | 8 => 2,
             9 | 10 | 11 => 3,
             12 => 4,
-            _ => 5,
+            13 => 5,
+            _ => 6,
         }
     }
 
-    // One of the six places.
+    // The same, seldom that of the party that rests.
+    fn busy_place(&mut self) -> usize {
+        let place = self.weighed_place();
+        if place == self.resting {
+            self.weighed_place()
+        } else {
+            place
+        }
+    }
+
+    // One of the places.
     fn place(&mut self) -> usize {
         match self.mix {
             Mix::Collectors => self.restless_place(),
@@ -192,7 +213,25 @@ impl Draws {
         Ulid::from_parts(10, tail as u128)
     }
 
+    // Two passes in three are over the records.
+    fn drawn_pass(&mut self) -> GcMessage {
+        if self.once_in(3) {
+            GcMessage::Manifest
+        } else {
+            GcMessage::Compactions
+        }
+    }
+
+    // Over which log a pass is; over the manifests where there are no records.
+    fn passed(&mut self) -> GcMessage {
+        match self.mix {
+            Mix::Collectors => GcMessage::Manifest,
+            Mix::Compactors => self.drawn_pass(),
+        }
+    }
+
     fn pass(&mut self) -> Call {
+        let pass = self.passed();
         let dry_run = self.once_in(10);
         let filter = if self.once_in(10) {
             FilterWord::Nothing
@@ -200,7 +239,7 @@ impl Draws {
             FilterWord::All
         };
         Call::Pass {
-            pass: GcMessage::Manifest,
+            pass,
             min_age: 0,
             dry_run,
             filter,
@@ -432,7 +471,8 @@ fn kind_at(mix: Mix, place: usize) -> PartyKind {
             0 | 1 => PartyKind::Compactor,
             2 | 3 => PartyKind::Worker,
             4 => PartyKind::Writer,
-            _ => PartyKind::Holder,
+            5 => PartyKind::Holder,
+            _ => PartyKind::Collector,
         },
     }
 }
@@ -519,8 +559,11 @@ fn restless(rt: &impl Abort, events: &mut Vec<Event>, draws: &mut Draws, db: DbP
     }
 }
 
-// Beside compactors: now and then a party that is replaced and starts its first call, else half the time a start.
+// Beside compactors: now and then a party that rests, or one that is replaced and starts its first call, else half the time a start.
 fn busy(rt: &impl Abort, events: &mut Vec<Event>, draws: &mut Draws, db: DbPath, place: usize) {
+    if draws.once_in(15) {
+        rest(rt, events, draws);
+    }
     if draws.once_in(60) {
         replace(rt, events, draws, db, place);
         start_first(rt, events, draws, place);
@@ -549,26 +592,26 @@ fn draws_of(mix: Mix, seed: u64) -> Draws {
         next_party: 0,
         next_id: 1,
         next_tail: 1,
-        uploaded: [None; 6],
-        claimed: [None; 6],
+        uploaded: [None; 7],
+        claimed: [None; 7],
         scheduled: Ulid::from_parts(10, 2),
         leading: 0,
         resting: 0,
-        parties: [0; 6],
+        parties: [0; 7],
     }
 }
 
-/// The list of a mix and a seed. The six parties come, each starts a call, writers and compactors to open, and then it goes on as it is
+/// The list of a mix and a seed. The parties come, each starts a call, writers and compactors to open, and then it goes on as it is
 /// drawn.
 pub(crate) fn generated(rt: &impl Abort, alloc: Global, mix: Mix, seed: u64) -> Vec<Event> {
     let db = db(rt);
     let mut events = Vec::new(alloc);
     let mut draws = draws_of(mix, seed);
-    for place in 0..6 {
-        open(rt, &mut events, &mut draws, db, place);
+    for place in 0..places(mix) {
+        open(rt, &mut events, &mut draws, db, place as usize);
     }
-    for place in 0..6 {
-        start_first(rt, &mut events, &mut draws, place);
+    for place in 0..places(mix) {
+        start_first(rt, &mut events, &mut draws, place as usize);
     }
     for _ in 0..bursts(mix) {
         draw(rt, &mut events, &mut draws, db);

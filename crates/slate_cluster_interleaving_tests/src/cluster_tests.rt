@@ -116,12 +116,12 @@ const PASSES: [(GcMessage, bool); 6] = [
     (GcMessage::Wal, false),
     (GcMessage::WalFence, false),
     (GcMessage::Compacted, false),
-    (GcMessage::Compactions, false),
+    (GcMessage::Compactions, true),
     (GcMessage::Detach, false),
 ];
 
 #[test]
-fn manifests_alone_have_a_pass(rt: HostRuntime) {
+fn manifests_and_records_have_a_pass(rt: HostRuntime) {
     for (pass, starting) in &PASSES {
         assert!(rt; starts(&rt, rt.alloc(), *pass, FilterWord::All) == *starting);
     }

@@ -12,6 +12,8 @@ mod pass_tests;
 #[cfg(test)]
 mod race_tests;
 #[cfg(test)]
+mod record_tests;
+#[cfg(test)]
 mod test_clusters;
 #[cfg(test)]
 mod upload_tests;

@@ -87,9 +87,10 @@ run_help_text =
     ++ line (codes "             {\"start\":1,\"call\":\"refresh_checkpoint\",\"id\":7,")
     ++ line (codes "             \"lifetime\":60000}")
     ++ line (codes "             {\"start\":1,\"call\":\"delete_checkpoint\",\"id\":7}")
-    ++ line (codes "  collector  {\"start\":1,\"call\":\"pass\",\"pass\":\"manifest\"}, and where")
-    ++ line (codes "             wanted \"min_age\":300000, \"dry_run\":false, \"filter\":\"all\";")
-    ++ line (codes "             a filter is \"all\", \"none\" or an array of paths")
+    ++ line (codes "  collector  {\"start\":1,\"call\":\"pass\",\"pass\":\"manifest\"}, of which the")
+    ++ line (codes "             pass is \"manifest\" or \"compactions\", and where wanted")
+    ++ line (codes "             \"min_age\":300000, \"dry_run\":false, \"filter\":\"all\"; a filter")
+    ++ line (codes "             is \"all\", \"none\" or an array of paths")
     ++ line []
     ++ line (codes "An id of a table, a view or a compaction is a text \"ms:tail\" of two")
     ++ line (codes "numbers below 2^48 and 2^80, one of a checkpoint a number below 2^64;")

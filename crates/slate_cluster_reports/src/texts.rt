@@ -68,9 +68,10 @@ A start is one of these, by the kind of its party:
              {\"start\":1,\"call\":\"refresh_checkpoint\",\"id\":7,
              \"lifetime\":60000}
              {\"start\":1,\"call\":\"delete_checkpoint\",\"id\":7}
-  collector  {\"start\":1,\"call\":\"pass\",\"pass\":\"manifest\"}, and where
-             wanted \"min_age\":300000, \"dry_run\":false, \"filter\":\"all\";
-             a filter is \"all\", \"none\" or an array of paths
+  collector  {\"start\":1,\"call\":\"pass\",\"pass\":\"manifest\"}, of which the
+             pass is \"manifest\" or \"compactions\", and where wanted
+             \"min_age\":300000, \"dry_run\":false, \"filter\":\"all\"; a filter
+             is \"all\", \"none\" or an array of paths
 
 An id of a table, a view or a compaction is a text \"ms:tail\" of two
 numbers below 2^48 and 2^80, one of a checkpoint a number below 2^64;

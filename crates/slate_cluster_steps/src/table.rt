@@ -90,13 +90,17 @@ fn holder_has(call: &Call) -> bool
     }
 }
 
-// Whether a call is a collector's: so far, the pass of manifests alone.
+// Whether a call is a collector's: so far, a pass over manifests or over records.
 fn collector_has(call: &Call) -> bool
     ensures { result ≡ calls.collector_has call.now }
 {
     match call {
         Call::Pass {
             pass: GcMessage::Manifest,
+            ..
+        } => true,
+        Call::Pass {
+            pass: GcMessage::Compactions,
             ..
         } => true,
         _ => false,

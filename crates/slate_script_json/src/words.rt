@@ -68,6 +68,7 @@ fn pass_of(text: &str) -> Option<GcMessage>
 {
     match text {
         "manifest" => Some(GcMessage::Manifest),
+        "compactions" => Some(GcMessage::Compactions),
         _ => None,
     }
 }
