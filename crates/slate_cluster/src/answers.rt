@@ -8,7 +8,7 @@ ghost use Rattle.slate_cluster.specs.Told.{from_state};
 ghost use Rattle.slate_cluster_reports.specs.Endings.{text_for, run_status, status_for, IsLawfulRun};
 
 use crate::telling::{ToldRun, begun, tell_run};
-use slate_cluster_laws::lawful;
+use slate_cluster_every_run::lawful;
 use slate_cluster_opening::NewError;
 use slate_cluster_parties::ClusterState;
 use slate_cluster_reports::{Status, bad_cluster, bad_script};

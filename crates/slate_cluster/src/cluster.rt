@@ -6,7 +6,7 @@ ghost use Rattle.slate_cluster.specs.NewClusters.{Opens};
 ghost use Rattle.slate_cluster.specs.Ran.{HasRun, events_done};
 
 use crate::progress::Progress;
-use slate_cluster_laws::{begins, goes_on, lawful, stops};
+use slate_cluster_every_run::{begins, goes_on, lawful, stops};
 use slate_cluster_opening::NewError;
 use slate_script_events::{DbSpec, Entry, Event};
 use slate_store::MemoryStore;

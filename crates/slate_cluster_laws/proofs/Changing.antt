@@ -34,9 +34,9 @@ use Rattle.slate_state_updates.specs.declared.manifest_change.ManifestChange.{Ma
 use Rattle.slate_cluster_protocol.specs.Chains.{Link, Log, link_at, top}
 use Rattle.slate_cluster_protocol.specs.Logs.{Chains, Held, Puts, manifest_puts, record_puts, log_of, change_phrase, manifest_phrase, record_phrase}
 use Rattle.slate_cluster_laws.proofs.Facts.{IsSound, IsValue, IsNext, ReadBrings, CommitKnows, CommitBrings}
-use Rattle.slate_cluster_laws.proofs.Facts.IsMade.{OfVersion}
-use Rattle.slate_cluster_laws.proofs.Links.{link_number, at_most}
-use Rattle.slate_cluster_laws.proofs.Manifests.{IsChanged, change_commits}
+use Rattle.slate_cluster_chain_laws.proofs.LogRules.IsMade.{OfVersion}
+use Rattle.slate_cluster_chain_laws.proofs.Links.{link_number, at_most}
+use Rattle.slate_cluster_chain_laws.proofs.Manifests.{IsChanged, change_commits}
 use Rattle.slate_cluster_laws.proofs.Steps.{author_of, PhraseKnows, PhraseBrings}
 
 -- ---- what is committed of a committed version

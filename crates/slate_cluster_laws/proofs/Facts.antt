@@ -1,5 +1,5 @@
 -- What holds of a log, and what a party knows while it is in a phrase: for any log.
-use Rattle.std.proofs.Common.{◌≡◌, ℕ, ◌+◌, ◌<◌, ◌≤◌, ◌^◌, true, List, Option, Some, None, Ok, Err, ◌⊎◌}
+use Rattle.std.proofs.Common.{◌≡◌, ℕ, ◌<◌, ◌≤◌, ◌^◌, List, Option, Some, None, Ok, Err}
 use Rattle.slate_store.specs.Machines.{Goes, Stay, End}
 use Rattle.slate_store.specs.Store.{Store, object_at}
 use Rattle.slate_store.specs.declared.object.StoredObject.{StoredObject}
@@ -11,17 +11,10 @@ use Rattle.slate_txn_log.specs.declared.commit_phase.CommitPhase.{CommitPhase}
 use Rattle.slate_txn_log.specs.declared.commit_phase.CommitPhase.TheVariants as committing
 use Rattle.slate_txn_log.specs.declared.read_phase.ReadPhase.{ReadPhase}
 use Rattle.slate_txn_log.specs.declared.read_phase.ReadPhase.TheVariants as reading
-use Rattle.slate_txn_log.specs.declared.right.Right.{Right}
 use Rattle.slate_cluster_protocol.specs.Chains.{Link, Log, link_at, top, IsChain, bytes_of, bound_in, AgreesAt}
 use Rattle.slate_cluster_protocol.specs.Holding.{IsPutBy}
 use Rattle.slate_cluster_protocol.specs.Reach.{IsNeeded, IsSpare}
-
--- what is read back of a value, and the rules on it
-pub record IsLog {V A : Type 0} (log : Log V A) : Type 0 where
-  pub round : (v : V) (bytes : List ℕ) → log.encoded v ≡ Ok bytes → log.decoded bytes ≡ Ok (log.normal v)
-  pub plain : (n : ℕ) (old v : V) (right : Right) → log.refusal n old v right ≡ None → log.refusal n old (log.normal v) right ≡ None
-  pub known : (n : ℕ) (old v : V) (right : Right) (k : ℕ) → log.refusal n old v right ≡ None → log.names v k ≡ true → (k ≡ n + 1) ⊎ (log.names old k ≡ true)
-  pub first : (author : A) (v : V) (k : ℕ) → log.first author ≡ Ok (Some v) → log.names (log.normal v) k ≡ true → k ≡ 1
+use Rattle.slate_cluster_chain_laws.proofs.LogRules.{IsMade}
 
 -- a version that stands with its committed bytes
 pub record IsCommitted {V A : Type 0} (log : Log V A) (db : List ℕ) (s : Store) (c : List (Link V A)) (k : ℕ) : Type 0 where
@@ -53,12 +46,6 @@ pub record Holds {V A : Type 0} (log : Log V A) (db : List ℕ) (s : Store) (c :
 -- what an author put is the committed version of its number, by this author, unless the boundary has passed it
 pub record HoldsBy {V A : Type 0} (log : Log V A) (db : List ℕ) (s : Store) (c : List (Link V A)) (author : A) (n : ℕ) (v : V) : Type 0 where
   pub same : (b : ℕ) → bound_in log db s ≡ Some b → b < n → IsPutBy log c author n v
-
--- what an author made: of the committed version before, which follows lawfully; or of none, at the first number
-pub data IsMade {V A : Type 0} (log : Log V A) (c : List (Link V A)) (author : A) (n : ℕ) (v : V) : Type 0 where
-  OfVersion : (old : Link V A) → link_at old.number c ≡ Some old → n ≡ old.number + 1 → log.makes author old.number old.value ≡ Ok (Some v) → log.refusal old.number old.value v (log.right author) ≡ None → log.fence author old.value ≡ None
-      → IsMade log c author n v
-  OfNone : n ≡ 1 → log.first author ≡ Ok (Some v) → IsMade log c author n v
 
 -- what an author puts at a number
 pub record IsNext {V A : Type 0} (log : Log V A) (c : List (Link V A)) (author : A) (n : ℕ) (bytes : List ℕ) (v : V) : Type 0 where

@@ -9,8 +9,9 @@ use Rattle.slate_txn_log.specs.declared.read_phase.ReadPhase.{ReadPhase}
 use Rattle.slate_txn_log.specs.declared.read_phase.ReadPhase.TheVariants as reading
 use Rattle.slate_cluster_protocol.specs.Chains.{Link, Log}
 use Rattle.slate_cluster_protocol.specs.Holding.{IsPutBy}
-use Rattle.slate_cluster_laws.proofs.Facts.IsMade.{OfVersion, OfNone}
-use Rattle.slate_cluster_laws.proofs.Facts.{IsValue, Holds, HoldsBy, IsMade, IsNext, IsAtMost, IsReached, ReadKnows, CommitKnows, AdvanceKnows, Grows}
+use Rattle.slate_cluster_chain_laws.proofs.LogRules.IsMade.{OfVersion, OfNone}
+use Rattle.slate_cluster_chain_laws.proofs.LogRules.{IsMade}
+use Rattle.slate_cluster_laws.proofs.Facts.{IsValue, Holds, HoldsBy, IsNext, IsAtMost, IsReached, ReadKnows, CommitKnows, AdvanceKnows, Grows}
 
 module _ {V A : Type 0} (log : Log V A) (db : List ℕ) (s : Store) (c : List (Link V A)) (s' : Store) (c' : List (Link V A)) (g : Grows log db s c s' c') where
   pub kept_value : (n : ℕ) (v : V) → IsValue c n v → IsValue c' n v

@@ -70,10 +70,11 @@ use Rattle.slate_cluster_protocol.specs.declared.work.Work.TheVariants.{Manifest
 use Rattle.slate_cluster_laws.proofs.Advances.{at_least}
 use Rattle.slate_cluster_laws.proofs.AfterEvents.{after_inv, course_collected}
 use Rattle.slate_cluster_laws.proofs.Calls.{WorkKnows}
-use Rattle.slate_cluster_laws.proofs.Facts.{HoldsBy, IsSound, IsMade, ReadKnows, ReadBrings, CommitKnows, CommitBrings}
-use Rattle.slate_cluster_laws.proofs.Facts.IsMade.{OfVersion, OfNone}
+use Rattle.slate_cluster_chain_laws.proofs.LogRules.{IsMade}
+use Rattle.slate_cluster_laws.proofs.Facts.{HoldsBy, IsSound, ReadKnows, ReadBrings, CommitKnows, CommitBrings}
+use Rattle.slate_cluster_chain_laws.proofs.LogRules.IsMade.{OfVersion, OfNone}
 use Rattle.slate_cluster_laws.proofs.GoingOn.{run_world}
-use Rattle.slate_cluster_laws.proofs.Manifests.{log_laws}
+use Rattle.slate_cluster_chain_laws.proofs.Manifests.{log_laws}
 use Rattle.slate_cluster_laws.proofs.Passes.{PassKnows, each_is}
 use Rattle.slate_cluster_laws.proofs.Paths.{version_owner}
 use Rattle.slate_cluster_laws.proofs.Removals.{good_run}

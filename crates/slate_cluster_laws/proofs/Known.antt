@@ -40,15 +40,14 @@ use Rattle.slate_cluster_protocol.specs.declared.party.Task.{Task}
 use Rattle.slate_cluster_protocol.specs.declared.tally.Tally.{Tally}
 use Rattle.slate_cluster_laws.proofs.AfterEvents.{none_come}
 use Rattle.slate_cluster_laws.proofs.FactsKept.{moved_same}
-use Rattle.slate_cluster_laws.proofs.Links.{same_or_not}
+use Rattle.slate_cluster_chain_laws.proofs.Links.{same_or_not}
 use Rattle.slate_cluster_laws.proofs.Maps.{number_order, set_here, set_else, insert_here, insert_else}
 use Rattle.slate_cluster_laws.proofs.Opening.{opening_inv}
 use Rattle.slate_cluster_laws.proofs.Pools.{or_false}
 use Rattle.slate_cluster_laws.proofs.Removals.{good_run}
-use Rattle.slate_cluster_laws.proofs.Rows.{CallIs, Matches, ended, facts_match, rows_run}
+use Rattle.slate_cluster_laws.proofs.Rows.{CallIs, Matches, ended, facts_match, rows_run, told_run}
 use Rattle.slate_cluster_laws.proofs.Runs.{Inv, StateKnows, event_inv}
 use Rattle.slate_cluster_laws.proofs.StepsTold.{MayDo, MayGo, begin_tells, moved_tells}
-use Rattle.slate_cluster_laws.proofs.Undisturbed.{told_run}
 
 -- ---- its facts and its call
 

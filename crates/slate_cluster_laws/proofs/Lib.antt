@@ -1,62 +1,44 @@
-mod Stores
-mod Links
-mod Facts
+pub mod Stores
+pub mod Facts
 mod Frame
-mod Paths
-mod Spares
+pub mod Paths
 mod Puts
 mod Moves
 mod Lists
 mod Turns
 mod Maps
-mod NormalRules
-mod NormalRecordRules
-mod Manifests
 mod Advances
-mod Passes
+pub mod FactsKept
+pub mod Rows
+pub mod GoingOn
+mod Beginnings
+mod OpeningRecords
+mod OpeningTables
+pub mod Listed
+pub mod Passes
 mod Steps
-mod FactsKept
 mod Changing
 mod Opens
 mod StateCalls
 mod Calls
 mod Tallies
-mod Epochs
-mod Runs
-mod Rows
-mod Trails
-mod GoingOn
-mod Beginnings
-mod OpeningRecords
-mod OpeningTables
-mod Opening
-mod Exact
-mod ManifestPicks
-mod LogPicks
-mod ExactByRule
-mod Safety
-mod Rising
-mod EveryRun
-mod Listed
-mod Changes
-mod Ordered
-mod Left
-mod Alone
-mod Undisturbed
-mod StepsTold
-mod Known
+pub mod Runs
+pub mod Trails
+pub mod Opening
+pub mod Changes
+pub mod Ordered
+pub mod Removals
+mod Zeros
+pub mod Safety
+pub mod AfterEvents
 mod Holding
 mod OwnCalls
-mod Removals
-mod Zeros
 mod Tops
-mod AfterEvents
-mod Bad
-mod DryRuns
 mod Elsewhere
-mod Encodable
 mod Pools
-mod Sources
+mod StepsTold
+pub mod Known
+mod Bad
 mod OpenedEpochs
 mod OpeningStands
 mod OpeningTags

@@ -19,7 +19,7 @@ use Rattle.slate_txn_log.specs.declared.log_kind.LogKind.TheVariants.{Manifest, 
 use Rattle.slate_cluster_protocol.specs.Chains.{Link, Log, link_at, top, bytes_of, link_bytes}
 use Rattle.slate_store.proofs.LookUps.{same_bytes, bytes_same, finds, same_found}
 use Rattle.slate_cluster_laws.proofs.Stores.{IsTidy}
-use Rattle.slate_cluster_laws.proofs.Links.{at_most, some_below, le_or_lt}
+use Rattle.slate_cluster_chain_laws.proofs.Links.{at_most, some_below, le_or_lt}
 use Rattle.slate_cluster_laws.proofs.Lists.{EachNumber, greatest_has}
 use Rattle.slate_cluster_laws.proofs.Facts.{IsSound}
 use Rattle.slate_cluster_laws.proofs.Paths.{version_fine}

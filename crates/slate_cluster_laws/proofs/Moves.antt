@@ -16,7 +16,7 @@ use Rattle.slate_cluster_laws.proofs.Paths.{IsElsewhere, versions_apart, boundar
 use Rattle.slate_cluster_protocol.specs.Reach.{IsSpare}
 use Rattle.slate_cluster_laws.proofs.Facts.{IsCommitted, IsSound, IsReached, Grows}
 use Rattle.slate_cluster_laws.proofs.Puts.{Leaves, committed_small}
-use Rattle.slate_cluster_laws.proofs.Spares.{spare_else}
+use Rattle.slate_cluster_chain_laws.proofs.Spares.{spare_else}
 
 module _ {V A : Type 0} (log : Log V A) (db : List ℕ) (named : is_db_path db ≡ true) (author : A) (s : Store) (c : List (Link V A)) (i : IsSound log db s c) where
   -- the boundary is moved to a number that is not below it, and below the greatest

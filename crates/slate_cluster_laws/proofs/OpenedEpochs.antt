@@ -24,7 +24,7 @@ use Rattle.slate_cluster_protocol.specs.declared.work.Work.{Work}
 use Rattle.slate_cluster_protocol.specs.declared.work.Work.TheVariants as works
 use Rattle.slate_cluster_laws.proofs.AfterEvents.{after_inv}
 use Rattle.slate_cluster_laws.proofs.Calls.{Holds, WorkHolds}
-use Rattle.slate_cluster_laws.proofs.Epochs.{compactor_rises, record_rises}
+use Rattle.slate_cluster_chain_laws.proofs.Epochs.{compactor_rises, record_rises}
 use Rattle.slate_cluster_laws.proofs.Opens.{Given, HasEpoch, OpenKnows, Raised}
 use Rattle.slate_cluster_laws.proofs.Runs.{Inv, StateKnows}
 

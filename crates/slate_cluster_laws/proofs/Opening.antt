@@ -39,7 +39,7 @@ use Rattle.slate_cluster_protocol.specs.World.{World, tally_of, number_in, HasDb
 use Rattle.slate_cluster_protocol.specs.declared.tally.Tally.{Tally}
 use Rattle.slate_cluster_laws.proofs.Beginnings.{spec_of, AllNamed, Firsts, tally_for, tallies_found, first_for, firsts_found, firsts_else, last_at, IsFound, spec_found, bytes_found, store_found, firsts_fine, store_tidy}
 use Rattle.slate_cluster_laws.proofs.Facts.{IsCommitted, IsSound}
-use Rattle.slate_cluster_laws.proofs.Links.{same_or_not, link_here, link_there}
+use Rattle.slate_cluster_chain_laws.proofs.Links.{same_or_not, link_here, link_there}
 use Rattle.slate_cluster_laws.proofs.OpeningRecords.{records_else, records_fine, first_record, record_for, records_found, record_has_bytes, record_read}
 use Rattle.slate_cluster_laws.proofs.OpeningTables.{IsMade, made_of, IsNoTable, tables_else, tables_fine}
 use Rattle.slate_cluster_laws.proofs.Runs.{Inv}

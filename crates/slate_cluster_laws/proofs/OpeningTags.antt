@@ -13,7 +13,7 @@ use Rattle.slate_store.specs.declared.object.StoredObject.{StoredObject}
 use Rattle.slate_script_events.specs.declared.db_spec.DbSpec.{DbSpec}
 use Rattle.slate_cluster_protocol.specs.Lawful.{IsAccepted}
 use Rattle.slate_cluster_protocol.specs.OpeningStore.{AreTagged, GoByPath}
-use Rattle.slate_cluster_protocol.specs.Specs.{First, first_bytes, first_added, firsts_from, listed_or_none, no_objects, store_from, objects_of, opening_world}
+use Rattle.slate_cluster_protocol.specs.Specs.{First, first_bytes, first_added, firsts_from, listed_or_none, no_objects, store_from, opening_world}
 use Rattle.slate_cluster_laws.proofs.Beginnings.{AllNamed, Firsts, has_more}
 use Rattle.slate_cluster_laws.proofs.OpeningRecords.{records_keep}
 use Rattle.slate_cluster_laws.proofs.OpeningStands.{Begun, begun_of}

@@ -45,8 +45,8 @@ use Rattle.slate_cluster_protocol.specs.Holding.{FitsOpen, open_change}
 use Rattle.slate_cluster_protocol.specs.Logs.{Author, Chains, log_of, open_phrase, record_puts}
 use Rattle.slate_cluster_laws.proofs.Changing.{EndKnows, IsBegun, IsHeld, ManifestBrings, RecordBrings, is_begun, manifest_brings, manifest_held, put_knows, record_brings, record_held, record_makes}
 use Rattle.slate_cluster_laws.proofs.Facts.{IsSound, IsValue}
-use Rattle.slate_cluster_laws.proofs.Facts.IsMade.{OfNone}
-use Rattle.slate_cluster_laws.proofs.Manifests.{change_commits}
+use Rattle.slate_cluster_chain_laws.proofs.LogRules.IsMade.{OfNone}
+use Rattle.slate_cluster_chain_laws.proofs.Manifests.{change_commits}
 use Rattle.slate_cluster_laws.proofs.Steps.{PhraseKnows, PhraseBrings}
 
 -- ---- epochs that were committed

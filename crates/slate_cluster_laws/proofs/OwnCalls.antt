@@ -1,6 +1,5 @@
 -- What a call has put with the answer created, and that ended without a refusal, is the chain's: along each run.
-use Rattle.std.proofs.Common.{◌≡◌, ◌≢◌, ℕ, ℤ, ◌==◌, Bool, true, false, List, [], ◌∷◌, ◌++◌, Option, Some, None, Ok, ◌⊎◌, inl, inr, ⊎_elim, refl, sym, ap, ◌∙◌, subst, arith}
-use Rattle.std.proofs.lemmas.Bool.Decides.{nat_tests}
+use Rattle.std.proofs.Common.{◌≡◌, ◌≢◌, ℕ, ℤ, ◌==◌, Bool, true, false, List, [], ◌∷◌, ◌++◌, Option, Some, None, Ok, ◌⊎◌, inl, inr, ⊎_elim, refl, sym, ap, ◌∙◌, subst}
 use Rattle.std.specs.Prelude.{if◌then◌else◌, bytes_eq}
 use Rattle.slate_ids.specs.declared.error.SlateDBError.{SlateDBError}
 use Rattle.slate_ids.specs.declared.gc_message.GcMessage.{GcMessage}
@@ -54,11 +53,12 @@ use Rattle.slate_cluster_protocol.specs.declared.work.Work.{Work}
 use Rattle.slate_cluster_laws.specs.OwnCalls.{IsOwn, OfNext, EachCall, OwnPut, OwnEnd, OwnDoing, OwnEntry, OwnCalls}
 use Rattle.slate_cluster_laws.proofs.AfterEvents.{none_come}
 use Rattle.slate_cluster_laws.proofs.Holding.{after_put, refused_or_own, work_created}
-use Rattle.slate_cluster_laws.proofs.Links.{link_there}
+use Rattle.slate_cluster_chain_laws.proofs.Links.{link_there}
 use Rattle.slate_cluster_laws.proofs.Opening.{opening_inv}
-use Rattle.slate_cluster_laws.proofs.Rows.{AllMatch, CallIs, Matches, all_after, event_brings, more_answers}
+use Rattle.slate_cluster_laws.proofs.Rows.{AllMatch, CallIs, Matches, all_after, event_brings, more_answers, same_number}
 use Rattle.slate_cluster_laws.proofs.Runs.{Inv, StateKnows, event_inv}
 use Rattle.slate_cluster_laws.proofs.Steps.{PhraseKnows, author_of, db_in, phrase_asks, work_asks, work_db}
+use Rattle.slate_cluster_laws.proofs.Tallies.{its_kind}
 
 -- ---- chains keep their versions
 
@@ -179,16 +179,12 @@ commit_putting logs.Compactions db number bytes logs.Compactions d puts now m bs
 commit_putting logs.Manifest db number bytes logs.Compactions d puts now m bs v e = absurd (cc e)
 commit_putting logs.Compactions db number bytes logs.Manifest d puts now m bs v e = absurd (cc e)
 
-kind_is : (k : LogKind) → (log_of k).kind ≡ k
-kind_is logs.Manifest = refl
-kind_is logs.Compactions = refl
-
 phrase_putting : (phrase : Phrase) (k : LogKind) (db : List ℕ) (number : ℕ) (bytes : List ℕ) → phrase_asks phrase ≡ PutNew (version_path k db number) bytes → IsPutting phrase k db number bytes
 phrase_putting (Reads j d phase) k db number bytes e = absurd (read_puts k db number bytes d (log_of j).kind phase e)
 phrase_putting (Uploads d table bs) k db number bytes e = absurd (cc e)
 phrase_putting (Collects d pass phase) k db number bytes e = absurd (pass_puts k db number bytes d pass phase e)
 phrase_putting (Commits j d puts now (Putting m bs v)) k db number bytes e =
-    commit_putting k db number bytes j d puts now m bs v (ap (λ x. PutNew (version_path x d m) bs) (sym (kind_is j)) ∙ e)
+    commit_putting k db number bytes j d puts now m bs v (ap (λ x. PutNew (version_path x d m) bs) (sym (its_kind j)) ∙ e)
 phrase_putting (Commits j d puts now (Bounding m v)) k db number bytes e = absurd (cc e)
 phrase_putting (Commits j d puts now Over) k db number bytes e = absurd (cc e)
 
@@ -415,9 +411,6 @@ event_own w chains (Start n call) d all i m h is =
     subst (EventBrings chains (Start n call) (all n)) (sym (event_brings (Start n call) all w d m is).entry) (else_brings chains (Start n call) (all n) w.store (λ x. x) (h n))
 event_own w chains (Stop n) d all i m h is = subst (EventBrings chains (Stop n) (all n)) (sym (event_brings (Stop n) all w d m is).entry) (else_brings chains (Stop n) (all n) w.store (λ x. x) (h n))
 event_own w chains (Step n moment mark) d all i m h is = step_brings w chains i n moment mark (all n) (party_of n w.parties) refl (m n) (h n) d is
-
-same_number : (a b : ℕ) → (a == b) ≡ true → a ≡ b
-same_number a b h = grind (arith, nat_tests)
 
 all_puts : (w : World) (chains : Chains) (e : Event) (d : Transition) (all : AllTold) → AllPuts all chains → ToldPuts (chains_after w e chains) (party_in e) (told_after e d.entry (all (party_in e))) → AllPuts (all_told_after e d.entry all) (chains_after w e chains)
 all_puts w chains e d all h own k = test (k == party_in e) refl

@@ -47,14 +47,14 @@ use Rattle.slate_cluster_protocol.specs.Reach.{IsSpare, names_top}
 use Rattle.slate_cluster_protocol.specs.Works.{pass_ways}
 use Rattle.slate_cluster_laws.proofs.Stores.{IsTidy}
 use Rattle.slate_cluster_laws.proofs.Lists.{EachNumber, greatest_has, listed_small}
-use Rattle.slate_cluster_laws.proofs.Links.{at_most}
+use Rattle.slate_cluster_chain_laws.proofs.Links.{at_most}
 use Rattle.slate_cluster_laws.proofs.Listed.{number_back, listed_is, listed_most}
 use Rattle.slate_cluster_laws.proofs.Facts.{IsSound, IsValue, Holds, IsReached, AdvanceKnows, AdvanceBrings, target, Grows}
 use Rattle.slate_cluster_laws.proofs.Frame.{kept_holds, kept_reached, kept_advance}
-use Rattle.slate_cluster_laws.proofs.Manifests.{manifests_log}
+use Rattle.slate_cluster_chain_laws.proofs.Manifests.{manifests_log}
 use Rattle.slate_cluster_laws.proofs.Puts.{Leaves, leaves_not}
 use Rattle.slate_cluster_laws.proofs.Moves.{delete_leaves}
-use Rattle.slate_cluster_laws.proofs.Spares.{spare_below}
+use Rattle.slate_cluster_chain_laws.proofs.Spares.{spare_below}
 use Rattle.slate_cluster_laws.proofs.Advances.{advance_step}
 use Rattle.slate_cluster_laws.proofs.Turns.{got_holds, above_test}
 

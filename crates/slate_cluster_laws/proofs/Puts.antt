@@ -13,13 +13,14 @@ use Rattle.slate_cluster_protocol.specs.Chains.{Link, Log, link_at, top, if_new,
 use Rattle.slate_cluster_protocol.specs.Chains.Changed.{Stays, Gets}
 use Rattle.slate_cluster_protocol.specs.Chains.IsFirst.{Begins}
 use Rattle.slate_store.proofs.LookUps.{at_put, at_else}
-use Rattle.slate_cluster_laws.proofs.Links.{link_here, link_there, same_or_not, first_number, some_below, next_is_top, at_most}
+use Rattle.slate_cluster_chain_laws.proofs.Links.{link_here, link_there, same_or_not, first_number, some_below, next_is_top, at_most}
 use Rattle.slate_cluster_protocol.specs.Reach.{names_top, IsNeeded, IsSpare}
 use Rattle.slate_cluster_protocol.specs.Reach.IsNeeded.{Greatest, Named}
 use Rattle.slate_cluster_laws.proofs.Paths.{IsElsewhere, versions_apart, boundary_apart}
-use Rattle.slate_cluster_laws.proofs.Spares.{stays_unnamed}
-use Rattle.slate_cluster_laws.proofs.Facts.IsMade.{OfVersion, OfNone}
-use Rattle.slate_cluster_laws.proofs.Facts.{IsLog, IsCommitted, IsSound, HoldsBy, IsMade, IsNext, Grows}
+use Rattle.slate_cluster_chain_laws.proofs.Spares.{stays_unnamed}
+use Rattle.slate_cluster_chain_laws.proofs.LogRules.IsMade.{OfVersion, OfNone}
+use Rattle.slate_cluster_chain_laws.proofs.LogRules.{IsLog, IsMade}
+use Rattle.slate_cluster_laws.proofs.Facts.{IsCommitted, IsSound, HoldsBy, IsNext, Grows}
 
 -- what one effect leaves of a log, by an author
 pub record Leaves {V A : Type 0} (log : Log V A) (db : List ℕ) (author : A) (s : Store) (c : List (Link V A)) (s' : Store) (c' : List (Link V A)) : Type 0 where

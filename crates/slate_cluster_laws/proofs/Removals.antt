@@ -11,7 +11,7 @@ use Rattle.std.specs.declared.cmp.Ordering.{Ordering}
 use Rattle.slate_ids.specs.Limits.{last_number}
 use Rattle.slate_ids.specs.PathText.{path_text, path_cmp}
 use Rattle.slate_ids.specs.declared.object_path.ObjectPath.{ObjectPath}
-use Rattle.slate_store.specs.Store.{Store, stands_at, removed, taken, effect}
+use Rattle.slate_store.specs.Store.{Store, stands_at, removed, effect}
 use Rattle.slate_store.specs.declared.mark.Mark.{Mark}
 use Rattle.slate_store.specs.declared.mark.Mark.TheVariants.{Good, Fail, Lost}
 use Rattle.slate_store.specs.declared.object.StoredObject.{StoredObject}

@@ -13,6 +13,7 @@ use Rattle.slate_script_events.specs.declared.reply.Reply.{Reply}
 use Rattle.slate_script_events.specs.declared.event.Event.{Event}
 use Rattle.slate_script_events.specs.declared.event.Event.TheVariants.{Open, Start, Step, Stop}
 use Rattle.slate_script_events.specs.declared.party_kind.PartyKind.{PartyKind}
+use Rattle.slate_cluster_protocol.specs.Alone.{all_told}
 use Rattle.slate_cluster_protocol.specs.ByRows.{Doing, Rests, Answers, Stays, Told, AllTold, reply_in, asked_entry, step_entry, start_entry, stop_entry, entry_by, told_call, told_answer, facts_then, told_after, party_in, all_told_after, entry_store, trail_by}
 use Rattle.slate_cluster_protocol.specs.Calls.{Next, Go, Finish}
 use Rattle.slate_cluster_protocol.specs.Rows.{Answered, Row, Asks, Standing, begin, moved, answered, after_answers, stands_after, row_of, row}
@@ -234,7 +235,7 @@ event_brings (Start n call) all w d m h = start_event n call w (all n) (party_of
 event_brings (Step n moment mark) all w d m h = step_event n moment mark w (all n) (party_of n w.parties) d refl (m n) h
 event_brings (Stop n) all w d m h = stop_event n w (all n) (party_of n w.parties) d refl (m n) h
 
-same_number : (a b : ℕ) → (a == b) ≡ true → a ≡ b
+pub same_number : (a b : ℕ) → (a == b) ≡ true → a ≡ b
 same_number a b h = grind (arith, nat_tests)
 
 other_number : (a b : ℕ) → (a == b) ≡ false → a ≢ b
@@ -268,3 +269,18 @@ rows_run (e ∷ es) place c v all m h = went (happens c.world e) refl h (λ d b 
         ∙ (append_assoc c.trail (d.entry ∷ []) (trail_by es (all_told_after e d.entry all) d.world.store)
         ∙ (ap (λ (s : Store). c.trail ++ d.entry ∷ trail_by es (all_told_after e d.entry all) s) b.store
         ∙ ap (λ (y : Entry). c.trail ++ y ∷ trail_by es (all_told_after e y all) (entry_store y c.world.store)) b.entry))
+
+-- what is said of the parties after events is where they stand
+pub told_run : (es : List Event) (place : ℕ) (c v : Course) (all : AllTold) → AllMatch all c.world → run es place c ≡ ended v → AllMatch (all_told es all c.world.store) v.world
+told_run [] place c v all m h = subst (λ (x : Course). AllMatch all x.world) (ap (λ (r : Ran). r.course) h) m
+told_run (e ∷ es) place c v all m h =
+    went (happens c.world e) refl h (λ d b k. told_run es (place + 1) (going_on c d) v (all_told_after e d.entry all) (all_after e all c.world d m b) k)
+  where
+    went : (o : Option Transition) → happens c.world e ≡ o → (elim o as (λ _. Ran) [ None ↦ record { course = c; bad = Some place } | Some done ↦ run es (place + 1) (going_on c done) ]) ≡ ended v
+        → ((d : Transition) → Brought e (all (party_in e)) c.world d → run es (place + 1) (going_on c d) ≡ ended v → AllMatch (all_told es (all_told_after e d.entry all) d.world.store) v.world)
+        → AllMatch (all_told (e ∷ es) all c.world.store) v.world
+    went None is h f = absurd (cc (ap (λ (r : Ran). r.bad) h))
+    went (Some d) is h f =
+        let b = event_brings e all c.world d m is in
+        subst (λ (y : Entry). AllMatch (all_told es (all_told_after e y all) (entry_store y c.world.store)) v.world) b.entry
+        (subst (λ (s : Store). AllMatch (all_told es (all_told_after e d.entry all) s) v.world) b.store (f d b h))

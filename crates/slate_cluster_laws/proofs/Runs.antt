@@ -33,7 +33,7 @@ use Rattle.slate_cluster_protocol.specs.Ids.{is_stale}
 use Rattle.slate_cluster_protocol.specs.declared.work.Work.{Work}
 use Rattle.slate_cluster_laws.proofs.Stores.{IsTidy, same_name}
 use Rattle.slate_cluster_laws.proofs.Maps.{number_order, set_here, set_else, insert_here, insert_else}
-use Rattle.slate_cluster_laws.proofs.Links.{same_or_not}
+use Rattle.slate_cluster_chain_laws.proofs.Links.{same_or_not}
 use Rattle.slate_cluster_laws.proofs.Facts.{IsSound, Grows}
 use Rattle.slate_cluster_laws.proofs.Frame.{kept_read, kept_commit}
 use Rattle.slate_cluster_laws.proofs.Paths.{IsOwn, IsElsewhere, AreApart, own_elsewhere, nobodys_elsewhere}

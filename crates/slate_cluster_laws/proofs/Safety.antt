@@ -50,7 +50,7 @@ use Rattle.slate_cluster_laws.proofs.Paths.{version_owner}
 use Rattle.slate_cluster_laws.proofs.Puts.{grows_not}
 use Rattle.slate_cluster_laws.proofs.Rows.{AllMatch, ended, event_brings, all_after}
 use Rattle.slate_cluster_laws.proofs.Runs.{Inv, StateKnows, log_after, same_tallies, event_inv}
-use Rattle.slate_cluster_laws.proofs.Spares.{not_needed}
+use Rattle.slate_cluster_chain_laws.proofs.Spares.{not_needed}
 use Rattle.slate_cluster_laws.proofs.Steps.{PhraseKnows, db_in, phrase_asks, work_asks, work_db}
 use Rattle.slate_cluster_laws.proofs.Tallies.{its_kind}
 use Rattle.slate_cluster_laws.proofs.Zeros.{NoZero, zero_stays}

@@ -41,7 +41,7 @@ use Rattle.slate_state_updates.specs.declared.manifest_change.ManifestChange.The
 use Rattle.slate_store.proofs.LookUps.{bytes_same}
 use Rattle.slate_cluster_laws.proofs.Stores.{IsTidy, decides}
 use Rattle.slate_cluster_laws.proofs.Facts.{IsSound, ReadKnows, CommitKnows, ReadBrings, CommitBrings}
-use Rattle.slate_cluster_laws.proofs.Manifests.{log_laws}
+use Rattle.slate_cluster_chain_laws.proofs.Manifests.{log_laws}
 use Rattle.slate_cluster_laws.proofs.Paths.{AreApart, nobodys_elsewhere, table_nobodys}
 use Rattle.slate_cluster_laws.proofs.Puts.{Leaves, leaves_not, elsewhere_leaves}
 use Rattle.slate_cluster_laws.proofs.Turns.{chain_if, read_step, bound_step, put_step}

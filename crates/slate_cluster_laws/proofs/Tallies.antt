@@ -33,7 +33,7 @@ use Rattle.slate_cluster_protocol.specs.World.{tally_of, number_in, tallied, com
 use Rattle.slate_cluster_protocol.specs.declared.tally.Tally.{Tally}
 use Rattle.slate_store.proofs.LookUps.{put_object}
 use Rattle.slate_cluster_laws.proofs.Stores.{IsTidy, tidy_put, tidy_left, same_name}
-use Rattle.slate_cluster_laws.proofs.Links.{at_most, next_number}
+use Rattle.slate_cluster_chain_laws.proofs.Links.{at_most, next_number}
 use Rattle.slate_cluster_laws.proofs.Maps.{name_order, set_here, set_else}
 use Rattle.slate_cluster_laws.proofs.Facts.{IsSound, IsNext}
 use Rattle.slate_cluster_laws.proofs.Paths.{IsOwn, IsNobodys, own_fine, table_nobodys}

@@ -25,8 +25,9 @@ use Rattle.slate_cluster_protocol.specs.Chains.{Link, Log, link_at, with_link, b
 use Rattle.slate_cluster_protocol.specs.World.{wrote}
 use Rattle.slate_cluster_laws.proofs.Stores.{IsTidy}
 use Rattle.slate_cluster_laws.proofs.Lists.{listed_small}
-use Rattle.slate_cluster_laws.proofs.Links.{decodes}
-use Rattle.slate_cluster_laws.proofs.Facts.{IsLog, IsSound, IsValue, Holds, HoldsBy, IsNext, ReadKnows, ReadBrings, CommitBrings}
+use Rattle.slate_cluster_chain_laws.proofs.Links.{decodes}
+use Rattle.slate_cluster_chain_laws.proofs.LogRules.{IsLog}
+use Rattle.slate_cluster_laws.proofs.Facts.{IsSound, IsValue, Holds, HoldsBy, IsNext, ReadKnows, ReadBrings, CommitBrings}
 use Rattle.slate_cluster_laws.proofs.Puts.{Leaves, leaves_not, put_leaves}
 
 -- the chain after a put, where it wrote

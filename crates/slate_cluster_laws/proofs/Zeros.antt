@@ -39,8 +39,9 @@ use Rattle.slate_cluster_protocol.specs.Owners.Owner.{Version, Boundary, Table}
 use Rattle.slate_cluster_protocol.specs.Works.{asks, db_of}
 use Rattle.slate_cluster_protocol.specs.World.{World, HasDb}
 use Rattle.slate_cluster_protocol.specs.declared.work.Work.{Work}
-use Rattle.slate_cluster_laws.proofs.Facts.{IsMade, CommitKnows}
-use Rattle.slate_cluster_laws.proofs.Facts.IsMade.{OfVersion, OfNone}
+use Rattle.slate_cluster_chain_laws.proofs.LogRules.{IsMade}
+use Rattle.slate_cluster_laws.proofs.Facts.{CommitKnows}
+use Rattle.slate_cluster_chain_laws.proofs.LogRules.IsMade.{OfVersion, OfNone}
 use Rattle.slate_cluster_laws.proofs.Paths.{version_fine, boundary_fine, version_owner, boundary_owner, table_nobodys}
 use Rattle.slate_cluster_laws.proofs.Passes.{PassKnows}
 use Rattle.slate_cluster_laws.proofs.Steps.{PhraseKnows, author_of, db_in, phrase_asks, work_asks, work_db}

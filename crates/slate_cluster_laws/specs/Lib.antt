@@ -1,4 +1,3 @@
 pub mod LogsAtEnd
 pub mod InCalls
 pub mod OwnCalls
-pub mod PassPicks

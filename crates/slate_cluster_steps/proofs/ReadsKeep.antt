@@ -5,7 +5,7 @@ use Rattle.slate_store.specs.Store.{Store, Outcome, under, whole, taken, effect}
 use Rattle.slate_store.specs.declared.mark.Mark.{Mark}
 use Rattle.slate_store.specs.declared.mark.Mark.TheVariants.{Good, Fail, Lost}
 use Rattle.slate_store.specs.declared.store_call.StoreCall.{StoreCall}
-use Rattle.slate_store.specs.declared.store_call.StoreCall.TheVariants.{List as ListCall, Get, PutNew, Replace, Put, Delete}
+use Rattle.slate_store.specs.declared.store_call.StoreCall.TheVariants.{List as ListCall, Get}
 
 under_keeps : (mark : Mark) (o : Outcome) (s : Store) → o.store ≡ s → (under mark o s).store ≡ s
 under_keeps Good o s h = h

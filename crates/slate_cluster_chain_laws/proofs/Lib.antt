@@ -1,0 +1,8 @@
+pub mod LogRules
+pub mod Links
+pub mod Spares
+mod NormalRules
+mod NormalRecordRules
+pub mod Manifests
+pub mod Epochs
+pub mod Rising

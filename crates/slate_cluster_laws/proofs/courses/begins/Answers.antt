@@ -1,5 +1,0 @@
-use Rattle.std.proofs.Common.{refl}
-use Rattle.slate_cluster_laws.proofs.courses.begins.Goals as goal
-
-pub returns : goal.returns
-returns c = λ specs accepted. record { accepted = accepted; led = refl }

@@ -1,5 +1,0 @@
-use Rattle.slate_cluster_laws.proofs.DryRuns as dry
-use Rattle.slate_cluster_laws.proofs.exact_passes.dry_run.Goals as goal
-
-pub returns : goal.returns
-returns c = dry.dry_run
