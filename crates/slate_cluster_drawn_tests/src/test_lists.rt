@@ -19,14 +19,15 @@ pub(crate) enum Mix {
 }
 
 // How many places a mix has.
-fn places(mix: Mix) -> u64
-    ensures { 0 < result }
-{
+fn places(mix: Mix) -> usize {
     match mix {
         Mix::Collectors => 6,
         Mix::Compactors => 7,
     }
 }
+
+// The place of the collector beside compactors.
+const COLLECTOR: usize = 6;
 
 // How many compactions the opening record has.
 const COMPACTIONS: u64 = 6;
@@ -76,12 +77,12 @@ impl Draws {
         self.below(times) == 0
     }
 
-    // One of the places; half the time one of the first two, of writers or of compactors.
+    // One of the six places; half the time one of the two of writers.
     fn any_place(&mut self) -> usize {
         if self.once_in(2) {
             self.below(2) as usize
         } else {
-            self.below(places(self.mix)) as usize
+            self.below(6) as usize
         }
     }
 
@@ -96,7 +97,7 @@ impl Draws {
     }
 
     // A place; the leading compactor and the workers have the most.
-    fn weighed_place(&mut self) -> usize {
+    fn busy_place(&mut self) -> usize {
         match self.below(16) {
             0 => 0,
             1 => 1,
@@ -105,17 +106,7 @@ impl Draws {
             9 | 10 | 11 => 3,
             12 => 4,
             13 => 5,
-            _ => 6,
-        }
-    }
-
-    // The same, seldom that of the party that rests.
-    fn busy_place(&mut self) -> usize {
-        let place = self.weighed_place();
-        if place == self.resting {
-            self.weighed_place()
-        } else {
-            place
+            _ => COLLECTOR,
         }
     }
 
@@ -459,6 +450,16 @@ impl Draws {
     }
 }
 
+// A pass over a log that deletes all candidates.
+fn pass_over(pass: GcMessage) -> Call {
+    Call::Pass {
+        pass,
+        min_age: 0,
+        dry_run: false,
+        filter: FilterWord::All,
+    }
+}
+
 // The kind of the parties at a place.
 fn kind_at(mix: Mix, place: usize) -> PartyKind {
     match mix {
@@ -559,10 +560,33 @@ fn restless(rt: &impl Abort, events: &mut Vec<Event>, draws: &mut Draws, db: DbP
     }
 }
 
-// Beside compactors: now and then a party that rests, or one that is replaced and starts its first call, else half the time a start.
+// A compactor opens up to its first put of a record, the other one opens, and the collector has a pass over the records. Then the put of
+// the first compactor may come late.
+fn open_late(rt: &impl Abort, events: &mut Vec<Event>, draws: &mut Draws) {
+    let (late, other) = if draws.once_in(2) { (0, 1) } else { (1, 0) };
+    steps(rt, events, draws, late, 12);
+    steps(rt, events, draws, other, 12);
+    steps(rt, events, draws, COLLECTOR, 12);
+    start_first(rt, events, draws, late);
+    steps(rt, events, draws, late, 8);
+    start_first(rt, events, draws, other);
+    steps(rt, events, draws, other, 12);
+    start_call(
+        rt,
+        events,
+        draws,
+        COLLECTOR,
+        pass_over(GcMessage::Compactions),
+    );
+    steps(rt, events, draws, COLLECTOR, 24);
+    steps(rt, events, draws, late, 2);
+}
+
+// Beside compactors: now and then an open whose put may come late, or a party that is replaced and starts its first call, else half the
+// time a start.
 fn busy(rt: &impl Abort, events: &mut Vec<Event>, draws: &mut Draws, db: DbPath, place: usize) {
-    if draws.once_in(15) {
-        rest(rt, events, draws);
+    if draws.once_in(40) {
+        open_late(rt, events, draws);
     }
     if draws.once_in(60) {
         replace(rt, events, draws, db, place);
@@ -608,10 +632,10 @@ pub(crate) fn generated(rt: &impl Abort, alloc: Global, mix: Mix, seed: u64) -> 
     let mut events = Vec::new(alloc);
     let mut draws = draws_of(mix, seed);
     for place in 0..places(mix) {
-        open(rt, &mut events, &mut draws, db, place as usize);
+        open(rt, &mut events, &mut draws, db, place);
     }
     for place in 0..places(mix) {
-        start_first(rt, &mut events, &mut draws, place as usize);
+        start_first(rt, &mut events, &mut draws, place);
     }
     for _ in 0..bursts(mix) {
         draw(rt, &mut events, &mut draws, db);

@@ -108,8 +108,8 @@ pub(crate) fn has_boundary(rt: &impl Abort, cluster: &Cluster, bytes: &[u8]) -> 
     }
 }
 
-// Whether the line of an entry has both texts.
-fn has(rt: &impl Abort, alloc: Global, entry: &Entry, one: &str, other: &str) -> bool {
+/// Whether the line of an entry has both texts.
+pub(crate) fn has(rt: &impl Abort, alloc: Global, entry: &Entry, one: &str, other: &str) -> bool {
     let line = entry_line(alloc, 0, entry).expect(rt, "memory");
     let both = line.as_str().contains(one) && line.as_str().contains(other);
     drop(line);
