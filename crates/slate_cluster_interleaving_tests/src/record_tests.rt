@@ -1,4 +1,4 @@
-//! Every order of a pass over records with opens of compactors. After each what it left of the records is read off the store.
+//! Every order of a pass over records with an open of a compactor. After each what it left of the records is read off the store.
 
 use crate::test_clusters::{after, bytes_at, db, does, has};
 use slate_cluster::Cluster;
@@ -10,20 +10,12 @@ use slate_txn_log::decode_boundary;
 use std::alloc::Global;
 use std::process::Abort;
 
-// What a run leaves of the records: their boundary, which is 0 where there is none, and the epoch of each from 1 to 5 that stands.
-#[derive(Clone, Copy, PartialEq, Eq)]
-struct Left {
-    boundary: u64,
-    epochs: [Option<u64>; 5],
-}
-
-// A way in which the calls of parties 0 and 1 end, with what they leave, and how many orders end so.
+// How many orders left the boundary of the records at 2, at 3 and at 4.
 #[derive(Clone, Copy)]
-struct Way {
-    left: Left,
-    first: &'static str,
-    second: &'static str,
-    orders: u32,
+struct Counts {
+    at_two: u32,
+    at_three: u32,
+    at_four: u32,
 }
 
 fn boundary_of(rt: &impl Abort, cluster: &Cluster) -> u64 {
@@ -48,19 +40,22 @@ fn epoch_of(rt: &impl Abort, alloc: Global, cluster: &Cluster, number: u64) -> O
     }
 }
 
-// What is left; a sixth record never stands.
-fn left_of(rt: &impl Abort, alloc: Global, cluster: &Cluster) -> Left {
-    assert!(rt; epoch_of(rt, alloc, cluster, 6).is_none());
-    Left {
-        boundary: boundary_of(rt, cluster),
-        epochs: [
-            epoch_of(rt, alloc, cluster, 1),
-            epoch_of(rt, alloc, cluster, 2),
-            epoch_of(rt, alloc, cluster, 3),
-            epoch_of(rt, alloc, cluster, 4),
-            epoch_of(rt, alloc, cluster, 5),
-        ],
+// Whether just the records from one number up to 5 stand, each with its epoch: 1 is that of the first open, 2 that of the other.
+fn stand_from(rt: &impl Abort, alloc: Global, cluster: &Cluster, first: u64) -> bool {
+    for number in 1..7u64 {
+        let epoch = epoch_of(rt, alloc, cluster, number);
+        let wanted = if number < first || number > 5 {
+            None
+        } else if number == 3 {
+            Some(1)
+        } else {
+            Some(2)
+        };
+        if epoch != wanted {
+            return false;
+        }
     }
+    true
 }
 
 // Whether a party's call ended here.
@@ -86,46 +81,43 @@ fn ends_with(rt: &impl Abort, alloc: Global, cluster: &Cluster, party: u32, text
     good
 }
 
-// Whether both calls ended this way.
-fn ended(rt: &impl Abort, alloc: Global, cluster: &Cluster, left: Left, way: &Way) -> bool {
-    left == way.left
-        && ends_with(rt, alloc, cluster, 0, way.first)
-        && ends_with(rt, alloc, cluster, 1, way.second)
+// Whether the open is done, and the pass with this reply left the boundary there and just the records above it.
+fn is_left_at(
+    rt: &impl Abort,
+    alloc: Global,
+    cluster: &Cluster,
+    boundary: u64,
+    reply: &str,
+) -> bool {
+    boundary_of(rt, cluster) == boundary
+        && stand_from(rt, alloc, cluster, boundary.saturating_add(1))
+        && ends_with(rt, alloc, cluster, 0, "reply epoch 2")
+        && ends_with(rt, alloc, cluster, 1, reply)
 }
 
-// The place of the way in which both calls ended.
-fn way_of(rt: &impl Abort, alloc: Global, cluster: &Cluster, ways: &[Way]) -> Option<usize> {
-    let left = left_of(rt, alloc, cluster);
-    for (i, way) in ways.iter().enumerate() {
-        if ended(rt, alloc, cluster, left, way) {
-            return Some(i);
-        }
-    }
-    None
-}
-
-// One order more that ended this way.
-fn one_more(rt: &impl Abort, counts: &mut [u32; 3], way: Option<usize>, code: u32) {
-    let place = way.expect(rt, "a way");
-    if let Some(found) = counts.as_mut_slice().get_mut(place) {
-        *found = found.saturating_add(1);
+// The number of records that the pass deleted, where both calls ended as they should: all up to the boundary that it left.
+fn deleted_in(rt: &impl Abort, alloc: Global, cluster: &Cluster) -> u32 {
+    if is_left_at(rt, alloc, cluster, 2, "reply pass 2 2 0") {
+        2
+    } else if is_left_at(rt, alloc, cluster, 3, "reply pass 3 3 0") {
+        3
+    } else if is_left_at(rt, alloc, cluster, 4, "reply pass 4 4 0") {
+        4
     } else {
-        assert!(rt; false, "{code}");
+        0
     }
 }
 
-// Whether as many orders ended each way as it says.
-fn are_all(counts: &[u32; 3], ways: &[Way]) -> bool {
-    for (i, found) in counts.as_slice().iter().enumerate() {
-        let wanted = match ways.get(i) {
-            Some(way) => way.orders,
-            None => 0,
-        };
-        if *found != wanted {
-            return false;
-        }
+// One order more.
+fn one_more(counts: Counts, deleted: u32) -> Counts {
+    let mut counts = counts;
+    match deleted {
+        2 => counts.at_two = counts.at_two.saturating_add(1),
+        3 => counts.at_three = counts.at_three.saturating_add(1),
+        4 => counts.at_four = counts.at_four.saturating_add(1),
+        _ => {}
     }
-    true
+    counts
 }
 
 // One step of a party more, at a later moment.
@@ -156,43 +148,6 @@ const ONE_OPEN: &str =
   {"open":1,"kind":"collector","db":"db"},{"start":1,"call":"pass","pass":"compactions","min_age":0},
   {"step":1,"at":1000,"times":3}]}"#;
 
-// The open is done, and the records below the greatest one that the pass listed are gone: before the first put of the open that is the
-// third, and after each put the next.
-const ONE_OPEN_WAYS: &[Way] = &[
-    Way {
-        left: Left {
-            boundary: 2,
-            epochs: [None, None, Some(1), Some(2), Some(2)],
-        },
-        first: "reply epoch 2",
-        second: "reply pass 2 2 0",
-        orders: 736,
-    },
-    Way {
-        left: Left {
-            boundary: 3,
-            epochs: [None, None, None, Some(2), Some(2)],
-        },
-        first: "reply epoch 2",
-        second: "reply pass 3 3 0",
-        orders: 50,
-    },
-    Way {
-        left: Left {
-            boundary: 4,
-            epochs: [None, None, None, None, Some(2)],
-        },
-        first: "reply epoch 2",
-        second: "reply pass 4 4 0",
-        orders: 6,
-    },
-];
-
-// The table as a slice: a function that names a table has all of it written out.
-fn one_open_ways() -> &'static [Way] {
-    ONE_OPEN_WAYS
-}
-
 // Of the last twelve steps those of the pass are the ones of this mask; what is left of the pass follows.
 fn open_and_pass(rt: &impl Abort, alloc: Global, mask: u32) -> Cluster {
     let mut events = Vec::new(alloc);
@@ -206,144 +161,28 @@ fn open_and_pass(rt: &impl Abort, alloc: Global, mask: u32) -> Cluster {
     after_both(rt, alloc, ONE_OPEN, events)
 }
 
-fn one_open_ends(rt: &impl Abort, alloc: Global, mask: u32) -> Option<usize> {
+fn deleted_by(rt: &impl Abort, alloc: Global, mask: u32) -> u32 {
     let cluster = open_and_pass(rt, alloc, mask);
-    let way = way_of(rt, alloc, &cluster, one_open_ways());
+    let deleted = deleted_in(rt, alloc, &cluster);
     drop(cluster);
-    way
+    deleted
 }
 
-// All 792 orders of the last seven steps of an open and the last five of a pass, from their lists of records on.
+// All 792 orders of the last seven steps of an open and the last five of a pass, from their lists of records on. The pass deletes what
+// is below the greatest record that it lists: the third one before the first put of the open, then the fourth, and then the fifth.
 #[test]
 fn an_open_is_done_beside_a_pass_over_records(rt: HostRuntime) {
-    let mut orders = 0u32;
-    let mut counts = [0u32; 3];
+    let mut counts = Counts {
+        at_two: 0,
+        at_three: 0,
+        at_four: 0,
+    };
     for mask in 0..4096u32 {
         if mask.count_ones() == 5 {
-            let way = one_open_ends(&rt, rt.alloc(), mask);
-            one_more(&rt, &mut counts, way, mask);
-            orders = orders.saturating_add(1);
+            let deleted = deleted_by(&rt, rt.alloc(), mask);
+            assert!(rt; deleted > 0, "{mask}");
+            counts = one_more(counts, deleted);
         }
     }
-    assert!(rt; orders == 792 && are_all(&counts, one_open_ways()));
-}
-
-// Compactors 0 and 1 have read the one record, and are to put the second; the pass of collector 2 is at its list of records.
-const TWO_OPENS: &str =
-    r#"{"databases":[{"path":"db","record":{"epoch":0,"compactions":[]}}],"events":[
-  {"open":0,"kind":"compactor","db":"db"},{"start":0,"call":"open_compactor"},{"step":0,"at":1000,"times":8},
-  {"open":1,"kind":"compactor","db":"db"},{"start":1,"call":"open_compactor"},{"step":1,"at":1000,"times":8},
-  {"open":2,"kind":"collector","db":"db"},{"start":2,"call":"pass","pass":"compactions","min_age":0},
-  {"step":2,"at":1000,"times":3}]}"#;
-
-const TAKEN: &str = "-> exists reply refused 1 TransactionalObjectVersionExists 2";
-
-// Where compactor 0 steps first its open is done, and the other one is refused. The pass lists two records: the third is put after it.
-const AFTER_COMPACTOR_0: &[Way] = &[Way {
-    left: Left {
-        boundary: 1,
-        epochs: [None, Some(1), Some(1), None, None],
-    },
-    first: "reply epoch 1",
-    second: TAKEN,
-    orders: 1260,
-}];
-
-fn after_compactor_0() -> &'static [Way] {
-    AFTER_COMPACTOR_0
-}
-
-// Where compactor 1 steps first its open is done, and compactor 0 is refused. It finds its number taken, or puts it late, after the pass
-// deleted the record of that number: then its put stands, below the boundary that refuses it.
-const AFTER_COMPACTOR_1: &[Way] = &[
-    Way {
-        left: Left {
-            boundary: 1,
-            epochs: [None, Some(2), Some(2), None, None],
-        },
-        first: TAKEN,
-        second: "reply epoch 2",
-        orders: 2250,
-    },
-    Way {
-        left: Left {
-            boundary: 2,
-            epochs: [None, None, Some(2), None, None],
-        },
-        first: TAKEN,
-        second: "reply epoch 2",
-        orders: 262,
-    },
-    Way {
-        left: Left {
-            boundary: 2,
-            epochs: [None, Some(1), Some(2), None, None],
-        },
-        first: "-> object 1 reply refused 1 TransactionalObjectVersionExists 2",
-        second: "reply epoch 2",
-        orders: 8,
-    },
-];
-
-fn after_compactor_1() -> &'static [Way] {
-    AFTER_COMPACTOR_1
-}
-
-// Whether of the eleven digits of a number in base 3 two are 0, four are 1 and five are 2.
-fn is_two_four_five(code: u32) -> bool {
-    let mut counts = [0u8; 3];
-    let mut rest = code;
-    for _ in 0..11 {
-        let digit = (rest % 3) as usize;
-        counts[digit] = counts[digit].saturating_add(1);
-        rest /= 3;
-    }
-    counts == [2, 4, 5]
-}
-
-// The steps in the order of these digits; what is left of the open of compactor 0 follows.
-fn opens_and_pass(rt: &impl Abort, alloc: Global, code: u32) -> Cluster {
-    let mut events = Vec::new(alloc);
-    let mut rest = code;
-    for _ in 0..11 {
-        push_step(rt, &mut events, rest % 3);
-        rest /= 3;
-    }
-    push_step(rt, &mut events, 0);
-    push_step(rt, &mut events, 0);
-    after_both(rt, alloc, TWO_OPENS, events)
-}
-
-fn two_opens_end(rt: &impl Abort, alloc: Global, code: u32, ways: &[Way]) -> Option<usize> {
-    let cluster = opens_and_pass(rt, alloc, code);
-    let way = way_of(rt, alloc, &cluster, ways);
-    drop(cluster);
-    way
-}
-
-// How many orders begin with a step of this party. Each ends in one of these ways, and as many in each as it says.
-fn orders_from(rt: &impl Abort, alloc: Global, party: u32, ways: &[Way]) -> u32 {
-    let mut orders = 0u32;
-    let mut counts = [0u32; 3];
-    for code in 0..177147u32 {
-        if code % 3 == party && is_two_four_five(code) {
-            let way = two_opens_end(rt, alloc, code, ways);
-            one_more(rt, &mut counts, way, code);
-            orders = orders.saturating_add(1);
-        }
-    }
-    assert!(rt; are_all(&counts, ways));
-    orders
-}
-
-// The first two of the last four steps of one open, the last four of another, and the last five of a pass have 3,780 orders that one of the
-// opens begins. In all others the pass lists one record, and ends.
-#[test]
-fn two_opens_and_a_pass_and_compactor_0_steps_first(rt: HostRuntime) {
-    assert!(rt; orders_from(&rt, rt.alloc(), 0, after_compactor_0()) == 1260);
-}
-
-#[test]
-fn two_opens_and_a_pass_and_compactor_1_steps_first(rt: HostRuntime) {
-    assert!(rt; orders_from(&rt, rt.alloc(), 1, after_compactor_1()) == 2520);
+    assert!(rt; counts.at_two == 736 && counts.at_three == 50 && counts.at_four == 6);
 }

@@ -577,7 +577,7 @@ module _ (facts : Facts) (call : Call) (db : List ℕ) (options : GarbageCollect
   bound_brings _ log fine at now n count candidates h = absurd (cc (log))
 
   module _ (pass : GcMessage) (log : IsOfLog pass) (fine : IsFine (pass_log pass) db s) where
-    pub step_brings : is_db_path db ≡ true → (phase : GcPhase) → Knows own db s phase
+    pub step_brings : is_db_path db ≡ true → (phase : GcPhase) → Knows (pass_log pass) db s phase
         → Brings facts call db pass options word (whole (gc_asks db pass phase) moment s).store (λ answers r t. Ends facts call db pass options word phase s (((whole (gc_asks db pass phase) moment s).answer, moment) ∷ answers) r t)
         (gc_goes (pass_ways word) (bounded_pass pass options) moment phase (whole (gc_asks db pass phase) moment s).answer)
     step_brings named (Removing (Reading phase)) h =
