@@ -1,4 +1,4 @@
-//! Every order of a pass over records with an open of a compactor. After each what it left of the records is read off the store.
+//! The orders of the last steps of a pass over records and of an open of a compactor. After each what it left of the records is read off the store.
 
 use crate::test_clusters::{after, bytes_at, db, does, has};
 use slate_cluster::Cluster;

@@ -1,11 +1,14 @@
 //! The script that bytes stand for.
-ghost use Rattle.std.specs.Prelude.{◌≡◌, ◌≤◌, ◌<◌, ◌+◌, ◌++◌, IfOk, OnOk, Option, Some, None};
+ghost use Rattle.std.specs.Prelude.{◌≡◌, ◌≤◌, ◌<◌, ◌+◌, ◌++◌, IfOk, OnOk, List, Option, Some, None, Ok, Err, Result, option_map};
 ghost use Rattle.serde_json.specs.Read.{read};
 ghost use Rattle.serde_json.specs.View.{view, items_view};
-ghost use Rattle.slate_script_json.specs.Fields.{Gives};
+ghost use Rattle.slate_script_json.specs.Fields.{Gives, array_in};
 ghost use Rattle.slate_script_calls.specs.ReadEvents.{expand, count_of};
 ghost use Rattle.slate_script_databases.specs.DatabaseFields.{database_in};
-ghost use Rattle.slate_script.specs.Scripts.{Reads, at_place, databases_from, event_item_at, events_from, event_limit, top_in, script_in, json_of, script_of};
+ghost use Rattle.slate_script.specs.Scripts.{Reads, and_then, at_place, databases_from, event_item_at, events_from, event_limit, top_in, script_in, json_of, script_of};
+ghost use Rattle.slate_script_events.specs.declared.db_spec.DbSpec.{DbSpec};
+ghost use Rattle.slate_script_events.specs.declared.event.Event.{Event};
+ghost use Rattle.slate_script_events.specs.declared.script.ScriptPlace.{ScriptPlace};
 ghost use Rattle.slate_script_events.specs.declared.script.ScriptPlace.TheVariants.{Database};
 
 use serde_json::Value;
@@ -30,18 +33,23 @@ fn at<X: Drop>(place: ScriptPlace, read: Result<X, JsonError>) -> Result<X, Scri
     }
 }
 
-fn database(alloc: Global, i: usize, value: &Value) -> Result<DbSpec, ScriptError>
-    ensures { Reads result (at_place (Database i) (database_in (view value.now))) }
+// The database at a place, whose value is let go.
+fn database(alloc: Global, i: u64, value: Value) -> Result<DbSpec, ScriptError>
+    ensures { Reads result (at_place (Database i) (database_in (view value))) }
 {
-    at(ScriptPlace::Database(i as u64), read_database(alloc, value))
+    let read = at(ScriptPlace::Database(i), read_database(alloc, &value));
+    drop(value);
+    read
 }
 
-fn databases(alloc: Global, values: &[Value]) -> Result<Listed<DbSpec>, ScriptError>
-    ensures { Reads result (databases_from 0 (items_view values.now)) }
+// Each value is let go as soon as it is read, so that never all of them stand beside all databases.
+fn databases(alloc: Global, values: Vec<Value>) -> Result<Listed<DbSpec>, ScriptError>
+    ensures { Reads result (databases_from 0 (items_view values.items)) }
 {
     let mut databases = Listed::new(alloc);
-    for (i, value) in values.iter().enumerate() {
-        let db = database(alloc, i, value)?;
+    for value in values {
+        let place = databases.as_slice().len() as u64;
+        let db = database(alloc, place, value)?;
         databases.push(db)?;
     }
     Ok(databases)
@@ -99,25 +107,65 @@ fn events(alloc: Global, values: &[Value]) -> Result<Listed<Event>, ScriptError>
     Ok(events)
 }
 
-#[tactic(auto, unfolding(crate::specs::Scripts::top_in, crate::specs::Scripts::script_in))]
-fn script(alloc: Global, d: &Value) -> Result<Script, ScriptError>
-    ensures { Reads result (script_in (view d.now)) }
+// The items of an array, which are taken out of their object.
+fn items_taken(d: &mut Value, name: &str) -> Option<Vec<Value>>
+    ensures { option_map (λ v. items_view v.items) result ≡ array_in name.now (view d.old) }
 {
-    at(ScriptPlace::Top, only(d, &["databases", "events"]))?;
-    let (Some(database_values), Some(event_values)) = (
-        array_of(d, "databases"),
-        array_of(d, "events"),
-    ) else {
-        return Err(ScriptError::BadScript(ScriptPlace::Top));
-    };
-    let databases = databases(alloc, database_values)?;
-    match events(alloc, event_values) {
-        Ok(events) => Ok(Script { databases, events }),
+    match d.get_mut(name)?.take() {
+        Value::Array(values) => Some(values),
+        other => {
+            drop(other);
+            None
+        }
+    }
+}
+
+// What was read of both parts: a database that is none comes before any event.
+fn both(
+    databases: Result<Listed<DbSpec>, ScriptError>,
+    events: Result<Listed<Event>, ScriptError>,
+) -> Result<Script, ScriptError>
+    ensures { (ds : Result (List DbSpec) ScriptPlace) (es : Result (List Event) ScriptPlace) → Reads databases ds → Reads events es
+        → Reads result (and_then ds (λ d. and_then es (λ e. Ok (record { databases = d; events = e })))) }
+{
+    match databases {
+        Ok(databases) => match events {
+            Ok(events) => Ok(Script { databases, events }),
+            Err(e) => {
+                drop(databases);
+                Err(e)
+            }
+        },
         Err(e) => {
-            drop(databases);
+            drop(events);
             Err(e)
         }
     }
+}
+
+// The events are read first, of the whole value; then the values of the databases are taken out of it, and let go one by one.
+#[tactic(auto, unfolding(crate::specs::Scripts::top_in, crate::specs::Scripts::script_in))]
+fn parts(alloc: Global, d: &mut Value) -> Result<Script, ScriptError>
+    ensures { Reads result (script_in (view d.old)) }
+{
+    at(ScriptPlace::Top, only(d, &["databases", "events"]))?;
+    let Some(event_values) = array_of(d, "events") else {
+        return Err(ScriptError::BadScript(ScriptPlace::Top));
+    };
+    let events = events(alloc, event_values);
+    let Some(database_values) = items_taken(d, "databases") else {
+        drop(events);
+        return Err(ScriptError::BadScript(ScriptPlace::Top));
+    };
+    both(databases(alloc, database_values), events)
+}
+
+fn script(alloc: Global, mut d: Value) -> Result<Script, ScriptError>
+    ensures { Reads result (script_in (view d)) }
+{
+    let read = parts(alloc, &mut d);
+    drop(d);
+    read
 }
 
 // The JSON value of the text.
@@ -160,7 +208,5 @@ pub fn read_script(alloc: Global, bytes: &[u8]) -> Result<Script, ScriptError>
         Err(JsonError::Malformed) => return Err(ScriptError::BadScript(ScriptPlace::Json)),
         Err(JsonError::OutOfMemory) => return Err(ScriptError::OutOfMemory),
     };
-    let read = script(alloc, &value);
-    drop(value);
-    read
+    script(alloc, value)
 }
