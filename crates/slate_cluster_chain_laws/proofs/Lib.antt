@@ -6,3 +6,4 @@ mod NormalRecordRules
 pub mod Manifests
 pub mod Epochs
 pub mod Rising
+pub mod Names

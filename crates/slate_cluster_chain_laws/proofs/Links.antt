@@ -38,12 +38,12 @@ module _ {V A : Type 0} where
 module _ {V A : Type 0} (log : Log V A) where
   -- the first version has the number 1
   pub first_number : (first : Link V A) → IsFirst log first → first.number ≡ 1
-  first_number first (Opens number by value) = number
+  first_number first (Opens number by value own) = number
   first_number first (Begins author made number by makes bytes value) = number
 
   -- its bytes decode to its value
   first_decodes : IsLog log → (first : Link V A) → IsFirst log first → log.decoded first.bytes ≡ Ok first.value
-  first_decodes laws first (Opens number by value) = value
+  first_decodes laws first (Opens number by value own) = value
   first_decodes laws first (Begins author made number by makes bytes value) = laws.round made first.bytes bytes ∙ ap (λ (v : V). Ok v) (sym value)
 
   -- no number above the greatest is committed

@@ -1,15 +1,19 @@
 -- What a call knows of its work, and what a step of it brings.
-use Rattle.std.proofs.Common.{◌≡◌, ℕ, ℤ, Bool, true, false, List, Option, Some, None, Ok, Err, refl, sym, subst}
+use Rattle.std.proofs.Common.{◌≡◌, ℕ, ℤ, Bool, true, false, List, [], ◌∷◌, Option, Some, None, Ok, Err, refl, sym, subst}
 use Rattle.slate_txn_changes.specs.LogWorks.{WorkGoes, work_goes}
 use Rattle.slate_txn_changes.specs.declared.log_work.LogEnd.{LogEnd}
 use Rattle.slate_txn_changes.specs.declared.log_work.LogEnd.TheVariants.{Absent, Unchanged, Committed}
+use Rattle.slate_txn_changes.specs.declared.log_work.LogWork.{LogWork}
+use Rattle.slate_txn_changes.specs.declared.log_work.LogWork.TheVariants.{Reading, Committing}
 use Rattle.slate_state_compactor.specs.Local.{finished, failed}
 use Rattle.slate_state_compactor.specs.declared.local_state.LocalState.{LocalState}
 use Rattle.slate_state_calls.specs.Commits.{ManifestChanging, RecordChanging, manifest_put, record_put}
 use Rattle.slate_state_calls.specs.Opening.{OpenGoes, open_goes}
 use Rattle.slate_state_calls.specs.StateSteps.{StateGoes, state_goes}
 use Rattle.slate_state_calls.specs.declared.compactor.Compactor.{Compactor}
+use Rattle.slate_state_calls.specs.declared.open_phase.OpenPhase.TheVariants as opening
 use Rattle.slate_state_calls.specs.declared.state_phase.StatePhase.{StatePhase}
+use Rattle.slate_state_calls.specs.declared.state_phase.StatePhase.TheVariants as compacting
 use Rattle.slate_state_calls.specs.declared.state_start.StateStart.{StateStart}
 use Rattle.slate_state_calls.specs.declared.state_start.StateStart.TheVariants as starts
 use Rattle.slate_script_events.specs.declared.call.Call.{Call}
@@ -22,12 +26,18 @@ use Rattle.slate_ids.specs.declared.error.SlateDBError.{SlateDBError}
 use Rattle.slate_ids.specs.declared.gc_message.GcMessage.{GcMessage}
 use Rattle.slate_ids.specs.declared.gc_message.GcMessage.TheVariants as of
 use Rattle.slate_layout.specs.Codec.{encoded}
+use Rattle.slate_txn_log.specs.ReadPhase.{Reply, read_goes}
 use Rattle.slate_txn_log.specs.declared.log_kind.LogKind.{LogKind}
 use Rattle.slate_txn_log.specs.declared.log_kind.LogKind.TheVariants as logs
 use Rattle.slate_layout_manifests.specs.Decoding.{decoded_manifest}
 use Rattle.slate_model.specs.declared.manifest.Manifest.{Manifest}
 use Rattle.slate_gc_passes.specs.GcPhase.{GcGoes, collect_on, collects, gc_goes, moment_of_pass, removed_goes}
-use Rattle.slate_gc_passes.specs.Pass.{PassGoes, first_phase, pass_goes}
+use Rattle.slate_gc_passes.specs.Candidates.{heads_at}
+use Rattle.slate_gc_passes.specs.Pass.{PassGoes, fetched_goes, first_phase, manifest_goes, pass_goes, record_goes}
+use Rattle.slate_gc_passes.specs.declared.directory_options.GarbageCollectorDirectoryOptions.{GarbageCollectorDirectoryOptions}
+use Rattle.slate_gc_passes.specs.declared.heads.Heads.{Heads}
+use Rattle.slate_gc_passes.specs.declared.pass_phase.PassPhase.{PassPhase}
+use Rattle.slate_gc_passes.specs.declared.pass_phase.PassPhase.TheVariants as passing
 use Rattle.slate_gc_passes.specs.declared.gc_phase.GcPhase.{GcPhase}
 use Rattle.slate_gc_passes.specs.declared.gc_phase.GcPhase.TheVariants.{Removing, Collecting}
 use Rattle.slate_gc_passes.specs.declared.pass_settings.PassSettings.{PassSettings}
@@ -37,12 +47,15 @@ use Rattle.slate_store.specs.Machines.{Stay, End}
 use Rattle.slate_store.specs.Store.{Store}
 use Rattle.slate_store.specs.declared.store_answer.StoreAnswer.{StoreAnswer}
 use Rattle.slate_store.specs.declared.store_answer.StoreAnswer.TheVariants.{Written}
+use Rattle.slate_state_referenced.specs.Named.{named_numbers}
+use Rattle.slate_state_referenced.specs.Referenced.{ReferencedGoes, referenced_goes, rest_goes}
 use Rattle.slate_state_updates.specs.ManifestChanges.{commit_of}
 use Rattle.slate_state_updates.specs.declared.manifest_change.ManifestChange.TheVariants.{DropExpired}
 use Rattle.slate_cluster_protocol.specs.Calls.{end_of, facts_after, facts_at_start, facts_with, has_call, local_in, refusal_at_start, state_phase, unless_open, with_held, Next, Go, Finish}
 use Rattle.slate_cluster_protocol.specs.Chains.{link_at}
-use Rattle.slate_cluster_protocol.specs.Holding.{Fits, FitsState, IsOfLog, pass_log}
-use Rattle.slate_cluster_protocol.specs.Logs.{Chains, OfManifest, log_of, pass_phrase, phrase_of}
+use Rattle.slate_cluster_protocol.specs.Holding.{Fits, FitsState, IsOfLog, collects_here}
+use Rattle.slate_cluster_protocol.specs.Logs.{Chains, Held, Puts, OfManifest, Phrase, Collects, log_of, manifests, records, manifest_puts, record_puts, change_phrase, collect_phrase, pass_phrase, phrase_of}
+use Rattle.slate_cluster_protocol.specs.Referenced.{IsReferenced}
 use Rattle.slate_cluster_protocol.specs.Rows.{Standing, begin, begin_unless, compactor_on, first_next, manifest_on, moved, open_on, pass_on, put_on, record_on, state_on}
 use Rattle.slate_cluster_protocol.specs.Works.{db_of, pass_ways}
 use Rattle.slate_cluster_protocol.specs.declared.party.Facts.{Facts}
@@ -50,18 +63,19 @@ use Rattle.slate_cluster_protocol.specs.declared.uploads.Upload.{Upload}
 use Rattle.slate_cluster_protocol.specs.declared.work.Work.{Work}
 use Rattle.slate_cluster_protocol.specs.declared.work.Work.TheVariants as works
 use Rattle.slate_cluster_laws.proofs.Changing.{ChangeBrings, ManifestBrings, RecordBrings, change_brings, manifest_brings, manifest_makes, record_brings}
-use Rattle.slate_cluster_laws.proofs.Facts.{IsSound}
+use Rattle.slate_cluster_laws.proofs.Facts.{IsSound, ReadBrings}
 use Rattle.slate_cluster_laws.proofs.FactsKept.{SameParty, moved_same, starts_same}
 use Rattle.slate_cluster_laws.proofs.Opens.{Given, OpenBrings, OpenKnows, Raised, kept_given, kept_open, kept_raised, open_brings}
-use Rattle.slate_cluster_laws.proofs.Passes.{PassKnows, PassBrings, bounded_pass}
+use Rattle.slate_cluster_laws.proofs.Passes.{bounded_pass}
+use Rattle.slate_cluster_laws.proofs.Referenced.{FetchBrings, referenced_begins}
 use Rattle.slate_cluster_laws.proofs.StateCalls.{BeginsAs, StateBrings, state_begins, state_brings}
-use Rattle.slate_cluster_laws.proofs.Steps.{PhraseKnows, PhraseBrings}
+use Rattle.slate_cluster_laws.proofs.Steps.{ByPass, CollectKnows, CollectBrings, PhraseKnows, PhraseBrings, by_phase}
 
 -- ---- what is known
 
--- a pass is one over a log, and keeps its boundary
+-- a pass isn't the detaching one, and keeps boundaries
 abbrev pub IsOver : Work → Type 0
-IsOver (works.Pass db settings filter phase) = IsOfLog settings.pass × (settings ≡ bounded_pass settings.pass settings.options)
+IsOver (works.Pass db settings filter phase) = (collects_here settings.pass ≡ true) × (settings ≡ bounded_pass settings.pass settings.options)
 IsOver _ = Unit {0}
 
 -- an open knows of the epoch that it raised
@@ -74,10 +88,11 @@ abbrev pub Holds : Chains → List ℕ → Option Compactor → Type 0
 Holds chains db None = Unit {0}
 Holds chains db (Some compactor) = Raised chains db compactor.epoch × Given chains db compactor.epoch
 
--- what a party knows in its work: it is at the party's database, and puts what the facts and the call say
+-- what a party knows in its work: it is at the party's database, its kind has the call, and it puts what the facts and the call say
 pub record WorkKnows (s : Store) (chains : Chains) (n : ℕ) (facts : Facts) (call : Call) (work : Work) : Type 0 where
   pub own : db_of work ≡ facts.db
   pub over : IsOver work
+  pub asked : has_call facts.kind call ≡ true
   pub fits : Fits facts call work
   pub holds : WorkHolds chains work
   pub knows : PhraseKnows s chains n (phrase_of work)
@@ -107,13 +122,46 @@ kept_work chains chains' _ kept h = tt
 
 -- ---- a step
 
--- what a pass over a log knows before its list
-first_knows : (s : Store) (chains : Chains) (db : List ℕ) (pass : GcMessage) → IsOfLog pass → PassKnows (log_of (pass_log pass)) db s (chains (pass_log pass) db) (first_phase pass)
-first_knows s chains db of.Manifest h = tt
-first_knows s chains db of.Compactions h = tt
-first_knows s chains db _ h = absurd (cc (h))
+-- how a pass begins
+first_knows : (s : Store) (chains : Chains) (n : ℕ) (db : List ℕ) (pass : GcMessage) → collects_here pass ≡ true → PhraseKnows s chains n (collect_phrase db pass (first_phase pass))
+first_knows s chains n db of.Manifest h = tt
+first_knows s chains n db of.Compactions h = tt
+first_knows s chains n db of.Compacted h = tt
+first_knows s chains n db of.Wal h = tt
+first_knows s chains n db of.WalFence h = tt
+first_knows s chains n db of.Detach h = absurd cc
 
-module _ (s : Store) (chains : Chains) (n : ℕ) (call : Call) (facts : Facts) (holds : Holds chains facts.db facts.compactor) where
+-- once all that it reads before its list was read, it lists
+lists_knows : (s : Store) (chains : Chains) (db : List ℕ) (pass : GcMessage) (heads : Heads) (versions : List (ℕ × Manifest)) → collects_here pass ≡ true → IsReferenced (chains logs.Manifest db) heads.latest [] versions
+    → CollectKnows s chains db pass (passing.Listing heads versions)
+lists_knows s chains db of.Manifest heads versions over h = tt
+lists_knows s chains db of.Compactions heads versions over h = tt
+lists_knows s chains db of.Compacted heads versions over h = h
+lists_knows s chains db of.Wal heads versions over h = h
+lists_knows s chains db of.WalFence heads versions over h = h
+lists_knows s chains db of.Detach heads versions over h = absurd cc
+
+-- from its list on it reads by no phrase of a read
+none_of : (pass : GcMessage) (OfManifests OfRecords OfNone : Type 0) → (OfManifests → ⊥) → (OfRecords → ⊥) → (OfNone → ⊥) → ByPass pass OfManifests OfRecords OfNone → ⊥
+none_of of.Manifest OfManifests OfRecords OfNone f g e h = f h
+none_of of.Compactions OfManifests OfRecords OfNone f g e h = g h
+none_of of.Compacted OfManifests OfRecords OfNone f g e h = e h
+none_of of.Wal OfManifests OfRecords OfNone f g e h = e h
+none_of of.WalFence OfManifests OfRecords OfNone f g e h = e h
+none_of of.Detach OfManifests OfRecords OfNone f g e h = h
+
+collects_knows : (s : Store) (chains : Chains) (n : ℕ) (db : List ℕ) (pass : GcMessage) (phase : PassPhase) → CollectKnows s chains db pass phase → PhraseKnows s chains n (collect_phrase db pass phase)
+collects_knows s chains n db pass (passing.ReadingRecord phase) h = absurd (none_of pass ⊥ ⊥ ⊥ (λ x. x) (λ x. x) (λ x. x) h)
+collects_knows s chains n db pass (passing.ReadingManifest least phase) h = absurd (none_of pass ⊥ ⊥ ⊥ (λ x. x) (λ x. x) (λ x. x) h)
+collects_knows s chains n db pass (passing.Fetching heads phase) h = absurd (none_of pass ⊥ ⊥ ⊥ (λ x. x) (λ x. x) (λ x. x) h)
+collects_knows s chains n db pass (passing.Listing heads versions) h = h
+collects_knows s chains n db pass (passing.Getting m listed found) h = h
+collects_knows s chains n db pass (passing.Bounding m listed candidates) h = h
+collects_knows s chains n db pass (passing.Advancing phase left counts) h = h
+collects_knows s chains n db pass (passing.Deleting left counts) h = h
+collects_knows s chains n db pass passing.Over h = h
+
+module _ (s : Store) (chains : Chains) (n : ℕ) (call : Call) (facts : Facts) (asked : has_call facts.kind call ≡ true) (holds : Holds chains facts.db facts.compactor) where
   -- how a call goes on with the facts as they are, or to its end with facts that hold as much
   abbrev Stands : Standing → Type 0
   Stands standing = Holds chains standing.facts.db standing.facts.compactor × NextKnows s chains n standing.facts call standing.next
@@ -133,12 +181,12 @@ module _ (s : Store) (chains : Chains) (n : ℕ) (call : Call) (facts : Facts) (
     after_holds (Committed k m) = with_holds call m
 
     manifest_stands : (p : ManifestChanging) → Fits facts call (works.Manifests db p) → (g : WorkGoes Manifest) → ManifestBrings db s chains n p.change g → Stands (manifest_on facts call db p g)
-    manifest_stands p fits (Stay work) b = (holds, record { own = own; over = tt; fits = fits; holds = tt; knows = b })
+    manifest_stands p fits (Stay work) b = (holds, record { own = own; over = tt; asked = asked; fits = fits; holds = tt; knows = b })
     manifest_stands p fits (End work (Ok end)) b = (after_holds end, tt)
     manifest_stands p fits (End work (Err e)) b = (holds, tt)
 
     record_stands : (p : RecordChanging) → Fits facts call (works.Records db p) → (g : WorkGoes Record) → RecordBrings db s chains n p.change g → Stands (record_on facts db p g)
-    record_stands p fits (Stay work) b = (holds, record { own = own; over = tt; fits = fits; holds = tt; knows = b })
+    record_stands p fits (Stay work) b = (holds, record { own = own; over = tt; asked = asked; fits = fits; holds = tt; knows = b })
     record_stands p fits (End work (Ok end)) b = (holds, tt)
     record_stands p fits (End work (Err e)) b = (holds, tt)
 
@@ -148,22 +196,21 @@ module _ (s : Store) (chains : Chains) (n : ℕ) (call : Call) (facts : Facts) (
 
     -- ---- a whole pass
 
-    module _ (settings : PassSettings) (filter : FilterWord) (over : IsOfLog settings.pass × (settings ≡ bounded_pass settings.pass settings.options)) (fits : (phase : GcPhase) → Fits facts call (works.Pass db settings filter phase)) where
+    module _ (settings : PassSettings) (filter : FilterWord) (over : (collects_here settings.pass ≡ true) × (settings ≡ bounded_pass settings.pass settings.options)) (fits : (phase : GcPhase) → Fits facts call (works.Pass db settings filter phase)) where
       abbrev GcBrings : GcGoes → Type 0
       GcBrings (Stay phase) = PhraseKnows s chains n (pass_phrase db settings.pass phase)
       GcBrings (End phase r) = Unit {0}
 
       pass_stands : (g : GcGoes) → GcBrings g → Stands (pass_on facts db settings filter g)
-      pass_stands (Stay phase) b = (holds, record { own = own; over = over; fits = fits phase; holds = tt; knows = b })
+      pass_stands (Stay phase) b = (holds, record { own = own; over = over; asked = asked; fits = fits phase; holds = tt; knows = b })
       pass_stands (End phase (Ok counts)) b = (holds, tt)
       pass_stands (End phase (Err e)) b = (holds, tt)
 
       abbrev Collected : PassGoes → Type 0
-      Collected g = PassBrings (log_of (pass_log settings.pass)) db s (chains (pass_log settings.pass) db) g
+      Collected g = CollectBrings s chains db settings.pass g
 
-      -- it begins with its list
       begins : GcBrings (collects settings.pass)
-      begins = (over.0, first_knows s chains db settings.pass over.0)
+      begins = first_knows s chains n db settings.pass over.0
 
       -- after a step of the removal of expired checkpoints
       removed_brings : (g : WorkGoes Manifest) → ChangeBrings logs.Manifest db s chains n (OfManifest DropExpired) (commit_of encoded DropExpired) g → GcBrings (removed_goes settings.pass g)
@@ -174,22 +221,65 @@ module _ (s : Store) (chains : Chains) (n : ℕ) (call : Call) (facts : Facts) (
       removed_brings (End work (Err e)) b = tt
 
       collect_brings : (at : Option ℤ) (now : ℤ) (g : PassGoes) → Collected g → GcBrings (collect_on at now g)
-      collect_brings at now (Stay phase) b = (over.0, b)
+      collect_brings at now (Stay phase) b = collects_knows s chains n db settings.pass phase (stays settings.pass phase b)
+        where
+          stays : (pass : GcMessage) (phase : PassPhase) → CollectBrings s chains db pass (Stay phase) → CollectKnows s chains db pass phase
+          stays pass phase b = b
       collect_brings at now (End phase r) b = tt
+
+      -- after a step of the read of the record
+      record_read_brings : (at : Option ℤ) (now : ℤ) (g : Reply Record) → ReadBrings records db s (chains logs.Compactions db) g → GcBrings (collect_on at now (record_goes g))
+      record_read_brings at now (Stay phase) b = b
+      record_read_brings at now (End phase (Ok None)) b = tt
+      record_read_brings at now (End phase (Ok (Some version))) b = tt
+      record_read_brings at now (End phase (Err e)) b = tt
+
+      -- of the read of the latest manifest
+      names_bring : (at : Option ℤ) (now : ℤ) (heads : Heads) (left : List ℕ) (found : List (ℕ × Manifest)) → IsReferenced (chains logs.Manifest db) heads.latest left found → GcBrings (collect_on at now (fetched_goes heads (rest_goes left found)))
+      names_bring at now heads [] found b = lists_knows s chains db settings.pass heads found over.0 b
+      names_bring at now heads (k ∷ left) found b = b
+
+      manifest_read_brings : (at : Option ℤ) (now : ℤ) (least : ℕ) (g : Reply Manifest) → ReadBrings manifests db s (chains logs.Manifest db) g → GcBrings (collect_on at now (manifest_goes least g))
+      manifest_read_brings at now least (Stay phase) b = b
+      manifest_read_brings at now least (End phase (Ok None)) b = tt
+      manifest_read_brings at now least (End phase (Ok (Some version))) b =
+          names_bring at now (heads_at least version.0 version.1) (named_numbers version.0 version.1.core.checkpoints) ((version.0, version.1) ∷ [])
+          (referenced_begins db s (chains logs.Manifest db) (sound logs.Manifest) version.0 version.1 b)
+      manifest_read_brings at now least (End phase (Err e)) b = tt
+
+      -- and of the reading of the versions that it names
+      fetched_brings : (at : Option ℤ) (now : ℤ) (heads : Heads) (g : ReferencedGoes) → FetchBrings (chains logs.Manifest db) heads.latest g → GcBrings (collect_on at now (fetched_goes heads g))
+      fetched_brings at now heads (Stay phase) b = b
+      fetched_brings at now heads (End phase (Ok versions)) b = lists_knows s chains db settings.pass heads versions over.0 b
+      fetched_brings at now heads (End phase (Err e)) b = tt
+
+      -- from the list on
+      listed_brings : (at : Option ℤ) (now : ℤ) (phase : PassPhase) (answer : StoreAnswer)
+          → ((options : GarbageCollectorDirectoryOptions) (word : FilterWord) (moment : ℤ) → Collected (pass_goes (pass_ways word) (bounded_pass settings.pass options) moment phase answer))
+          → GcBrings (gc_goes (pass_ways filter) settings now (Collecting at phase) answer)
+      listed_brings at now phase answer b =
+          let moment = moment_of_pass at now in
+          collect_brings at moment (pass_goes (pass_ways filter) settings moment phase answer)
+          (subst (λ (x : PassSettings). Collected (pass_goes (pass_ways filter) x moment phase answer)) (sym over.1) (b settings.options filter moment))
 
       gc_brings : (phase : GcPhase) (now : ℤ) (answer : StoreAnswer) → PhraseBrings s chains n (pass_phrase db settings.pass phase) now answer → GcBrings (gc_goes (pass_ways filter) settings now phase answer)
       gc_brings (Removing work) now answer b =
           removed_brings (work_goes logs.Manifest decoded_manifest (commit_of encoded DropExpired) now work answer)
           (change_brings logs.Manifest db s chains n (OfManifest DropExpired) (commit_of encoded DropExpired) (sound logs.Manifest) (manifest_makes n (Some DropExpired)) now work answer b)
-      gc_brings (Collecting at phase) now answer b =
-          let moment = moment_of_pass at now in
-          collect_brings at moment (pass_goes (pass_ways filter) settings moment phase answer)
-          (subst (λ (x : PassSettings). Collected (pass_goes (pass_ways filter) x moment phase answer)) (sym over.1) (b settings.options filter moment))
+      gc_brings (Collecting at (passing.ReadingRecord phase)) now answer b = record_read_brings at (moment_of_pass at now) (read_goes logs.Compactions decoded_record phase answer) b
+      gc_brings (Collecting at (passing.ReadingManifest least phase)) now answer b = manifest_read_brings at (moment_of_pass at now) least (read_goes logs.Manifest decoded_manifest phase answer) b
+      gc_brings (Collecting at (passing.Fetching heads phase)) now answer b = fetched_brings at (moment_of_pass at now) heads (referenced_goes decoded_manifest phase answer) b
+      gc_brings (Collecting at (passing.Listing heads versions)) now answer b = listed_brings at now (passing.Listing heads versions) answer b
+      gc_brings (Collecting at (passing.Getting m listed found)) now answer b = listed_brings at now (passing.Getting m listed found) answer b
+      gc_brings (Collecting at (passing.Bounding m listed candidates)) now answer b = listed_brings at now (passing.Bounding m listed candidates) answer b
+      gc_brings (Collecting at (passing.Advancing phase left counts)) now answer b = listed_brings at now (passing.Advancing phase left counts) answer b
+      gc_brings (Collecting at (passing.Deleting left counts)) now answer b = listed_brings at now (passing.Deleting left counts) answer b
+      gc_brings (Collecting at passing.Over) now answer b = listed_brings at now passing.Over answer b
 
     -- ---- the calls of a compactor
 
     open_stands : (g : OpenGoes) → OpenBrings db s chains n g → Stands (open_on facts db g)
-    open_stands (Stay phase) b = (holds, record { own = own; over = tt; fits = b.1.0; holds = b.1.1; knows = b.0 })
+    open_stands (Stay phase) b = (holds, record { own = own; over = tt; asked = asked; fits = b.1.0; holds = b.1.1; knows = b.0 })
     open_stands (End phase (Ok compactor)) b = (here (Some compactor) b, tt)
     open_stands (End phase (Err e)) b = (holds, tt)
 
@@ -198,7 +288,7 @@ module _ (s : Store) (chains : Chains) (n : ℕ) (call : Call) (facts : Facts) (
     same_holds c new same h = subst (λ e. Raised chains facts.db e × Given chains facts.db e) (sym same) h
 
     state_stands : (c : Compactor) → Holds chains facts.db (Some c) → (g : StateGoes) → StateBrings db s chains n call c g → Stands (state_on facts db g)
-    state_stands c h (Stay at) b = (same_holds c at.1 b.0 h, record { own = own; over = tt; fits = b.1.1; holds = tt; knows = b.1.0 })
+    state_stands c h (Stay at) b = (same_holds c at.1 b.0 h, record { own = own; over = tt; asked = asked; fits = b.1.1; holds = tt; knows = b.1.0 })
     state_stands c h (End at (Ok u)) b = (same_holds c at.1 b h, tt)
     state_stands c h (End at (Err e)) b = (same_holds c at.1 b h, tt)
 
@@ -236,8 +326,8 @@ upload_is_id Writer table first last h = h
 upload_is_id Worker table first last h = h
 upload_is_id _ table first last h = absurd cc
 
--- a pass that a party may start is one over a log
-over_log : (kind : PartyKind) (pass : GcMessage) (min_age : ℕ) (dry_run : Bool) (filter : FilterWord) → has_call kind (Pass pass min_age dry_run filter) ≡ true → IsOfLog pass
+-- a pass that a party may start is one over a log, so far
+pub over_log : (kind : PartyKind) (pass : GcMessage) (min_age : ℕ) (dry_run : Bool) (filter : FilterWord) → has_call kind (Pass pass min_age dry_run filter) ≡ true → IsOfLog pass
 over_log Collector of.Manifest min_age dry_run filter h = refl
 over_log Collector of.Compactions min_age dry_run filter h = refl
 over_log Writer pass min_age dry_run filter h = absurd cc
@@ -246,40 +336,75 @@ over_log Worker pass min_age dry_run filter h = absurd cc
 over_log Holder pass min_age dry_run filter h = absurd cc
 over_log Collector _ min_age dry_run filter h = absurd cc
 
+-- and none that detaches
+over_here : (kind : PartyKind) (pass : GcMessage) (min_age : ℕ) (dry_run : Bool) (filter : FilterWord) → has_call kind (Pass pass min_age dry_run filter) ≡ true → collects_here pass ≡ true
+over_here Collector of.Detach min_age dry_run filter h = absurd cc
+over_here Writer pass min_age dry_run filter h = absurd cc
+over_here CompactorKind pass min_age dry_run filter h = absurd cc
+over_here Worker pass min_age dry_run filter h = absurd cc
+over_here Holder pass min_age dry_run filter h = absurd cc
+over_here Collector _ min_age dry_run filter h = refl
+
+-- what is listed and deleted is of a log
+abbrev pub OfLog : Phrase → Type 0
+OfLog (Collects db pass phase) = IsOfLog pass
+OfLog _ = Unit {0}
+
+change_of_log : (k : LogKind) (db : List ℕ) (puts : Puts) (work : LogWork (Held k)) → OfLog (change_phrase k db puts work)
+change_of_log k db puts (Reading phase) = tt
+change_of_log k db puts (Committing now phase) = tt
+
+pub work_of_log : (facts : Facts) (call : Call) (work : Work) → has_call facts.kind call ≡ true → Fits facts call work → OfLog (phrase_of work)
+work_of_log facts call (works.Manifests db p) asked fits = change_of_log logs.Manifest db (manifest_puts p.change) p.work
+work_of_log facts call (works.Records db p) asked fits = change_of_log logs.Compactions db (record_puts p.change) p.work
+work_of_log facts call (works.PutTable db upload bytes) asked fits = tt
+work_of_log facts call (works.Pass db settings filter (Removing work)) asked fits = change_of_log logs.Manifest db (OfManifest DropExpired) work
+work_of_log facts call (works.Pass db settings filter (Collecting at phase)) asked fits =
+    let log = over_log facts.kind settings.pass settings.options.min_age settings.options.dry_run filter (subst (λ (c : Call). has_call facts.kind c ≡ true) fits asked) in
+    by_phase OfLog db settings.pass (λ k read. tt) (λ n fetch. tt) (λ collect. log) phase
+work_of_log facts call (works.Opening db (opening.Raising p)) asked fits = change_of_log logs.Manifest db (manifest_puts p.change) p.work
+work_of_log facts call (works.Opening db (opening.OnRecord step m p)) asked fits = change_of_log logs.Compactions db (record_puts p.change) p.work
+work_of_log facts call (works.Opening db opening.Over) asked fits = tt
+work_of_log facts call (works.Compacting db (compacting.OnRecord step p)) asked fits = change_of_log logs.Compactions db (record_puts p.change) p.work
+work_of_log facts call (works.Compacting db (compacting.OnManifest step p)) asked fits = change_of_log logs.Manifest db (manifest_puts p.change) p.work
+work_of_log facts call (works.Compacting db compacting.Over) asked fits = tt
+
 module _ (s : Store) (chains : Chains) (n : ℕ) (facts : Facts) where
   -- a call of a compactor on its state begins with the compactor that is held
-  state_first : (call : Call) (start : StateStart) → unless_open facts.compactor ≡ None → BeginsAs facts.db s chains n call start → WorkKnows s chains n facts call (works.Compacting facts.db (state_phase start facts.compactor))
-  state_first call start opened is =
+  state_first : (call : Call) → has_call facts.kind call ≡ true → (start : StateStart) → unless_open facts.compactor ≡ None → BeginsAs facts.db s chains n call start → WorkKnows s chains n facts call (works.Compacting facts.db (state_phase start facts.compactor))
+  state_first call may start opened is =
       let k = state_begins facts.db s chains n call start is facts.compactor opened in
-      record { own = refl; over = tt; fits = k.1; holds = tt; knows = k.0 }
+      record { own = refl; over = tt; asked = may; fits = k.1; holds = tt; knows = k.0 }
 
   -- how a call begins that the party has, once it isn't refused
   first_reached : (call : Call) → has_call facts.kind call ≡ true → refusal_at_start facts call ≡ None → NextKnows s chains n (facts_at_start facts call) call (first_next facts call)
   first_reached (UploadCall table first last) may go = record {
     own = refl;
     over = tt;
+    asked = may;
     fits = record { first = first; last = last; is = refl; info = refl };
     holds = tt;
     knows = upload_is_id facts.kind table first last may;
   }
   first_reached (Pass pass min_age dry_run filter) may go = record {
     own = refl;
-    over = (over_log facts.kind pass min_age dry_run filter may, refl);
+    over = (over_here facts.kind pass min_age dry_run filter may, refl);
+    asked = may;
     fits = refl;
     holds = tt;
     knows = tt;
   }
-  first_reached OpenCompactor may go = record { own = refl; over = tt; fits = refl; holds = tt; knows = tt }
-  first_reached Refresh may opened = state_first Refresh starts.Refresh opened tt
-  first_reached (Schedule id) may opened = state_first (Schedule id) (starts.Schedule id) opened refl
-  first_reached (WriteManifest checkpoint) may opened = state_first (WriteManifest checkpoint) (starts.WriteTrees (record { checkpoint = checkpoint; whole = false })) opened refl
-  first_reached WriteRecord may opened = state_first WriteRecord starts.WriteRecord opened refl
-  first_reached (WriteState checkpoint) may opened = state_first (WriteState checkpoint) (starts.WriteTrees (record { checkpoint = checkpoint; whole = true })) opened refl
+  first_reached OpenCompactor may go = record { own = refl; over = tt; asked = may; fits = refl; holds = tt; knows = tt }
+  first_reached Refresh may opened = state_first Refresh may starts.Refresh opened tt
+  first_reached (Schedule id) may opened = state_first (Schedule id) may (starts.Schedule id) opened refl
+  first_reached (WriteManifest checkpoint) may opened = state_first (WriteManifest checkpoint) may (starts.WriteTrees (record { checkpoint = checkpoint; whole = false })) opened refl
+  first_reached WriteRecord may opened = state_first WriteRecord may starts.WriteRecord opened refl
+  first_reached (WriteState checkpoint) may opened = state_first (WriteState checkpoint) may (starts.WriteTrees (record { checkpoint = checkpoint; whole = true })) opened refl
   first_reached (FinishCall id) may go = tt
   first_reached (Fail id) may go = tt
-  first_reached (Claim id) may go = record { own = refl; over = tt; fits = refl; holds = tt; knows = tt }
-  first_reached (Report id tables) may go = record { own = refl; over = tt; fits = refl; holds = tt; knows = tt }
-  first_reached _ may go = record { own = refl; over = tt; fits = refl; holds = tt; knows = tt }
+  first_reached (Claim id) may go = record { own = refl; over = tt; asked = may; fits = refl; holds = tt; knows = tt }
+  first_reached (Report id tables) may go = record { own = refl; over = tt; asked = may; fits = refl; holds = tt; knows = tt }
+  first_reached _ may go = record { own = refl; over = tt; asked = may; fits = refl; holds = tt; knows = tt }
 
   local_holds : (local : LocalState) (o : Option Compactor) → Holds chains facts.db o → Holds chains facts.db (local_in local o)
   local_holds local None h = tt

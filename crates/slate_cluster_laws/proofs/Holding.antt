@@ -33,7 +33,10 @@ use Rattle.slate_script_events.specs.declared.call.Call.{Call}
 use Rattle.slate_script_events.specs.declared.db_spec.DbSpec.{DbSpec}
 use Rattle.slate_script_events.specs.declared.event.Event.{Event}
 use Rattle.slate_ids.specs.declared.gc_message.GcMessage.{GcMessage}
+use Rattle.slate_ids.specs.declared.gc_message.GcMessage.TheVariants as of
 use Rattle.slate_gc_passes.specs.declared.gc_phase.GcPhase.TheVariants as gc
+use Rattle.slate_gc_passes.specs.Rows.{log_of_pass}
+use Rattle.slate_gc_passes.specs.declared.heads.Heads.{Heads}
 use Rattle.slate_gc_passes.specs.declared.pass_phase.PassPhase.{PassPhase}
 use Rattle.slate_gc_passes.specs.declared.pass_phase.PassPhase.TheVariants as passing
 use Rattle.slate_txn_log.specs.Advance.{boundary_at}
@@ -46,15 +49,18 @@ use Rattle.slate_txn_log.specs.declared.commit_phase.CommitPhase.TheVariants.{Pu
 use Rattle.slate_txn_log.specs.declared.log_kind.LogKind.{LogKind}
 use Rattle.slate_txn_log.specs.declared.log_kind.LogKind.TheVariants as logs
 use Rattle.slate_txn_log.specs.declared.read_phase.ReadPhase.{ReadPhase}
+use Rattle.slate_model.specs.declared.manifest.Manifest.{Manifest}
+use Rattle.slate_state_referenced.specs.declared.referenced_phase.ReferencedPhase.TheVariants as fetching
 use Rattle.slate_cluster_protocol.specs.Chains.{Link, Log, bound_in, AgreesAt}
-use Rattle.slate_cluster_protocol.specs.Holding.{Fits, FitsState, IsIn, IsPutBy, IsVersion, IsMadeOf, Each, IsRefused, picks_in, due_in, IsVersionThat, pass_log}
+use Rattle.slate_cluster_protocol.specs.Holding.{Fits, FitsState, IsIn, IsPutBy, IsVersion, IsMadeOf, Each, IsRefused, picks_in, due_in, IsOfLog, IsVersionThat, pass_log}
 use Rattle.slate_cluster_protocol.specs.Holding.IsMadeOf.{OfVersion as Makes, OfNone as Begins}
 use Rattle.slate_cluster_protocol.specs.Lawful.{IsAccepted, AreGood, chains_at_end, course_after, gone_after}
 use Rattle.slate_cluster_protocol.specs.Logs.{Held, Chain, Chains, Author, Phrase, Puts, OfManifest, change_phrase, log_of, manifest_phrase, manifest_puts, phrase_of, record_phrase, record_puts, state_phrase, world_after}
-use Rattle.slate_cluster_protocol.specs.Logs.Phrase.{Reads, Commits, Collects}
+use Rattle.slate_cluster_protocol.specs.Logs.Phrase.{Reads, Commits, Fetches, Collects}
 use Rattle.slate_cluster_protocol.specs.Owners.{owner_of}
 use Rattle.slate_cluster_protocol.specs.Owners.Owner.{Version}
 use Rattle.slate_cluster_protocol.specs.Reach.{IsSpare}
+use Rattle.slate_cluster_protocol.specs.Referenced.{IsReferenced}
 use Rattle.slate_cluster_protocol.specs.Rows.{compactor_on, manifest_on, moved, open_on, pass_on, record_on, state_on}
 use Rattle.slate_cluster_protocol.specs.Runs.{opening}
 use Rattle.slate_cluster_protocol.specs.Safe.{IsCollected, AllCollected}
@@ -69,7 +75,7 @@ use Rattle.slate_cluster_protocol.specs.declared.work.Work.{Work}
 use Rattle.slate_cluster_protocol.specs.declared.work.Work.TheVariants.{Manifests, Records, PutTable, Pass, Opening, Compacting}
 use Rattle.slate_cluster_laws.proofs.Advances.{at_least}
 use Rattle.slate_cluster_laws.proofs.AfterEvents.{after_inv, course_collected}
-use Rattle.slate_cluster_laws.proofs.Calls.{WorkKnows}
+use Rattle.slate_cluster_laws.proofs.Calls.{OfLog, WorkKnows, work_of_log}
 use Rattle.slate_cluster_chain_laws.proofs.LogRules.{IsMade}
 use Rattle.slate_cluster_laws.proofs.Facts.{HoldsBy, IsSound, ReadKnows, ReadBrings, CommitKnows, CommitBrings}
 use Rattle.slate_cluster_chain_laws.proofs.LogRules.IsMade.{OfVersion, OfNone}
@@ -79,7 +85,7 @@ use Rattle.slate_cluster_laws.proofs.Passes.{PassKnows, each_is}
 use Rattle.slate_cluster_laws.proofs.Paths.{version_owner}
 use Rattle.slate_cluster_laws.proofs.Removals.{good_run}
 use Rattle.slate_cluster_laws.proofs.Runs.{Inv, StateKnows}
-use Rattle.slate_cluster_laws.proofs.Steps.{PhraseKnows, db_in, work_db}
+use Rattle.slate_cluster_laws.proofs.Steps.{CollectKnows, PhraseKnows, by_phase, db_in, work_db}
 use Rattle.slate_cluster_laws.proofs.Stores.{IsTidy}
 use Rattle.slate_cluster_laws.proofs.Turns.{above_test, read_step, bound_step}
 use Rattle.slate_cluster_laws.proofs.Tallies.{its_kind}
@@ -198,7 +204,7 @@ module _ (s : Store) (moment : ℤ) (mark : Mark) (facts : Facts) (call : Call) 
   work_fails (Pass db settings filter (gc.Removing work)) h =
       let f = change_fails logs.Manifest db (OfManifest DropExpired) (commit_of encoded DropExpired) work h in
       record { error = f.error; is = ap (λ g. (pass_on facts db settings filter (removed_goes settings.pass g)).next) f.is }
-  work_fails (Pass db settings filter (gc.Collecting at phase)) h = absurd h
+  work_fails (Pass db settings filter (gc.Collecting at phase)) h = absurd (by_phase (λ phrase. PhraseFails s moment mark phrase → ⊥) db settings.pass (λ k read none. none) (λ n fetch none. none) (λ collect none. none) phase h)
   work_fails (Opening db (opening.Raising p)) h = let f = manifest_fails db p h in record { error = f.error; is = ap (λ g. (open_on facts db (raising p g)).next) f.is }
   work_fails (Opening db (opening.OnRecord step m p)) h = let f = record_fails db p h in record { error = f.error; is = ap (λ g. (open_on facts db (open_record step m moment p g)).next) f.is }
   work_fails (Opening db opening.Over) h = absurd h
@@ -256,7 +262,7 @@ module _ (tag : ℕ) (moment : ℤ) (facts : Facts) (call : Call) (phrase : Phra
   work_created (Pass db settings filter (gc.Removing work)) fits e =
       let f = change_created logs.Manifest db (OfManifest DropExpired) (commit_of encoded DropExpired) work e in
       record { work = Pass db settings filter (gc.Removing f.work); is = ap (λ g. (pass_on facts db settings filter (removed_goes settings.pass g)).next) f.is; same = f.same }
-  work_created (Pass db settings filter (gc.Collecting at phase)) fits e = absurd (cc e)
+  work_created (Pass db settings filter (gc.Collecting at phase)) fits e = absurd (cc (by_phase (λ other. after_put other ≡ None) db settings.pass (λ k read. refl) (λ n fetch. refl) (λ collect. refl) phase, e))
   work_created (Opening db (opening.Raising p)) fits e =
       let f = manifest_created db p e in
       record { work = Opening db (opening.Raising (record p { work = f.work })); is = ap (λ g. (open_on facts db (raising p g)).next) f.is; same = f.same }
@@ -330,17 +336,49 @@ module _ (specs : List DbSpec) (events : List Event) (n : ℕ) (p : Party) (task
   all_spare k db (passing.Deleting left counts) h = at_log k db _ left (each_is (log_of k).kind db _ (IsSpare (log_of k) (chains k db)) (λ n w. w.1) left h)
   all_spare k db _ h = tt
 
+  -- what is listed and deleted is of a log
+  of_log : (db : List ℕ) (pass : GcMessage) (phase : PassPhase) → phrase_of task.work ≡ Collects db pass phase → IsOfLog pass
+  of_log db pass phase e = subst OfLog e (work_of_log p.facts task.call task.work known.asked known.fits)
+
+  pass_spare : (db : List ℕ) (pass : GcMessage) (phase : PassPhase) → IsOfLog pass → CollectKnows w.store chains db pass phase
+      → Each (IsVersionThat (pass_log pass) db (IsSpare (log_of (pass_log pass)) (chains (pass_log pass) db))) (picks_in phase)
+  pass_spare db of.Manifest phase log h = all_spare logs.Manifest db phase h
+  pass_spare db of.Compactions phase log h = all_spare logs.Compactions db phase h
+  pass_spare db _ phase log h = absurd (cc (log))
+
   pub spare_picks : (db : List ℕ) (pass : GcMessage) (phase : PassPhase) → phrase_of task.work ≡ Collects db pass phase
       → Each (IsVersionThat (pass_log pass) db (IsSpare (log_of (pass_log pass)) (chains (pass_log pass) db))) (picks_in phase)
-  spare_picks db pass phase e = all_spare (pass_log pass) db phase (knows (Collects db pass phase) e).1
+  spare_picks db pass phase e = pass_spare db pass phase (of_log db pass phase e) (knows (Collects db pass phase) e)
 
   all_bounded : (k : LogKind) (db : List ℕ) (bound : ℕ) → bound_in (log_of k) db w.store ≡ Some bound → (phase : PassPhase) → PassKnows (log_of k) db w.store (chains k db) phase → Each (IsVersionThat k db (λ n. n ≤ bound)) (due_in phase)
   all_bounded k db bound read (passing.Deleting left counts) h = at_log k db _ left (each_is (log_of k).kind db _ (λ n. n ≤ bound) (λ n w. w.0.reached bound read) left h)
   all_bounded k db bound read _ h = tt
 
+  pass_bounded : (db : List ℕ) (pass : GcMessage) (phase : PassPhase) (bound : ℕ) → IsOfLog pass → bound_in (log_of (pass_log pass)) db w.store ≡ Some bound → CollectKnows w.store chains db pass phase
+      → Each (IsVersionThat (pass_log pass) db (λ n. n ≤ bound)) (due_in phase)
+  pass_bounded db of.Manifest phase bound log read h = all_bounded logs.Manifest db bound read phase h
+  pass_bounded db of.Compactions phase bound log read h = all_bounded logs.Compactions db bound read phase h
+  pass_bounded db _ phase bound log read h = absurd (cc (log))
+
   pub bounded_due : (db : List ℕ) (pass : GcMessage) (phase : PassPhase) (bound : ℕ) → phrase_of task.work ≡ Collects db pass phase → bound_in (log_of (pass_log pass)) db w.store ≡ Some bound
       → Each (IsVersionThat (pass_log pass) db (λ n. n ≤ bound)) (due_in phase)
-  bounded_due db pass phase bound e read = all_bounded (pass_log pass) db bound read phase (knows (Collects db pass phase) e).1
+  bounded_due db pass phase bound e read = pass_bounded db pass phase bound (of_log db pass phase e) read (knows (Collects db pass phase) e)
+
+  -- what a pass has read of the versions that the latest manifest names
+  pub fetched_stand : (db : List ℕ) (number : ℕ) (left : List ℕ) (found : List (ℕ × Manifest)) → phrase_of task.work ≡ Fetches db number (fetching.Getting left found) → IsReferenced (chains logs.Manifest db) number left found
+  fetched_stand db number left found e = knows (Fetches db number (fetching.Getting left found)) e
+
+  listed_stand : (db : List ℕ) (pass : GcMessage) (heads : Heads) (versions : List (ℕ × Manifest)) → log_of_pass pass ≡ None → CollectKnows w.store chains db pass (passing.Listing heads versions)
+      → IsReferenced (chains logs.Manifest db) heads.latest [] versions
+  listed_stand db of.Compacted heads versions none h = h
+  listed_stand db of.Wal heads versions none h = h
+  listed_stand db of.WalFence heads versions none h = h
+  listed_stand db of.Detach heads versions none h = absurd h
+  listed_stand db _ heads versions none h = absurd (cc (none))
+
+  pub all_stand : (db : List ℕ) (pass : GcMessage) (heads : Heads) (versions : List (ℕ × Manifest)) → log_of_pass pass ≡ None → phrase_of task.work ≡ Collects db pass (passing.Listing heads versions)
+      → IsReferenced (chains logs.Manifest db) heads.latest [] versions
+  all_stand db pass heads versions none e = listed_stand db pass heads versions none (knows (Collects db pass (passing.Listing heads versions)) e)
 
   -- the database of a phrase is one of the cluster
   has_db : (phrase : Phrase) → phrase_of task.work ≡ phrase → HasDb w (db_in phrase)

@@ -16,6 +16,8 @@ mod OpeningRecords
 mod OpeningTables
 pub mod Listed
 pub mod Passes
+pub mod Referenced
+pub mod Sweeps
 mod Steps
 mod Changing
 mod Opens

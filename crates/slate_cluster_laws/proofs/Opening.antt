@@ -325,12 +325,16 @@ module _ (specs : List DbSpec) (accepted : IsAccepted specs) where
         (beside_records (paths.Manifest d 1) (own_path logs.Manifest 1 (omega arith)) (λ db e. absurd cc) ∙ firsts_found d named [] [] specs parts.tallies parts.made.firsts names parts.tallied parts.made.written (λ h. refl))
         ∙ ap (λ (o : Option DbSpec). bytes_found (first_for o None) None) it.at)
 
+    -- the first manifest names no other version
+    own_alone : (n : ℕ) → manifests.names it.spec.manifest n ≡ true → n ≡ 1
+    own_alone n named = names_first n it.spec.manifest.core.checkpoints (own_names d it.spec specs parts.own it.at) named
+
     manifests_sound : IsSound manifests d w.store chain
     manifests_sound =
         one_sound manifests d w.store (no_boundary logs.Manifest) (opening_link it.spec) refl first_there
-        (Opens refl refl (ap (λ (o : Option (List ℕ)). decoded_manifest (listed_or_none o)) it.found.is ∙ first_read it.spec.manifest it.found.bytes it.found.is))
+        (Opens refl refl (ap (λ (o : Option (List ℕ)). decoded_manifest (listed_or_none o)) it.found.is ∙ first_read it.spec.manifest it.found.bytes it.found.is) own_alone)
         (no_other logs.Manifest)
-        (λ n named. names_first n it.spec.manifest.core.checkpoints (own_names d it.spec specs parts.own it.at) named)
+        own_alone
 
     -- ---- the log of records
 
@@ -362,7 +366,7 @@ module _ (specs : List DbSpec) (accepted : IsAccepted specs) where
     records_sound (Some r) is =
         let has = record_has_bytes d parts.made.firsts specs parts.made.records it.spec r parts.made.recorded it.at is in
         one_sound records d w.store (no_boundary logs.Compactions) (opening_record r) refl (record_there ∙ ap bytes_for is)
-        (Opens refl refl (ap (λ (o : Option (List ℕ)). decoded_record (listed_or_none o)) has.is ∙ record_read r has.bytes has.is))
+        (Opens refl refl (ap (λ (o : Option (List ℕ)). decoded_record (listed_or_none o)) has.is ∙ record_read r has.bytes has.is) (λ n named. absurd cc))
         (no_other logs.Compactions)
         (λ n named. absurd cc)
 

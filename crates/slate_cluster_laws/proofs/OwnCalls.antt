@@ -39,7 +39,7 @@ use Rattle.slate_cluster_protocol.specs.Calls.{Next, Go, Finish}
 use Rattle.slate_cluster_protocol.specs.Chains.{Link, link_at, if_new, with_link}
 use Rattle.slate_cluster_protocol.specs.Holding.{IsIn, IsPutBy, IsRefused}
 use Rattle.slate_cluster_protocol.specs.Lawful.{IsAccepted}
-use Rattle.slate_cluster_protocol.specs.Logs.{Author, Held, Chain, Chains, Phrase, Puts, Put, Reads, Commits, Uploads, Collects, log_of, phrase_of, chain_with, chains_put, put_by, chains_stepped, chains_state, chains_at, chains_after, opening_chains}
+use Rattle.slate_cluster_protocol.specs.Logs.{Author, Held, Chain, Chains, Phrase, Puts, Put, Reads, Commits, Uploads, Fetches, Collects, log_of, phrase_of, chain_with, chains_put, put_by, chains_stepped, chains_state, chains_at, chains_after, opening_chains}
 use Rattle.slate_cluster_protocol.specs.Rows.{Answered, Standing, answered, after_answers, stands_after, begin, moved, row}
 use Rattle.slate_cluster_protocol.specs.Specs.{opening_world}
 use Rattle.slate_cluster_protocol.specs.Works.{asks}
@@ -182,6 +182,7 @@ commit_putting logs.Compactions db number bytes logs.Manifest d puts now m bs v 
 phrase_putting : (phrase : Phrase) (k : LogKind) (db : List ℕ) (number : ℕ) (bytes : List ℕ) → phrase_asks phrase ≡ PutNew (version_path k db number) bytes → IsPutting phrase k db number bytes
 phrase_putting (Reads j d phase) k db number bytes e = absurd (read_puts k db number bytes d (log_of j).kind phase e)
 phrase_putting (Uploads d table bs) k db number bytes e = absurd (cc e)
+phrase_putting (Fetches d m phase) k db number bytes e = absurd (fetch_puts k db number bytes d phase e)
 phrase_putting (Collects d pass phase) k db number bytes e = absurd (pass_puts k db number bytes d pass phase e)
 phrase_putting (Commits j d puts now (Putting m bs v)) k db number bytes e =
     commit_putting k db number bytes j d puts now m bs v (ap (λ x. PutNew (version_path x d m) bs) (sym (its_kind j)) ∙ e)

@@ -11,14 +11,14 @@ use Rattle.slate_store.specs.declared.store_answer.StoreAnswer.{StoreAnswer}
 use Rattle.slate_store.specs.declared.store_call.StoreCall.{StoreCall}
 use Rattle.slate_txn_log.specs.declared.commit_phase.CommitPhase.TheVariants as committing
 use Rattle.slate_txn_log.specs.declared.log_kind.LogKind.{LogKind}
+use Rattle.slate_txn_log.specs.declared.log_kind.LogKind.TheVariants as logs
 use Rattle.slate_script_events.specs.declared.call.Call.{Call}
 use Rattle.slate_script_events.specs.declared.event.Event.{Event}
 use Rattle.slate_script_events.specs.declared.event.Event.TheVariants.{Open, Start, Step, Stop}
 use Rattle.slate_script_events.specs.declared.party_kind.PartyKind.{PartyKind}
 use Rattle.slate_cluster_protocol.specs.Chains.{Changed, link_at}
 use Rattle.slate_cluster_protocol.specs.Chains.Changed.{Stays}
-use Rattle.slate_cluster_protocol.specs.Holding.{pass_log}
-use Rattle.slate_cluster_protocol.specs.Logs.{Author, log_of, Chain, Chains, Phrase, Reads, Commits, Uploads, Collects, phrase_of, put_by, chains_put, chains_stepped, chains_state, chains_at, chains_after, world_after, chains_of}
+use Rattle.slate_cluster_protocol.specs.Logs.{Author, log_of, Chain, Chains, Phrase, Reads, Commits, Uploads, Fetches, Collects, phrase_of, put_by, chains_put, chains_stepped, chains_state, chains_at, chains_after, world_after, chains_of}
 use Rattle.slate_cluster_protocol.specs.Rows.{Standing, begin, moved}
 use Rattle.slate_cluster_protocol.specs.Works.{db_of, asks}
 use Rattle.slate_cluster_protocol.specs.World.{World, Transition, party_of, with_party, tally_of, tallied, wrote, newcomer, settled, stepped, step_state, start_state, halted, stop_state, carrying, may_start, open_at, start_at, step_at, stop_at, happens, HasDb}
@@ -38,12 +38,12 @@ use Rattle.slate_cluster_laws.proofs.Facts.{IsSound, Grows}
 use Rattle.slate_cluster_laws.proofs.Frame.{kept_read, kept_commit}
 use Rattle.slate_cluster_laws.proofs.Paths.{IsOwn, IsElsewhere, AreApart, own_elsewhere, nobodys_elsewhere}
 use Rattle.slate_cluster_laws.proofs.Moves.{gone_grows, gone_sound}
-use Rattle.slate_cluster_laws.proofs.Passes.{kept_pass}
 use Rattle.slate_cluster_laws.proofs.Puts.{grows_not, elsewhere_grows, elsewhere_sound}
-use Rattle.slate_cluster_laws.proofs.Steps.{log_in, db_in, phrase_asks, work_asks, work_db, author_of, author_in, PhraseKnows, PhraseBrings, none_put, other_put, phrase_step}
+use Rattle.slate_cluster_laws.proofs.Referenced.{kept_fetch}
+use Rattle.slate_cluster_laws.proofs.Steps.{log_in, db_in, phrase_asks, work_asks, work_db, author_of, author_in, PhraseKnows, PhraseBrings, kept_collect, none_put, other_put, phrase_step}
 use Rattle.slate_cluster_laws.proofs.Calls.{Holds, WorkKnows, NextKnows, Reaches, begin_reaches, kept_holds, kept_work, moved_reaches}
 use Rattle.slate_cluster_laws.proofs.Tallies.{StoreAfter, store_after, tidy_after, same_kind, its_kind, Told, TalliesAfter, tallies_after}
-use Rattle.slate_cluster_laws.proofs.Tallies.StoreAfter.{Same, Wrote, Gone, WroteElse}
+use Rattle.slate_cluster_laws.proofs.Tallies.StoreAfter.{Same, Wrote, Gone, WroteElse, GoneElse}
 
 -- what a party knows, by its state
 abbrev pub StateKnows : Store → Chains → ℕ → Facts → State → Type 0
@@ -75,7 +75,8 @@ phrase_kept : (s : Store) (chains : Chains) (s' : Store) (chains' : Chains) (n :
 phrase_kept s chains s' chains' n (Reads k db phase) g h = kept_read (log_of k) db s (chains k db) s' (chains' k db) g phase h
 phrase_kept s chains s' chains' n (Commits k db puts now phase) g h = kept_commit (log_of k) db s (chains k db) s' (chains' k db) g (author_of n puts now) phase h
 phrase_kept s chains s' chains' n (Uploads db table bytes) g h = h
-phrase_kept s chains s' chains' n (Collects db pass phase) g h = (h.0, kept_pass (log_of (pass_log pass)) db s (chains (pass_log pass) db) s' (chains' (pass_log pass) db) g phase h.1)
+phrase_kept s chains s' chains' n (Fetches db m phase) g h = kept_fetch db s (chains logs.Manifest db) s' (chains' logs.Manifest db) g m phase h
+phrase_kept s chains s' chains' n (Collects db pass phase) g h = kept_collect s chains s' chains' db pass phase g h
 
 module _ (s : Store) (chains : Chains) (s' : Store) (chains' : Chains) (d : List ℕ) (grows : (k : LogKind) → LogGrows s chains s' chains' k d) where
   versions_kept : (k : LogKind) (n : ℕ) (l : _) → link_at n (chains k d) ≡ Some l → link_at n (chains' k d) ≡ Some l
@@ -87,6 +88,7 @@ module _ (s : Store) (chains : Chains) (s' : Store) (chains' : Chains) (d : List
       record {
         own = h.own;
         over = h.over;
+        asked = h.asked;
         fits = h.fits;
         holds = kept_work chains chains' work (λ k n l. subst (λ x. link_at n (chains k x) ≡ Some l → link_at n (chains' k x) ≡ Some l) (sym at) (versions_kept k n l)) h.holds;
         knows = phrase_kept s chains s' chains' n (phrase_of work) (subst (LogGrows s chains s' chains' (log_in (phrase_of work))) (sym (work_db work ∙ at)) (grows (log_in (phrase_of work)))) h.knows;
@@ -164,12 +166,14 @@ module _ (s s' : Store) (k : LogKind) (db : List ℕ) (j : LogKind) (d : List �
   other_grows (Same e) = subst (λ (t : Store). Grows (log_of j) d s c t c) (sym e) (grows_not (log_of j) d s c)
   other_grows (Wrote p bytes moment is e) = subst (λ (t : Store). Grows (log_of j) d s c t c) (sym e) (elsewhere_grows (log_of j) d s c p bytes moment (away p is))
   other_grows (WroteElse p bytes moment other e) = subst (λ (t : Store). Grows (log_of j) d s c t c) (sym e) (elsewhere_grows (log_of j) d s c p bytes moment (nobodys_elsewhere (log_of j).kind d p named other))
+  other_grows (GoneElse p other e) = subst (λ (t : Store). Grows (log_of j) d s c t c) (sym e) (gone_grows (log_of j) d s c p (nobodys_elsewhere (log_of j).kind d p named other))
   other_grows (Gone p is e) = subst (λ (t : Store). Grows (log_of j) d s c t c) (sym e) (gone_grows (log_of j) d s c p (away p is))
 
   other_sound : StoreAfter k db s s' → IsSound (log_of j) d s c → IsSound (log_of j) d s' c
   other_sound (Same e) i = subst (λ (t : Store). IsSound (log_of j) d t c) (sym e) i
   other_sound (Wrote p bytes moment is e) i = subst (λ (t : Store). IsSound (log_of j) d t c) (sym e) (elsewhere_sound (log_of j) d s c p bytes moment (away p is) i)
   other_sound (WroteElse p bytes moment other e) i = subst (λ (t : Store). IsSound (log_of j) d t c) (sym e) (elsewhere_sound (log_of j) d s c p bytes moment (nobodys_elsewhere (log_of j).kind d p named other) i)
+  other_sound (GoneElse p other e) i = subst (λ (t : Store). IsSound (log_of j) d t c) (sym e) (gone_sound (log_of j) d s c p (nobodys_elsewhere (log_of j).kind d p named other) i)
   other_sound (Gone p is e) i = subst (λ (t : Store). IsSound (log_of j) d t c) (sym e) (gone_sound (log_of j) d s c p (away p is) i)
 
 -- one log, or two
@@ -184,6 +188,7 @@ same_place j d k db =
 other_chain : (b : Bool) (n : ℕ) (phrase : Phrase) (chains : Chains) (j : LogKind) (d : List ℕ) → AreApart j d (log_in phrase) (db_in phrase) → chains_put b (put_by n phrase) chains j d ≡ chains j d
 other_chain b n (Reads k db phase) chains j d apart = none_put b chains j d
 other_chain b n (Uploads db table bytes) chains j d apart = none_put b chains j d
+other_chain b n (Fetches db m phase) chains j d apart = none_put b chains j d
 other_chain b n (Collects db pass phase) chains j d apart = none_put b chains j d
 other_chain b n (Commits k db puts now (committing.Putting m bytes v)) chains j d apart =
     other_put b k db (record { number = m; bytes = bytes; value = (log_of k).normal v; by = Some (author_of n puts now) }) chains j d apart
@@ -317,7 +322,7 @@ module _ (w : World) (chains : Chains) (i : Inv w chains) (n : ℕ) (p : Party) 
   kept d is k m l = subst (λ x. link_at m (chains k x) ≡ Some l → link_at m (chains' k x) ≡ Some l) (sym is) ((own_log k).grows.kept m l)
 
   reaches : Reaches s' chains' n facts task.call standing
-  reaches = moved_reaches s' chains' n task.call facts (kept_holds chains chains' facts.db (kept facts.db refl) facts.compactor (i.parties n p at).holds) task.work knows.own
+  reaches = moved_reaches s' chains' n task.call facts knows.asked (kept_holds chains chains' facts.db (kept facts.db refl) facts.compactor (i.parties n p at).holds) task.work knows.own
       (λ k. subst (λ d. IsSound (log_of k) d s' (chains' k d)) (sym knows.own) (own_log k).sound) knows.over knows.fits (kept_work chains chains' task.work (kept (db_of task.work) knows.own) knows.holds) moment answer after.brings
 
   own_knows : PartyKnows w' chains' n (settled task.call standing)

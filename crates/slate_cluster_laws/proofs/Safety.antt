@@ -23,13 +23,17 @@ use Rattle.slate_txn_log.specs.declared.log_kind.LogKind.TheVariants as logs
 use Rattle.slate_txn_log.specs.declared.read_phase.ReadPhase.{ReadPhase}
 use Rattle.slate_txn_log.specs.declared.read_phase.ReadPhase.TheVariants as reading
 use Rattle.slate_ids.specs.declared.gc_message.GcMessage.{GcMessage}
+use Rattle.slate_ids.specs.declared.gc_message.GcMessage.TheVariants as of
 use Rattle.slate_gc_passes.specs.Pass.{pass_asks}
 use Rattle.slate_gc_passes.specs.declared.pass_phase.PassPhase.{PassPhase}
 use Rattle.slate_gc_passes.specs.declared.pass_phase.PassPhase.TheVariants as passing
+use Rattle.slate_state_referenced.specs.Referenced.{referenced_asks}
+use Rattle.slate_state_referenced.specs.declared.referenced_phase.ReferencedPhase.{ReferencedPhase}
+use Rattle.slate_state_referenced.specs.declared.referenced_phase.ReferencedPhase.TheVariants as fetching
 use Rattle.slate_cluster_protocol.specs.ByRows.{AllTold, all_told_after, entry_store}
 use Rattle.slate_cluster_protocol.specs.Chains.{bound_in}
-use Rattle.slate_cluster_protocol.specs.Holding.{IsVersionThat, pass_log}
-use Rattle.slate_cluster_protocol.specs.Logs.{Chains, Phrase, Reads, Commits, Uploads, Collects, log_of, phrase_of, chains_state, chains_at, chains_after, chains_of}
+use Rattle.slate_cluster_protocol.specs.Holding.{IsOfLog, IsVersionThat}
+use Rattle.slate_cluster_protocol.specs.Logs.{Chains, Phrase, Reads, Commits, Uploads, Fetches, Collects, log_of, phrase_of, chains_state, chains_at, chains_after, chains_of}
 use Rattle.slate_cluster_protocol.specs.Owners.{owner_of}
 use Rattle.slate_cluster_protocol.specs.Owners.Owner.{Version}
 use Rattle.slate_cluster_protocol.specs.Reach.{IsNeeded, InReach, Reachable, IsSpare}
@@ -44,6 +48,7 @@ use Rattle.slate_cluster_protocol.specs.declared.party.State.{State}
 use Rattle.slate_cluster_protocol.specs.declared.party.State.TheVariants.{Resting, Busy, Halted}
 use Rattle.slate_cluster_protocol.specs.declared.tally.Tally.{Tally}
 use Rattle.slate_cluster_protocol.specs.declared.work.Work.{Work}
+use Rattle.slate_cluster_laws.proofs.Calls.{OfLog, work_of_log}
 use Rattle.slate_cluster_laws.proofs.Facts.{IsReached, Grows}
 use Rattle.slate_cluster_laws.proofs.Passes.{PassKnows}
 use Rattle.slate_cluster_laws.proofs.Paths.{version_owner}
@@ -51,7 +56,7 @@ use Rattle.slate_cluster_laws.proofs.Puts.{grows_not}
 use Rattle.slate_cluster_laws.proofs.Rows.{AllMatch, ended, event_brings, all_after}
 use Rattle.slate_cluster_laws.proofs.Runs.{Inv, StateKnows, log_after, same_tallies, event_inv}
 use Rattle.slate_cluster_chain_laws.proofs.Spares.{not_needed}
-use Rattle.slate_cluster_laws.proofs.Steps.{PhraseKnows, db_in, phrase_asks, work_asks, work_db}
+use Rattle.slate_cluster_laws.proofs.Steps.{CollectKnows, PhraseKnows, db_in, phrase_asks, work_asks, work_db}
 use Rattle.slate_cluster_laws.proofs.Tallies.{its_kind}
 use Rattle.slate_cluster_laws.proofs.Zeros.{NoZero, zero_stays}
 
@@ -157,17 +162,28 @@ module _ (w : World) (chains : Chains) (v : World) (chains' : Chains) (a : Event
       (stays_gone m.location (record { log = k; db = db; number = h.number; is = is; has = has; spare = h.has.1; bounded = h.has.0.reached }), tt)
   delete_gone k db m false has h = tt
 
-  collect_gone : (db : List ℕ) (pass : GcMessage) (phase : PassPhase) (s : Store) → HasDb w db → PassKnows (log_of (pass_log pass)) db w.store (chains (pass_log pass) db) phase → AllCollected v chains' (removed_by_call (pass_asks db pass phase) w.store s)
-  collect_gone db pass (passing.Listing heads versions) s has k = tt
-  collect_gone db pass (passing.Getting n listed found) s has k = tt
-  collect_gone db pass (passing.Bounding n listed candidates) s has k = tt
-  collect_gone db pass (passing.Advancing (advancing.Bounding n) left counts) s has k = tt
-  collect_gone db pass (passing.Advancing (advancing.Creating n) left counts) s has k = tt
-  collect_gone db pass (passing.Advancing (advancing.Replacing n tag) left counts) s has k = tt
-  collect_gone db pass (passing.Advancing advancing.Over left counts) s has k = tt
-  collect_gone db pass (passing.Deleting [] counts) s has k = tt
-  collect_gone db pass (passing.Deleting (m ∷ ms) counts) s has k = delete_gone (pass_log pass) db m (took_away m.location w.store s) has k.0
-  collect_gone db pass _ s has k = absurd k
+  -- of a pass over a log
+  log_gone : (k : LogKind) (db : List ℕ) (pass : GcMessage) (phase : PassPhase) (s : Store) → HasDb w db → PassKnows (log_of k) db w.store (chains k db) phase → AllCollected v chains' (removed_by_call (pass_asks db pass phase) w.store s)
+  log_gone k db pass (passing.Listing heads versions) s has h = tt
+  log_gone k db pass (passing.Getting n listed found) s has h = tt
+  log_gone k db pass (passing.Bounding n listed candidates) s has h = tt
+  log_gone k db pass (passing.Advancing (advancing.Bounding n) left counts) s has h = tt
+  log_gone k db pass (passing.Advancing (advancing.Creating n) left counts) s has h = tt
+  log_gone k db pass (passing.Advancing (advancing.Replacing n tag) left counts) s has h = tt
+  log_gone k db pass (passing.Advancing advancing.Over left counts) s has h = tt
+  log_gone k db pass (passing.Deleting [] counts) s has h = tt
+  log_gone k db pass (passing.Deleting (m ∷ ms) counts) s has h = delete_gone k db m (took_away m.location w.store s) has h.0
+  log_gone k db pass _ s has h = absurd h
+
+  collect_gone : (db : List ℕ) (pass : GcMessage) (phase : PassPhase) (s : Store) → HasDb w db → IsOfLog pass → CollectKnows w.store chains db pass phase → AllCollected v chains' (removed_by_call (pass_asks db pass phase) w.store s)
+  collect_gone db of.Manifest phase s has log h = log_gone logs.Manifest db of.Manifest phase s has h
+  collect_gone db of.Compactions phase s has log h = log_gone logs.Compactions db of.Compactions phase s has h
+  collect_gone db _ phase s has log h = absurd (cc (log))
+
+  fetch_gone : (db : List ℕ) (phase : ReferencedPhase) (s : Store) → AllCollected v chains' (removed_by_call (referenced_asks db phase) w.store s)
+  fetch_gone db (fetching.Getting [] found) s = tt
+  fetch_gone db (fetching.Getting (n ∷ left) found) s = tt
+  fetch_gone db fetching.Over s = tt
 
   read_gone : {T : Type 0} (db : List ℕ) (k : LogKind) (phase : ReadPhase T) (s : Store) → AllCollected v chains' (removed_by_call (read_asks db k phase) w.store s)
   read_gone db k reading.Listing s = tt
@@ -180,15 +196,16 @@ module _ (w : World) (chains : Chains) (v : World) (chains' : Chains) (a : Event
   commit_gone db k (committing.Bounding n m) s = tt
   commit_gone db k committing.Over s = tt
 
-  phrase_gone : (n : ℕ) (phrase : Phrase) (s : Store) → HasDb w (db_in phrase) → PhraseKnows w.store chains n phrase → AllCollected v chains' (removed_by_call (phrase_asks phrase) w.store s)
-  phrase_gone n (Reads k db phase) s has h = read_gone db (log_of k).kind phase s
-  phrase_gone n (Commits k db puts now phase) s has h = commit_gone db (log_of k).kind phase s
-  phrase_gone n (Uploads db table bytes) s has h = tt
-  phrase_gone n (Collects db pass phase) s has h = collect_gone db pass phase s has h.1
+  phrase_gone : (n : ℕ) (phrase : Phrase) (s : Store) → HasDb w (db_in phrase) → OfLog phrase → PhraseKnows w.store chains n phrase → AllCollected v chains' (removed_by_call (phrase_asks phrase) w.store s)
+  phrase_gone n (Reads k db phase) s has log h = read_gone db (log_of k).kind phase s
+  phrase_gone n (Commits k db puts now phase) s has log h = commit_gone db (log_of k).kind phase s
+  phrase_gone n (Uploads db table bytes) s has log h = tt
+  phrase_gone n (Fetches db m phase) s has log h = fetch_gone db phase s
+  phrase_gone n (Collects db pass phase) s has log h = collect_gone db pass phase s has log h
 
-  work_gone : (n : ℕ) (work : Work) (s : Store) → HasDb w (db_of work) → PhraseKnows w.store chains n (phrase_of work) → AllCollected v chains' (removed_by_call (asks work) w.store s)
-  work_gone n work s has h =
-      subst (λ (call : StoreCall). AllCollected v chains' (removed_by_call call w.store s)) (sym (work_asks work)) (phrase_gone n (phrase_of work) s (subst (λ d. HasDb w d) (sym (work_db work)) has) h)
+  work_gone : (n : ℕ) (work : Work) (s : Store) → HasDb w (db_of work) → OfLog (phrase_of work) → PhraseKnows w.store chains n (phrase_of work) → AllCollected v chains' (removed_by_call (asks work) w.store s)
+  work_gone n work s has log h =
+      subst (λ (call : StoreCall). AllCollected v chains' (removed_by_call call w.store s)) (sym (work_asks work)) (phrase_gone n (phrase_of work) s (subst (λ d. HasDb w d) (sym (work_db work)) has) log h)
 
   -- what a step removed
   pub step_gone : (n : ℕ) (facts : Facts) (state : State) (moment : ℤ) (mark : Mark) → HasDb w facts.db → StateKnows w.store chains n facts state → AllCollected v chains' (removed_by (step_state w n facts state moment mark).entry w.store)
@@ -196,7 +213,7 @@ module _ (w : World) (chains : Chains) (v : World) (chains' : Chains) (a : Event
   step_gone n facts Halted moment mark has k = tt
   step_gone n facts (Busy task) moment mark has k =
       let s = (effect mark (asks task.work) moment w.store).store in
-      work_gone n task.work s (subst (λ d. HasDb w d) (sym k.own) has) k.knows
+      work_gone n task.work s (subst (λ d. HasDb w d) (sym k.own) has) (work_of_log facts task.call task.work k.asked k.fits) k.knows
 
   start_gone : (n : ℕ) (facts : Facts) (state : State) (call : Call) (u : World) → AllCollected v chains' (removed_by (start_state u n facts state call).entry w.store)
   start_gone n facts Resting call u = tt

@@ -17,8 +17,9 @@ use Rattle.slate_txn_log.specs.declared.commit_phase.CommitPhase.{CommitPhase}
 use Rattle.slate_txn_log.specs.declared.commit_phase.CommitPhase.TheVariants.{Putting, Bounding, Over}
 use Rattle.slate_txn_log.specs.declared.log_kind.LogKind.{LogKind}
 use Rattle.slate_txn_log.specs.declared.log_kind.LogKind.TheVariants as logs
+use Rattle.slate_txn_log.specs.declared.read_phase.ReadPhase.{ReadPhase}
 use Rattle.slate_gc_passes.specs.Defaults.{default_options}
-use Rattle.slate_gc_passes.specs.Pass.{pass_asks, pass_goes}
+use Rattle.slate_gc_passes.specs.Pass.{PassGoes, pass_asks, pass_goes}
 use Rattle.slate_gc_passes.specs.declared.directory_options.GarbageCollectorDirectoryOptions.{GarbageCollectorDirectoryOptions}
 use Rattle.slate_txn_changes.specs.LogWorks.{work_asks as changes_ask}
 use Rattle.slate_txn_changes.specs.declared.log_work.LogWork.{LogWork}
@@ -26,13 +27,17 @@ use Rattle.slate_txn_changes.specs.declared.log_work.LogWork.TheVariants.{Readin
 use Rattle.slate_state_calls.specs.Commits.{ManifestChanging, RecordChanging}
 use Rattle.slate_state_calls.specs.declared.open_phase.OpenPhase.TheVariants as opening
 use Rattle.slate_state_calls.specs.declared.state_phase.StatePhase.TheVariants as compacting
-use Rattle.slate_gc_passes.specs.declared.gc_phase.GcPhase.TheVariants as passing
+use Rattle.slate_gc_passes.specs.declared.gc_phase.GcPhase.TheVariants as whole
 use Rattle.slate_gc_passes.specs.declared.pass_phase.PassPhase.{PassPhase}
+use Rattle.slate_gc_passes.specs.declared.pass_phase.PassPhase.TheVariants as passing
+use Rattle.slate_layout_manifests.specs.Decoding.{decoded_manifest}
+use Rattle.slate_state_referenced.specs.Referenced.{referenced_asks, referenced_goes}
+use Rattle.slate_state_referenced.specs.declared.referenced_phase.ReferencedPhase.{ReferencedPhase}
 use Rattle.slate_script_events.specs.declared.filter_word.FilterWord.{FilterWord}
 use Rattle.slate_script_events.specs.declared.filter_word.FilterWord.TheVariants.{Nothing}
 use Rattle.slate_cluster_protocol.specs.Chains.{Link, with_link}
-use Rattle.slate_cluster_protocol.specs.Holding.{IsOfLog, pass_log}
-use Rattle.slate_cluster_protocol.specs.Logs.{Author, Puts, OfManifest, First, manifest_puts, record_puts, Held, log_of, Chain, Chains, Phrase, Reads, Commits, Uploads, Collects, change_phrase, manifest_phrase, record_phrase, phrase_of, Put, put_by, chain_with, chains_put}
+use Rattle.slate_cluster_protocol.specs.Holding.{pass_log}
+use Rattle.slate_cluster_protocol.specs.Logs.{Author, Puts, OfManifest, First, manifest_puts, record_puts, Held, log_of, Chain, Chains, Phrase, Reads, Commits, Uploads, Fetches, Collects, change_phrase, manifest_phrase, record_phrase, collect_phrase, phrase_of, manifests, records, Put, put_by, chain_with, chains_put}
 use Rattle.slate_cluster_protocol.specs.Works.{db_of, asks, pass_ways}
 use Rattle.slate_cluster_protocol.specs.World.{wrote}
 use Rattle.slate_cluster_protocol.specs.declared.work.Work.{Work}
@@ -40,27 +45,32 @@ use Rattle.slate_cluster_protocol.specs.declared.work.Work.TheVariants as works
 use Rattle.slate_state_updates.specs.declared.manifest_change.ManifestChange.TheVariants.{DropExpired}
 use Rattle.slate_store.proofs.LookUps.{bytes_same}
 use Rattle.slate_cluster_laws.proofs.Stores.{IsTidy, decides}
-use Rattle.slate_cluster_laws.proofs.Facts.{IsSound, ReadKnows, CommitKnows, ReadBrings, CommitBrings}
+use Rattle.slate_cluster_laws.proofs.Facts.{IsSound, Grows, ReadKnows, CommitKnows, ReadBrings, CommitBrings}
 use Rattle.slate_cluster_chain_laws.proofs.Manifests.{log_laws}
 use Rattle.slate_cluster_laws.proofs.Paths.{AreApart, nobodys_elsewhere, table_nobodys}
 use Rattle.slate_cluster_laws.proofs.Puts.{Leaves, leaves_not, elsewhere_leaves}
 use Rattle.slate_cluster_laws.proofs.Turns.{chain_if, read_step, bound_step, put_step}
-use Rattle.slate_cluster_laws.proofs.Passes.{PassKnows, PassBrings, AfterPass, bounded_pass, manifest_step, record_step}
+use Rattle.slate_cluster_laws.proofs.Passes.{PassKnows, PassBrings, bounded_pass, kept_pass, manifest_step, record_step}
+use Rattle.slate_cluster_laws.proofs.Referenced.{FetchKnows, FetchBrings, fetch_step}
+use Rattle.slate_cluster_laws.proofs.Sweeps.{SweepKnows, SweepBrings, Sweep, kept_sweep, message_of, sweep_step}
+use Rattle.slate_cluster_laws.proofs.Sweeps.Sweep.{OfTables, OfFiles, OfFences}
 
 -- ---- phrases
 
 -- the log of a phrase, and its database: of a pass, the one whose versions it deletes; the put of a table is of no log, and leaves that of manifests
--- as it is
+-- as it is; so does a pass over no log
 abbrev pub log_in : Phrase → LogKind
 log_in (Reads k db phase) = k
 log_in (Commits k db puts now phase) = k
 log_in (Uploads db table bytes) = logs.Manifest
+log_in (Fetches db n phase) = logs.Manifest
 log_in (Collects db pass phase) = pass_log pass
 
 abbrev pub db_in : Phrase → List ℕ
 db_in (Reads k db phase) = db
 db_in (Commits k db puts now phase) = db
 db_in (Uploads db table bytes) = db
+db_in (Fetches db n phase) = db
 db_in (Collects db pass phase) = db
 
 -- its store call
@@ -68,6 +78,7 @@ abbrev pub phrase_asks : Phrase → StoreCall
 phrase_asks (Reads k db phase) = read_asks db (log_of k).kind phase
 phrase_asks (Commits k db puts now phase) = commit_asks db (log_of k).kind phase
 phrase_asks (Uploads db table bytes) = store_call.Put (paths.Table db table) bytes
+phrase_asks (Fetches db n phase) = referenced_asks db phase
 phrase_asks (Collects db pass phase) = pass_asks db pass phase
 
 -- they are those of the work
@@ -87,12 +98,23 @@ manifest_asks db p = change_asks logs.Manifest db (manifest_puts p.change) p.wor
 record_asks : (db : List ℕ) (p : RecordChanging) → changes_ask db logs.Compactions p.work ≡ phrase_asks (record_phrase db p)
 record_asks db p = change_asks logs.Compactions db (record_puts p.change) p.work
 
+collect_asks : (db : List ℕ) (pass : GcMessage) (phase : PassPhase) → pass_asks db pass phase ≡ phrase_asks (collect_phrase db pass phase)
+collect_asks db pass (passing.ReadingRecord phase) = refl
+collect_asks db pass (passing.ReadingManifest least phase) = refl
+collect_asks db pass (passing.Fetching heads phase) = refl
+collect_asks db pass (passing.Listing heads versions) = refl
+collect_asks db pass (passing.Getting n listed found) = refl
+collect_asks db pass (passing.Bounding n listed candidates) = refl
+collect_asks db pass (passing.Advancing phase left counts) = refl
+collect_asks db pass (passing.Deleting left counts) = refl
+collect_asks db pass passing.Over = refl
+
 pub work_asks : (work : Work) → asks work ≡ phrase_asks (phrase_of work)
 work_asks (works.Manifests db p) = manifest_asks db p
 work_asks (works.Records db p) = record_asks db p
 work_asks (works.PutTable db upload bytes) = refl
-work_asks (works.Pass db settings filter (passing.Removing work)) = change_asks logs.Manifest db (OfManifest DropExpired) work
-work_asks (works.Pass db settings filter (passing.Collecting at phase)) = refl
+work_asks (works.Pass db settings filter (whole.Removing work)) = change_asks logs.Manifest db (OfManifest DropExpired) work
+work_asks (works.Pass db settings filter (whole.Collecting at phase)) = collect_asks db settings.pass phase
 work_asks (works.Opening db (opening.Raising p)) = manifest_asks db p
 work_asks (works.Opening db (opening.OnRecord step m p)) = record_asks db p
 work_asks (works.Opening db opening.Over) = refl
@@ -106,12 +128,25 @@ manifest_db db p = change_db logs.Manifest db (manifest_puts p.change) p.work
 record_db : (db : List ℕ) (p : RecordChanging) → db_in (record_phrase db p) ≡ db
 record_db db p = change_db logs.Compactions db (record_puts p.change) p.work
 
+-- a pass that collects is in a read, gets versions, or lists and deletes
+pub by_phase : (P : Phrase → Type 0) (db : List ℕ) (pass : GcMessage) → ((k : LogKind) (phase : ReadPhase (Held k)) → P (Reads k db phase)) → ((n : ℕ) (phase : ReferencedPhase) → P (Fetches db n phase))
+    → ((phase : PassPhase) → P (Collects db pass phase)) → (phase : PassPhase) → P (collect_phrase db pass phase)
+by_phase P db pass read fetch collect (passing.ReadingRecord phase) = read logs.Compactions phase
+by_phase P db pass read fetch collect (passing.ReadingManifest least phase) = read logs.Manifest phase
+by_phase P db pass read fetch collect (passing.Fetching heads phase) = fetch heads.latest phase
+by_phase P db pass read fetch collect (passing.Listing heads versions) = collect (passing.Listing heads versions)
+by_phase P db pass read fetch collect (passing.Getting n listed found) = collect (passing.Getting n listed found)
+by_phase P db pass read fetch collect (passing.Bounding n listed candidates) = collect (passing.Bounding n listed candidates)
+by_phase P db pass read fetch collect (passing.Advancing phase left counts) = collect (passing.Advancing phase left counts)
+by_phase P db pass read fetch collect (passing.Deleting left counts) = collect (passing.Deleting left counts)
+by_phase P db pass read fetch collect passing.Over = collect passing.Over
+
 pub work_db : (work : Work) → db_in (phrase_of work) ≡ db_of work
 work_db (works.Manifests db p) = manifest_db db p
 work_db (works.Records db p) = record_db db p
 work_db (works.PutTable db upload bytes) = refl
-work_db (works.Pass db settings filter (passing.Removing work)) = change_db logs.Manifest db (OfManifest DropExpired) work
-work_db (works.Pass db settings filter (passing.Collecting at phase)) = refl
+work_db (works.Pass db settings filter (whole.Removing work)) = change_db logs.Manifest db (OfManifest DropExpired) work
+work_db (works.Pass db settings filter (whole.Collecting at phase)) = by_phase (λ phrase. db_in phrase ≡ db) db settings.pass (λ k read. refl) (λ n fetch. refl) (λ collect. refl) phase
 work_db (works.Opening db (opening.Raising p)) = manifest_db db p
 work_db (works.Opening db (opening.OnRecord step m p)) = record_db db p
 work_db (works.Opening db opening.Over) = refl
@@ -132,23 +167,51 @@ pub author_party : (n : ℕ) (phrase : Phrase) → (author_in n phrase).party �
 author_party n (Reads k db phase) = refl
 author_party n (Commits k db puts now phase) = refl
 author_party n (Uploads db table bytes) = refl
+author_party n (Fetches db m phase) = refl
 author_party n (Collects db pass phase) = refl
+
+-- what a pass knows while it lists and deletes, by its log; the detaching one isn't made in a run
+abbrev pub ByPass : GcMessage → Type 0 → Type 0 → Type 0 → Type 0
+ByPass of.Manifest OfManifests OfRecords OfNone = OfManifests
+ByPass of.Compactions OfManifests OfRecords OfNone = OfRecords
+ByPass of.Detach OfManifests OfRecords OfNone = ⊥
+ByPass _ OfManifests OfRecords OfNone = OfNone
+
+abbrev pub CollectKnows : Store → Chains → List ℕ → GcMessage → PassPhase → Type 0
+CollectKnows s chains db pass phase =
+    ByPass pass (PassKnows manifests db s (chains logs.Manifest db) phase) (PassKnows records db s (chains logs.Compactions db) phase) (SweepKnows (chains logs.Manifest db) phase)
+
+-- it stays while its log grows
+pub kept_collect : (s : Store) (chains : Chains) (s' : Store) (chains' : Chains) (db : List ℕ) (pass : GcMessage) (phase : PassPhase) → Grows (log_of (pass_log pass)) db s (chains (pass_log pass) db) s' (chains' (pass_log pass) db)
+    → CollectKnows s chains db pass phase → CollectKnows s' chains' db pass phase
+kept_collect s chains s' chains' db of.Manifest phase g h = kept_pass manifests db s (chains logs.Manifest db) s' (chains' logs.Manifest db) g phase h
+kept_collect s chains s' chains' db of.Compactions phase g h = kept_pass records db s (chains logs.Compactions db) s' (chains' logs.Compactions db) g phase h
+kept_collect s chains s' chains' db of.Compacted phase g h = kept_sweep db s (chains logs.Manifest db) s' (chains' logs.Manifest db) g phase h
+kept_collect s chains s' chains' db of.Wal phase g h = kept_sweep db s (chains logs.Manifest db) s' (chains' logs.Manifest db) g phase h
+kept_collect s chains s' chains' db of.WalFence phase g h = kept_sweep db s (chains logs.Manifest db) s' (chains' logs.Manifest db) g phase h
+kept_collect s chains s' chains' db of.Detach phase g h = h
+
+-- what a step of it brings
+abbrev pub CollectBrings : Store → Chains → List ℕ → GcMessage → PassGoes → Type 0
+CollectBrings s chains db pass g =
+    ByPass pass (PassBrings manifests db s (chains logs.Manifest db) g) (PassBrings records db s (chains logs.Compactions db) g) (SweepBrings (chains logs.Manifest db) g)
 
 -- what a party knows while it is in a phrase
 abbrev pub PhraseKnows : Store → Chains → ℕ → Phrase → Type 0
 PhraseKnows s chains n (Reads k db phase) = ReadKnows (log_of k) db s (chains k db) phase
 PhraseKnows s chains n (Commits k db puts now phase) = CommitKnows (log_of k) db s (chains k db) (author_of n puts now) phase
 PhraseKnows s chains n (Uploads db table bytes) = is_id table ≡ true
-PhraseKnows s chains n (Collects db pass phase) = IsOfLog pass × PassKnows (log_of (pass_log pass)) db s (chains (pass_log pass) db) phase
+PhraseKnows s chains n (Fetches db m phase) = FetchKnows (chains logs.Manifest db) m phase
+PhraseKnows s chains n (Collects db pass phase) = CollectKnows s chains db pass phase
 
 -- what a phrase's answer at a moment brings
 abbrev pub PhraseBrings : Store → Chains → ℕ → Phrase → ℤ → StoreAnswer → Type 0
 PhraseBrings s chains n (Reads k db phase) moment answer = ReadBrings (log_of k) db s (chains k db) (read_goes (log_of k).kind (log_of k).decoded phase answer)
 PhraseBrings s chains n (Commits k db puts now phase) moment answer = CommitBrings (log_of k) db s (chains k db) (author_of n puts now) (commit_goes phase answer)
 PhraseBrings s chains n (Uploads db table bytes) moment answer = Unit {0}
+PhraseBrings s chains n (Fetches db m phase) moment answer = FetchBrings (chains logs.Manifest db) m (referenced_goes decoded_manifest phase answer)
 PhraseBrings s chains n (Collects db pass phase) moment answer =
-    (options : GarbageCollectorDirectoryOptions) (word : FilterWord) (now : ℤ)
-    → PassBrings (log_of (pass_log pass)) db s (chains (pass_log pass) db) (pass_goes (pass_ways word) (bounded_pass pass options) now phase answer)
+    (options : GarbageCollectorDirectoryOptions) (word : FilterWord) (now : ℤ) → CollectBrings s chains db pass (pass_goes (pass_ways word) (bounded_pass pass options) now phase answer)
 
 -- ---- the chain of this log after a put, and those of the others
 
@@ -250,31 +313,85 @@ module _ (s : Store) (chains : Chains) (n : ℕ) (tidy : IsTidy s.objects) (mark
         brings = tt;
       }
 
+  -- a step of the reading of the versions that a manifest names
+  fetches : (db : List ℕ) (m : ℕ) → IsSound (log_of logs.Manifest) db s (chains logs.Manifest db) → (phase : ReferencedPhase) → FetchKnows (chains logs.Manifest db) m phase → AfterPhrase s chains n (Fetches db m phase) mark moment
+  fetches db m i phase h =
+      let author = author_of n First (pos 0) in
+      let o = effect mark (referenced_asks db phase) moment s in
+      let c = chains logs.Manifest db in
+      let f = fetch_step db s c i m phase mark moment h in
+      let chain = none_put (wrote s o.store) chains logs.Manifest db in
+      record {
+        leaves = subst (λ (d : Chain logs.Manifest). Leaves (log_of logs.Manifest) db author s c o.store d) (sym chain)
+            (subst (λ (t : Store). Leaves (log_of logs.Manifest) db author s c t c) (sym f.same) (leaves_not (log_of logs.Manifest) db author s c i));
+        brings = subst (λ (d : Chain logs.Manifest). FetchBrings d m (referenced_goes decoded_manifest phase o.answer)) (sym chain) f.brings;
+      }
+
   -- a step of what a pass collects, by its steps under all settings: what it leaves of its log doesn't hang on its options, its filter and its moment
-  collect_step : (db : List ℕ) (pass : GcMessage) → IsSound (log_of (pass_log pass)) db s (chains (pass_log pass) db) → (phase : PassPhase)
-      → ((options : GarbageCollectorDirectoryOptions) (word : FilterWord) (now : ℤ)
-      → AfterPass (log_of (pass_log pass)) db (author_of n First (pos 0)) s (chains (pass_log pass) db) (bounded_pass pass options) word now phase (effect mark (pass_asks db pass phase) moment s))
-      → AfterPhrase s chains n (Collects db pass phase) mark moment
-  collect_step db pass i phase step =
+  abbrev CollectStep : List ℕ → GcMessage → PassPhase → Type 0
+  CollectStep db pass phase =
+      let k = pass_log pass in
+      let o = effect mark (pass_asks db pass phase) moment s in
+      Leaves (log_of k) db (author_of n First (pos 0)) s (chains k db) o.store (chains k db)
+      × ((options : GarbageCollectorDirectoryOptions) (word : FilterWord) (now : ℤ) → CollectBrings o.store chains db pass (pass_goes (pass_ways word) (bounded_pass pass options) now phase o.answer))
+
+  collect_step : (db : List ℕ) (pass : GcMessage) (phase : PassPhase) → CollectStep db pass phase → AfterPhrase s chains n (Collects db pass phase) mark moment
+  collect_step db pass phase step =
       let k = pass_log pass in
       let author = author_of n First (pos 0) in
       let o = effect mark (pass_asks db pass phase) moment s in
-      let chain = none_put (wrote s o.store) chains k db in
+      let b = wrote s o.store in
       record {
-        leaves = subst (λ (c : Chain k). Leaves (log_of k) db author s (chains k db) o.store c) (sym chain) (step default_options Nothing moment).leaves;
-        brings = λ options word now. subst (λ (c : Chain k). PassBrings (log_of k) db o.store c (pass_goes (pass_ways word) (bounded_pass pass options) now phase o.answer)) (sym chain) (step options word now).brings;
+        leaves = subst (λ (c : Chain k). Leaves (log_of k) db author s (chains k db) o.store c) (sym (none_put b chains k db)) step.0;
+        brings = λ options word now.
+            let g = pass_goes (pass_ways word) (bounded_pass pass options) now phase o.answer in
+            subst (λ (c : Chain logs.Manifest). ByPass pass (PassBrings manifests db o.store c g) (PassBrings records db o.store (chains_put b None chains logs.Compactions db) g) (SweepBrings c g)) (sym (none_put b chains logs.Manifest db))
+            (subst (λ (c : Chain logs.Compactions). ByPass pass (PassBrings manifests db o.store (chains logs.Manifest db) g) (PassBrings records db o.store c g) (SweepBrings (chains logs.Manifest db) g)) (sym (none_put b chains logs.Compactions db))
+            (step.1 options word now));
       }
 
-  collects : (db : List ℕ) (pass : GcMessage) (named : is_db_path db ≡ true) (i : IsSound (log_of (pass_log pass)) db s (chains (pass_log pass) db)) (phase : PassPhase)
-      → IsOfLog pass × PassKnows (log_of (pass_log pass)) db s (chains (pass_log pass) db) phase → AfterPhrase s chains n (Collects db pass phase) mark moment
-  collects db of.Manifest named i phase h =
-      collect_step db of.Manifest i phase (λ options word now. manifest_step db named (author_of n First (pos 0)) options word now s (chains logs.Manifest db) i tidy phase mark moment h.1)
-  collects db of.Compactions named i phase h =
-      collect_step db of.Compactions i phase (λ options word now. record_step db named (author_of n First (pos 0)) options word now s (chains logs.Compactions db) i tidy phase mark moment h.1)
-  collects db _ named i phase h = absurd (cc (h.0))
+  -- of a pass over the manifests, over the records, and over no log
+  module _ (db : List ℕ) (named : is_db_path db ≡ true) (phase : PassPhase) where
+    abbrev author : Author
+    author = author_of n First (pos 0)
+
+    manifests_collect : IsSound manifests db s (chains logs.Manifest db) → PassKnows manifests db s (chains logs.Manifest db) phase → AfterPhrase s chains n (Collects db of.Manifest phase) mark moment
+    manifests_collect i h = collect_step db of.Manifest phase (
+      (manifest_step db named author default_options Nothing moment s (chains logs.Manifest db) i tidy phase mark moment h).leaves,
+      λ options word now. (manifest_step db named author options word now s (chains logs.Manifest db) i tidy phase mark moment h).brings,
+    )
+
+    records_collect : IsSound records db s (chains logs.Compactions db) → PassKnows records db s (chains logs.Compactions db) phase → AfterPhrase s chains n (Collects db of.Compactions phase) mark moment
+    records_collect i h = collect_step db of.Compactions phase (
+      (record_step db named author default_options Nothing moment s (chains logs.Compactions db) i tidy phase mark moment h).leaves,
+      λ options word now. (record_step db named author options word now s (chains logs.Compactions db) i tidy phase mark moment h).brings,
+    )
+
+    sweeps : (sweep : Sweep) → IsSound manifests db s (chains logs.Manifest db) → SweepKnows (chains logs.Manifest db) phase → AfterPhrase s chains n (Collects db (message_of sweep) phase) mark moment
+    sweeps OfTables i h = collect_step db of.Compacted phase (
+      (sweep_step db named author default_options Nothing moment s (chains logs.Manifest db) i tidy OfTables phase mark moment h).leaves,
+      λ options word now. (sweep_step db named author options word now s (chains logs.Manifest db) i tidy OfTables phase mark moment h).brings,
+    )
+    sweeps OfFiles i h = collect_step db of.Wal phase (
+      (sweep_step db named author default_options Nothing moment s (chains logs.Manifest db) i tidy OfFiles phase mark moment h).leaves,
+      λ options word now. (sweep_step db named author options word now s (chains logs.Manifest db) i tidy OfFiles phase mark moment h).brings,
+    )
+    sweeps OfFences i h = collect_step db of.WalFence phase (
+      (sweep_step db named author default_options Nothing moment s (chains logs.Manifest db) i tidy OfFences phase mark moment h).leaves,
+      λ options word now. (sweep_step db named author options word now s (chains logs.Manifest db) i tidy OfFences phase mark moment h).brings,
+    )
+
+    collects : (pass : GcMessage) → IsSound (log_of (pass_log pass)) db s (chains (pass_log pass) db) → CollectKnows s chains db pass phase → AfterPhrase s chains n (Collects db pass phase) mark moment
+    collects of.Manifest i h = manifests_collect i h
+    collects of.Compactions i h = records_collect i h
+    collects of.Compacted i h = sweeps OfTables i h
+    collects of.Wal i h = sweeps OfFiles i h
+    collects of.WalFence i h = sweeps OfFences i h
+    collects of.Detach i h = absurd h
 
   pub phrase_step : (phrase : Phrase) → is_db_path (db_in phrase) ≡ true → IsSound (log_of (log_in phrase)) (db_in phrase) s (chains (log_in phrase) (db_in phrase)) → PhraseKnows s chains n phrase → AfterPhrase s chains n phrase mark moment
   phrase_step (Reads k db phase) named i h = reads k db i phase h
   phrase_step (Commits k db puts now phase) named i h = commits k db i named puts now phase h
   phrase_step (Uploads db table bytes) named i h = uploads db table bytes named i h
-  phrase_step (Collects db pass phase) named i h = collects db pass named i phase h
+  phrase_step (Fetches db m phase) named i h = fetches db m i phase h
+  phrase_step (Collects db pass phase) named i h = collects db named phase pass i h

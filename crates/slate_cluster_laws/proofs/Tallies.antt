@@ -10,6 +10,7 @@ use Rattle.slate_store.specs.declared.mark.Mark.TheVariants.{Good, Fail, Lost}
 use Rattle.slate_store.specs.declared.object.StoredObject.{StoredObject}
 use Rattle.slate_store.specs.declared.store_answer.StoreAnswer.{StoreAnswer}
 use Rattle.slate_store.specs.declared.store_answer.StoreAnswer.TheVariants.{Deleted}
+use Rattle.slate_store.specs.declared.store_call.StoreCall.{StoreCall}
 use Rattle.slate_store.specs.declared.store_call.StoreCall.TheVariants.{PutNew, Replace, Put}
 use Rattle.slate_txn_log.specs.AdvancePhase.{advance_asks}
 use Rattle.slate_txn_log.specs.LogPaths.{version_path, boundary_path}
@@ -21,14 +22,19 @@ use Rattle.slate_txn_log.specs.declared.log_kind.LogKind.{LogKind}
 use Rattle.slate_txn_log.specs.declared.log_kind.LogKind.TheVariants as logs
 use Rattle.slate_txn_log.specs.declared.read_phase.ReadPhase.{ReadPhase}
 use Rattle.slate_txn_log.specs.declared.read_phase.ReadPhase.TheVariants as reading
+use Rattle.slate_txn_log.specs.ReadPhase.{read_asks}
+use Rattle.slate_state_referenced.specs.Referenced.{referenced_asks}
+use Rattle.slate_state_referenced.specs.declared.referenced_phase.ReferencedPhase.{ReferencedPhase}
+use Rattle.slate_state_referenced.specs.declared.referenced_phase.ReferencedPhase.TheVariants as fetching
 use Rattle.slate_ids.specs.declared.gc_message.GcMessage.{GcMessage}
+use Rattle.slate_ids.specs.declared.gc_message.GcMessage.TheVariants as of
 use Rattle.slate_gc_passes.specs.Pass.{pass_asks}
 use Rattle.slate_gc_passes.specs.Rows.{log_of_pass, log_or_manifests}
 use Rattle.slate_gc_passes.specs.declared.pass_phase.PassPhase.{PassPhase}
 use Rattle.slate_gc_passes.specs.declared.pass_phase.PassPhase.TheVariants as passing
 use Rattle.slate_cluster_protocol.specs.Chains.{Link, link_at, top, if_new}
 use Rattle.slate_cluster_protocol.specs.Holding.{pass_log}
-use Rattle.slate_cluster_protocol.specs.Logs.{Author, Held, log_of, Chain, Chains, Phrase, Reads, Commits, Uploads, Collects, put_by, chains_put}
+use Rattle.slate_cluster_protocol.specs.Logs.{Author, Held, log_of, Chain, Chains, Phrase, Reads, Commits, Uploads, Fetches, Collects, put_by, chains_put}
 use Rattle.slate_cluster_protocol.specs.World.{tally_of, number_in, tallied, committed, raise_tally, to_manifest, to_record}
 use Rattle.slate_cluster_protocol.specs.declared.tally.Tally.{Tally}
 use Rattle.slate_store.proofs.LookUps.{put_object}
@@ -39,19 +45,22 @@ use Rattle.slate_cluster_laws.proofs.Facts.{IsSound, IsNext}
 use Rattle.slate_cluster_laws.proofs.Paths.{IsOwn, IsNobodys, own_fine, table_nobodys}
 use Rattle.slate_cluster_laws.proofs.Paths.IsOwn.{OwnVersion, OwnBoundary}
 use Rattle.slate_cluster_laws.proofs.Passes.{PassKnows}
-use Rattle.slate_cluster_laws.proofs.Steps.{log_in, db_in, phrase_asks, author_of, PhraseKnows, put_of, own_put, other_put, none_put}
+use Rattle.slate_cluster_laws.proofs.Referenced.{FetchKnows}
+use Rattle.slate_cluster_laws.proofs.Sweeps.{SweepKnows}
+use Rattle.slate_cluster_laws.proofs.Steps.{log_in, db_in, phrase_asks, author_of, CollectKnows, PhraseKnows, put_of, own_put, other_put, none_put}
 
 abbrev Tallies : Type 0
 Tallies = List (List ℕ × Tally)
 
 -- ---- the store after a step
 
--- a step leaves the store, or writes or deletes at a path of a database's log, or writes at one that no log has
+-- a step leaves the store, or writes or deletes at a path of a database's log, or at one that no log has
 pub data StoreAfter (k : LogKind) (db : List ℕ) (s s' : Store) : Type 0 where
   Same : s' ≡ s → StoreAfter k db s s'
   Wrote : (p : ObjectPath) → (bytes : List ℕ) → (moment : ℤ) → IsOwn k db p → s' ≡ stored p bytes moment s → StoreAfter k db s s'
   Gone : (p : ObjectPath) → IsOwn k db p → s' ≡ removed p s → StoreAfter k db s s'
   WroteElse : (p : ObjectPath) → (bytes : List ℕ) → (moment : ℤ) → IsNobodys p → s' ≡ stored p bytes moment s → StoreAfter k db s s'
+  GoneElse : (p : ObjectPath) → IsNobodys p → s' ≡ removed p s → StoreAfter k db s s'
 
 put_after : (k : LogKind) (db : List ℕ) (p : ObjectPath) (bytes : List ℕ) (moment : ℤ) (s : Store) → IsOwn k db p → (o : Option StoredObject) (mark : Mark) → StoreAfter k db s (under mark (put_new o p bytes moment s) s).store
 put_after k db p bytes moment s own (Some object) Good = Same refl
@@ -86,22 +95,52 @@ delete_after k db s p own Good = Gone p own refl
 delete_after k db s p own Fail = Same refl
 delete_after k db s p own Lost = Gone p own refl
 
+-- the delete of an object that no log has
+delete_else : (k : LogKind) (db : List ℕ) (s : Store) (p : ObjectPath) → IsNobodys p → (mark : Mark) → StoreAfter k db s (under mark (record { store = removed p s; answer = Deleted }) s).store
+delete_else k db s p other Good = GoneElse p other refl
+delete_else k db s p other Fail = Same refl
+delete_else k db s p other Lost = GoneElse p other refl
+
 -- where a log lies
 pub its_kind : (k : LogKind) → (log_of k).kind ≡ k
 its_kind logs.Manifest = refl
 its_kind logs.Compactions = refl
 
-pass_after : (pass : GcMessage) (s : Store) (c : Chain (pass_log pass)) (db : List ℕ) (mark : Mark) (moment : ℤ) → top c < 2 ^ 64 → (phase : PassPhase) → PassKnows (log_of (pass_log pass)) db s c phase
-    → StoreAfter (pass_log pass) db s (effect mark (pass_asks db pass phase) moment s).store
-pass_after pass s c db mark moment small (passing.Listing heads versions) h = got_after (pass_log pass) db s mark _
-pass_after pass s c db mark moment small (passing.Getting n listed found) h = got_after (pass_log pass) db s mark _
-pass_after pass s c db mark moment small (passing.Bounding n listed candidates) h = got_after (pass_log pass) db s mark _
-pass_after pass s c db mark moment small (passing.Advancing phase left counts) h = advance_after (pass_log pass) db s mark moment phase
-pass_after pass s c db mark moment small (passing.Deleting [] counts) h = got_after (pass_log pass) db s mark _
-pass_after pass s c db mark moment small (passing.Deleting (m ∷ left) counts) h =
+-- a pass over a log
+log_after : (k : LogKind) (pass : GcMessage) → pass_log pass ≡ k → (s : Store) (c : Chain k) (db : List ℕ) (mark : Mark) (moment : ℤ) → top c < 2 ^ 64 → (phase : PassPhase) → PassKnows (log_of k) db s c phase
+    → StoreAfter k db s (effect mark (pass_asks db pass phase) moment s).store
+log_after k pass own s c db mark moment small (passing.Listing heads versions) h = got_after k db s mark _
+log_after k pass own s c db mark moment small (passing.Getting n listed found) h = got_after k db s mark _
+log_after k pass own s c db mark moment small (passing.Bounding n listed candidates) h = got_after k db s mark _
+log_after k pass own s c db mark moment small (passing.Advancing phase left counts) h =
+    subst (λ j. StoreAfter k db s (effect mark (advance_asks db j phase) moment s).store) (sym own) (advance_after k db s mark moment phase)
+log_after k pass own s c db mark moment small (passing.Deleting [] counts) h = got_after k db s mark _
+log_after k pass own s c db mark moment small (passing.Deleting (m ∷ left) counts) h =
     let lt = h.0.has.1.below in
-    delete_after (pass_log pass) db s m.location (OwnVersion h.0.number (omega arith) (h.0.is ∙ ap (λ j. version_path j db h.0.number) (its_kind (pass_log pass)))) mark
-pass_after pass s c db mark moment small _ h = absurd h
+    delete_after k db s m.location (OwnVersion h.0.number (omega arith) (h.0.is ∙ ap (λ j. version_path j db h.0.number) (its_kind k))) mark
+log_after k pass own s c db mark moment small _ h = absurd h
+
+-- a pass over no log
+sweep_after : (pass : GcMessage) (s : Store) (c : Chain logs.Manifest) (db : List ℕ) (mark : Mark) (moment : ℤ) (phase : PassPhase) → SweepKnows c phase → StoreAfter logs.Manifest db s (effect mark (pass_asks db pass phase) moment s).store
+sweep_after pass s c db mark moment (passing.Listing heads versions) h = got_after logs.Manifest db s mark _
+sweep_after pass s c db mark moment (passing.Deleting [] counts) h = got_after logs.Manifest db s mark _
+sweep_after pass s c db mark moment (passing.Deleting (m ∷ left) counts) h = delete_else logs.Manifest db s m.location h.0 mark
+sweep_after pass s c db mark moment _ h = absurd h
+
+pass_after : (pass : GcMessage) (s : Store) (chains : Chains) (db : List ℕ) (mark : Mark) (moment : ℤ) → top (chains (pass_log pass) db) < 2 ^ 64 → (phase : PassPhase) → CollectKnows s chains db pass phase
+    → StoreAfter (pass_log pass) db s (effect mark (pass_asks db pass phase) moment s).store
+pass_after of.Manifest s chains db mark moment small phase h = log_after logs.Manifest of.Manifest refl s (chains logs.Manifest db) db mark moment small phase h
+pass_after of.Compactions s chains db mark moment small phase h = log_after logs.Compactions of.Compactions refl s (chains logs.Compactions db) db mark moment small phase h
+pass_after of.Compacted s chains db mark moment small phase h = sweep_after of.Compacted s (chains logs.Manifest db) db mark moment phase h
+pass_after of.Wal s chains db mark moment small phase h = sweep_after of.Wal s (chains logs.Manifest db) db mark moment phase h
+pass_after of.WalFence s chains db mark moment small phase h = sweep_after of.WalFence s (chains logs.Manifest db) db mark moment phase h
+pass_after of.Detach s chains db mark moment small phase h = absurd h
+
+-- the reading of the versions that a manifest names
+fetch_after : (c : Chain logs.Manifest) (db : List ℕ) (s : Store) (n : ℕ) (mark : Mark) (moment : ℤ) (phase : ReferencedPhase) → FetchKnows c n phase → StoreAfter logs.Manifest db s (effect mark (referenced_asks db phase) moment s).store
+fetch_after c db s n mark moment (fetching.Getting [] found) h = got_after logs.Manifest db s mark _
+fetch_after c db s n mark moment (fetching.Getting (k ∷ left) found) h = got_after logs.Manifest db s mark _
+fetch_after c db s n mark moment fetching.Over h = absurd h
 
 read_after : (k : LogKind) (db : List ℕ) (s : Store) (chains : Chains) (n : ℕ) (mark : Mark) (moment : ℤ) (phase : ReadPhase (Held k)) → PhraseKnows s chains n (Reads k db phase)
     → StoreAfter k db s (effect mark (phrase_asks (Reads k db phase)) moment s).store
@@ -128,14 +167,15 @@ store_after s chains n mark moment (Reads k db phase) named i h = read_after k d
 store_after s chains n mark moment (Commits k db puts now phase) named i h = commit_after k db s chains n mark moment puts now phase h
 store_after s chains n mark moment (Uploads db table bytes) named i h =
     else_after logs.Manifest db (paths.Table db table) bytes moment s (table_nobodys db table named h) (taken mark (Put (paths.Table db table) bytes) s)
-store_after s chains n mark moment (Collects db pass phase) named i h =
-    pass_after pass s (chains (pass_log pass) db) db mark moment i.small phase h.1
+store_after s chains n mark moment (Fetches db m phase) named i h = fetch_after (chains logs.Manifest db) db s m mark moment phase h
+store_after s chains n mark moment (Collects db pass phase) named i h = pass_after pass s chains db mark moment i.small phase h
 
 pub tidy_after : (k : LogKind) (db : List ℕ) (s s' : Store) → is_db_path db ≡ true → StoreAfter k db s s' → IsTidy s.objects → IsTidy s'.objects
 tidy_after k db s s' named (Same e) h = subst (λ (t : Store). IsTidy t.objects) (sym e) h
 tidy_after k db s s' named (Wrote p bytes moment own e) h = subst (λ (t : Store). IsTidy t.objects) (sym e) (tidy_put p (put_object s bytes moment) (own_fine k db p named own) s.objects h)
 tidy_after k db s s' named (WroteElse p bytes moment other e) h = subst (λ (t : Store). IsTidy t.objects) (sym e) (tidy_put p (put_object s bytes moment) other.fine s.objects h)
 tidy_after k db s s' named (Gone p own e) h = subst (λ (t : Store). IsTidy t.objects) (sym e) (tidy_left p s.objects h)
+tidy_after k db s s' named (GoneElse p other e) h = subst (λ (t : Store). IsTidy t.objects) (sym e) (tidy_left p s.objects h)
 
 -- ---- ---- the tallies after a step
 
@@ -249,24 +289,39 @@ module _ (s : Store) (chains : Chains) (tallies : Tallies) (told : (k : LogKind)
   advance_tallies k db (advancing.Replacing n tag) b = refl
   advance_tallies k db advancing.Over b = refl
 
-  pass_tallies : (db : List ℕ) (pass : GcMessage) (phase : PassPhase) (b : Bool) → PassKnows (log_of (pass_log pass)) db s (chains (pass_log pass) db) phase → tallied (pass_asks db pass phase) b tallies ≡ tallies
-  pass_tallies db pass (passing.Listing heads versions) b h = refl
-  pass_tallies db pass (passing.Getting n listed found) b h = refl
-  pass_tallies db pass (passing.Bounding n listed candidates) b h = refl
-  pass_tallies db pass (passing.Advancing phase left counts) b h = advance_tallies (log_or_manifests (log_of_pass pass)) db phase b
-  pass_tallies db pass (passing.Deleting [] counts) b h = refl
-  pass_tallies db pass (passing.Deleting (m ∷ left) counts) b h = refl
-  pass_tallies db pass _ b h = absurd h
+  read_tallies : {V : Type 0} (db : List ℕ) (k : LogKind) (phase : ReadPhase V) (b : Bool) → tallied (read_asks db k phase) b tallies ≡ tallies
+  read_tallies db k reading.Listing b = refl
+  read_tallies db k (reading.Getting n) b = refl
+  read_tallies db k (reading.Bounding n v) b = refl
+  read_tallies db k reading.Over b = refl
+
+  fetch_tallies : (db : List ℕ) (phase : ReferencedPhase) (b : Bool) → tallied (referenced_asks db phase) b tallies ≡ tallies
+  fetch_tallies db (fetching.Getting [] found) b = refl
+  fetch_tallies db (fetching.Getting (n ∷ left) found) b = refl
+  fetch_tallies db fetching.Over b = refl
+
+  pass_tallies : (db : List ℕ) (pass : GcMessage) (phase : PassPhase) (b : Bool) → tallied (pass_asks db pass phase) b tallies ≡ tallies
+  pass_tallies db pass (passing.ReadingRecord phase) b = read_tallies db logs.Compactions phase b
+  pass_tallies db pass (passing.ReadingManifest least phase) b = read_tallies db logs.Manifest phase b
+  pass_tallies db pass (passing.Fetching heads phase) b = fetch_tallies db phase b
+  pass_tallies db pass (passing.Listing heads versions) b = refl
+  pass_tallies db pass (passing.Getting n listed found) b = refl
+  pass_tallies db pass (passing.Bounding n listed candidates) b = refl
+  pass_tallies db pass (passing.Advancing phase left counts) b = advance_tallies (log_or_manifests (log_of_pass pass)) db phase b
+  pass_tallies db pass (passing.Deleting [] counts) b = refl
+  pass_tallies db pass (passing.Deleting (m ∷ left) counts) b = refl
+  pass_tallies db pass passing.Over b = refl
+
+  -- a call that changes no tally
+  quiet_tallies : (asked : StoreCall) (b : Bool) → tallied asked b tallies ≡ tallies → TalliesAfter tallies (tallied asked b tallies) (chains_put b None chains)
+  quiet_tallies asked b same = subst (λ (ts : Tallies). TalliesAfter tallies ts (chains_put b None chains)) (sym same) (tallies_same tallies chains (chains_put b None chains) told (none_put b chains))
 
   pub tallies_after : (n : ℕ) (phrase : Phrase) (b : Bool) → IsSound (log_of (log_in phrase)) (db_in phrase) s (chains (log_in phrase) (db_in phrase)) → PhraseKnows s chains n phrase
       → TalliesAfter tallies (tallied (phrase_asks phrase) b tallies) (chains_put b (put_by n phrase) chains)
-  tallies_after n (Reads k db reading.Listing) b i h = tallies_same tallies chains _ told (none_put b chains)
-  tallies_after n (Reads k db (reading.Getting m)) b i h = tallies_same tallies chains _ told (none_put b chains)
-  tallies_after n (Reads k db (reading.Bounding m v)) b i h = tallies_same tallies chains _ told (none_put b chains)
-  tallies_after n (Reads k db reading.Over) b i h = absurd h
+  tallies_after n (Reads k db phase) b i h = quiet_tallies (read_asks db (log_of k).kind phase) b (read_tallies db (log_of k).kind phase b)
   tallies_after n (Commits k db puts now (committing.Putting m bytes v)) b i h = puts_tallies k db i (author_of n puts now) m bytes v h b
   tallies_after n (Commits k db puts now (committing.Bounding m v)) b i h = tallies_same tallies chains _ told (none_put b chains)
   tallies_after n (Commits k db puts now committing.Over) b i h = absurd h
   tallies_after n (Uploads db table bytes) b i h = tallies_same tallies chains _ told (none_put b chains)
-  tallies_after n (Collects db pass phase) b i h =
-      subst (λ (ts : Tallies). TalliesAfter tallies ts (chains_put b None chains)) (sym (pass_tallies db pass phase b h.1)) (tallies_same tallies chains (chains_put b None chains) told (none_put b chains))
+  tallies_after n (Fetches db m phase) b i h = quiet_tallies (referenced_asks db phase) b (fetch_tallies db phase b)
+  tallies_after n (Collects db pass phase) b i h = quiet_tallies (pass_asks db pass phase) b (pass_tallies db pass phase b)

@@ -31,7 +31,7 @@ use Rattle.slate_state_referenced.specs.declared.referenced_phase.ReferencedPhas
 use Rattle.slate_state_referenced.specs.declared.referenced_phase.ReferencedPhase.TheVariants as fetching
 use Rattle.slate_cluster_protocol.specs.ByRows.{AllTold, all_told_after, entry_store, trail_by}
 use Rattle.slate_cluster_protocol.specs.Chains.{Link, link_at, if_new, with_link}
-use Rattle.slate_cluster_protocol.specs.Logs.{Author, Chains, Held, Phrase, Reads, Commits, Uploads, Collects, log_of, phrase_of, put_in, put_by, chain_with, chains_put, chains_state, chains_at, chains_after, chains_of}
+use Rattle.slate_cluster_protocol.specs.Logs.{Author, Chains, Held, Phrase, Reads, Commits, Uploads, Fetches, Collects, log_of, phrase_of, put_in, put_by, chain_with, chains_put, chains_state, chains_at, chains_after, chains_of}
 use Rattle.slate_cluster_protocol.specs.Runs.{Course, Ran, going_on, run}
 use Rattle.slate_cluster_protocol.specs.Trails.{Firsts, has_number, first_put, same_log, call_told, entry_told, store_of, told, number_and_bytes}
 use Rattle.slate_cluster_protocol.specs.Works.{asks}
@@ -127,6 +127,7 @@ module _ (firsts : Firsts) (chains : Chains) (h : Tells firsts chains) where
   phrase_told n (Commits logs.Manifest db puts now phase) true = commit_told logs.Manifest db (author_of n puts now) phase
   phrase_told n (Commits logs.Compactions db puts now phase) true = commit_told logs.Compactions db (author_of n puts now) phase
   phrase_told n (Uploads db table bytes) true = h
+  phrase_told n (Fetches db m phase) true = fetch_told db phase
   phrase_told n (Collects db pass phase) true = pass_told db pass phase
 
   work_told : (n : ℕ) (at : Work) (b : Bool) → Tells (call_told b (asks at) firsts) (chains_put b (put_by n (phrase_of at)) chains)

@@ -24,6 +24,7 @@ use Rattle.slate_txn_log.specs.declared.advance_phase.AdvancePhase.TheVariants a
 use Rattle.slate_txn_log.specs.declared.commit_phase.CommitPhase.{CommitPhase}
 use Rattle.slate_txn_log.specs.declared.commit_phase.CommitPhase.TheVariants as committing
 use Rattle.slate_txn_log.specs.declared.log_kind.LogKind.{LogKind}
+use Rattle.slate_txn_log.specs.declared.log_kind.LogKind.TheVariants as logs
 use Rattle.slate_txn_log.specs.declared.read_phase.ReadPhase.{ReadPhase}
 use Rattle.slate_txn_log.specs.declared.read_phase.ReadPhase.TheVariants as reading
 use Rattle.slate_ids.specs.declared.gc_message.GcMessage.{GcMessage}
@@ -31,9 +32,11 @@ use Rattle.slate_gc_passes.specs.Pass.{pass_asks}
 use Rattle.slate_gc_passes.specs.Rows.{log_of_pass, log_or_manifests}
 use Rattle.slate_gc_passes.specs.declared.pass_phase.PassPhase.{PassPhase}
 use Rattle.slate_gc_passes.specs.declared.pass_phase.PassPhase.TheVariants as passing
+use Rattle.slate_state_referenced.specs.Referenced.{referenced_asks}
+use Rattle.slate_state_referenced.specs.declared.referenced_phase.ReferencedPhase.{ReferencedPhase}
+use Rattle.slate_state_referenced.specs.declared.referenced_phase.ReferencedPhase.TheVariants as fetching
 use Rattle.slate_cluster_protocol.specs.Chains.{Link, Log}
-use Rattle.slate_cluster_protocol.specs.Holding.{pass_log}
-use Rattle.slate_cluster_protocol.specs.Logs.{Chains, Author, Held, Phrase, Reads, Commits, Uploads, Collects, log_of, phrase_of}
+use Rattle.slate_cluster_protocol.specs.Logs.{Chains, Author, Held, Phrase, Reads, Commits, Uploads, Fetches, Collects, log_of, phrase_of}
 use Rattle.slate_cluster_protocol.specs.Owners.{owner_of}
 use Rattle.slate_cluster_protocol.specs.Owners.Owner.{Version, Boundary, Table}
 use Rattle.slate_cluster_protocol.specs.Works.{asks, db_of}
@@ -43,7 +46,6 @@ use Rattle.slate_cluster_chain_laws.proofs.LogRules.{IsMade}
 use Rattle.slate_cluster_laws.proofs.Facts.{CommitKnows}
 use Rattle.slate_cluster_chain_laws.proofs.LogRules.IsMade.{OfVersion, OfNone}
 use Rattle.slate_cluster_laws.proofs.Paths.{version_fine, boundary_fine, version_owner, boundary_owner, table_nobodys}
-use Rattle.slate_cluster_laws.proofs.Passes.{PassKnows}
 use Rattle.slate_cluster_laws.proofs.Steps.{PhraseKnows, author_of, db_in, phrase_asks, work_asks, work_db}
 use Rattle.slate_store.proofs.LookUps.{at_else}
 
@@ -147,20 +149,26 @@ module _ (k : LogKind) (d : List ℕ) (named : is_db_path d ≡ true) where
   advance_else db j (advancing.Replacing n tag) own = boundary_else j db own
   advance_else db j advancing.Over own = tt
 
-  collect_else : (s : Store) (chains : Chains) (db : List ℕ) (pass : GcMessage) (phase : PassPhase) → is_db_path db ≡ true → PassKnows (log_of (pass_log pass)) db s (chains (pass_log pass) db) phase → WritesElse zero_path (pass_asks db pass phase)
-  collect_else s chains db pass (passing.ReadingRecord phase) own h = absurd h
-  collect_else s chains db pass (passing.ReadingManifest least phase) own h = absurd h
-  collect_else s chains db pass (passing.Fetching heads phase) own h = absurd h
-  collect_else s chains db pass (passing.Advancing phase left counts) own h = advance_else db (log_or_manifests (log_of_pass pass)) phase own
-  collect_else s chains db pass (passing.Deleting [] counts) own h = tt
-  collect_else s chains db pass (passing.Deleting (m ∷ left) counts) own h = tt
-  collect_else s chains db pass _ own h = tt
+  fetch_else : (db : List ℕ) (phase : ReferencedPhase) → WritesElse zero_path (referenced_asks db phase)
+  fetch_else db (fetching.Getting [] found) = tt
+  fetch_else db (fetching.Getting (n ∷ left) found) = tt
+  fetch_else db fetching.Over = tt
+
+  collect_else : (db : List ℕ) (pass : GcMessage) (phase : PassPhase) → is_db_path db ≡ true → WritesElse zero_path (pass_asks db pass phase)
+  collect_else db pass (passing.ReadingRecord phase) own = read_else db logs.Compactions phase
+  collect_else db pass (passing.ReadingManifest least phase) own = read_else db logs.Manifest phase
+  collect_else db pass (passing.Fetching heads phase) own = fetch_else db phase
+  collect_else db pass (passing.Advancing phase left counts) own = advance_else db (log_or_manifests (log_of_pass pass)) phase own
+  collect_else db pass (passing.Deleting [] counts) own = tt
+  collect_else db pass (passing.Deleting (m ∷ left) counts) own = tt
+  collect_else db pass _ own = tt
 
   phrase_else : (s : Store) (chains : Chains) (n : ℕ) (phrase : Phrase) → is_db_path (db_in phrase) ≡ true → PhraseKnows s chains n phrase → WritesElse zero_path (phrase_asks phrase)
   phrase_else s chains n (Reads k db phase) own h = read_else db (log_of k).kind phase
   phrase_else s chains n (Commits k db puts now phase) own h = commit_else s chains db k (author_of n puts now) phase own h
   phrase_else s chains n (Uploads db table bytes) own h = table_else db table own h
-  phrase_else s chains n (Collects db pass phase) own h = collect_else s chains db pass phase own h.1
+  phrase_else s chains n (Fetches db m phase) own h = fetch_else db phase
+  phrase_else s chains n (Collects db pass phase) own h = collect_else db pass phase own
 
   work_else : (s : Store) (chains : Chains) (n : ℕ) (work : Work) → is_db_path (db_of work) ≡ true → PhraseKnows s chains n (phrase_of work) → WritesElse zero_path (asks work)
   work_else s chains n work own h =

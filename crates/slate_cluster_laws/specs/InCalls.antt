@@ -1,5 +1,5 @@
 -- What holds of a party in a call at the end of a run.
-use Rattle.std.specs.Prelude.{◌≡◌, ◌⊎◌, ℕ, ℤ, ◌<◌, ◌≤◌, List, ◌∷◌, ◌++◌, Some, Ok}
+use Rattle.std.specs.Prelude.{◌≡◌, ◌⊎◌, ℕ, ℤ, ◌<◌, ◌≤◌, List, [], ◌∷◌, ◌++◌, Some, None, Ok}
 use Rattle.slate_ids.specs.declared.gc_message.GcMessage.{GcMessage}
 use Rattle.slate_ids.specs.declared.object_path.ObjectPath.{ObjectPath}
 use Rattle.slate_store.specs.Machines.{End}
@@ -13,15 +13,22 @@ use Rattle.slate_txn_log.specs.declared.commit_phase.CommitPhase.{CommitPhase}
 use Rattle.slate_txn_log.specs.declared.commit_phase.CommitPhase.TheVariants.{Putting, Bounding}
 use Rattle.slate_txn_log.specs.declared.log_kind.LogKind.{LogKind}
 use Rattle.slate_txn_log.specs.declared.read_phase.ReadPhase.{ReadPhase}
+use Rattle.slate_txn_log.specs.declared.log_kind.LogKind.TheVariants as logs
+use Rattle.slate_gc_passes.specs.Rows.{log_of_pass}
+use Rattle.slate_gc_passes.specs.declared.heads.Heads.{Heads}
 use Rattle.slate_gc_passes.specs.declared.pass_phase.PassPhase.{PassPhase}
+use Rattle.slate_gc_passes.specs.declared.pass_phase.PassPhase.TheVariants as passing
+use Rattle.slate_model.specs.declared.manifest.Manifest.{Manifest}
+use Rattle.slate_state_referenced.specs.declared.referenced_phase.ReferencedPhase.TheVariants as fetching
 use Rattle.slate_script_events.specs.declared.db_spec.DbSpec.{DbSpec}
 use Rattle.slate_script_events.specs.declared.event.Event.{Event}
 use Rattle.slate_cluster_protocol.specs.Chains.{bound_in}
 use Rattle.slate_cluster_protocol.specs.Holding.{IsIn, IsPutBy, IsVersion, IsMadeOf, Each, IsRefused, picks_in, due_in, IsVersionThat, pass_log}
 use Rattle.slate_cluster_protocol.specs.Lawful.{chains_at_end, gone_after, world_at_end}
 use Rattle.slate_cluster_protocol.specs.Logs.{Held, Puts, log_of, phrase_of}
-use Rattle.slate_cluster_protocol.specs.Logs.Phrase.{Reads, Commits, Collects}
+use Rattle.slate_cluster_protocol.specs.Logs.Phrase.{Reads, Commits, Fetches, Collects}
 use Rattle.slate_cluster_protocol.specs.Reach.{IsSpare}
+use Rattle.slate_cluster_protocol.specs.Referenced.{IsReferenced}
 use Rattle.slate_cluster_protocol.specs.Rows.{moved}
 use Rattle.slate_cluster_protocol.specs.Works.{asks}
 use Rattle.slate_cluster_protocol.specs.World.{party_of}
@@ -85,6 +92,19 @@ abbrev pub DueBounded : List DbSpec → List Event → Task → Type 0
 DueBounded specs events task =
     (db : List ℕ) (pass : GcMessage) (phase : PassPhase) (bound : ℕ) → phrase_of task.work ≡ Collects db pass phase
     → bound_in (log_of (pass_log pass)) db (world_at_end specs events).store ≡ Some bound → Each (IsVersionThat (pass_log pass) db (λ number. number ≤ bound)) (due_in phase)
+
+-- what a pass has read of the versions that the checkpoints of a manifest name, while some are left to be got
+abbrev pub FetchedStand : List DbSpec → List Event → Task → Type 0
+FetchedStand specs events task =
+    (db : List ℕ) (n : ℕ) (left : List ℕ) (found : List (ℕ × Manifest)) → phrase_of task.work ≡ Fetches db n (fetching.Getting left found)
+    → IsReferenced (chains_at_end specs events logs.Manifest db) n left found
+
+-- and once all of them were got, when a pass over no log lists
+abbrev pub AllStand : List DbSpec → List Event → Task → Type 0
+AllStand specs events task =
+    (db : List ℕ) (pass : GcMessage) (heads : Heads) (versions : List (ℕ × Manifest)) → log_of_pass pass ≡ None
+    → phrase_of task.work ≡ Collects db pass (passing.Listing heads versions)
+    → IsReferenced (chains_at_end specs events logs.Manifest db) heads.latest [] versions
 
 -- where the object of a number was removed, the step that reads the boundary to commit this number ends the call with a refusal, whatever the mark
 abbrev pub LatePutsAreRefused : List DbSpec → List Event → Party → Task → Type 0

@@ -15,5 +15,5 @@ pub use openings::opening_stands;
 pub use parties_known::known_as_told;
 pub use safe_parties::{
     above_boundary, changes_fit, commits_hold, due_bounded, epochs_stand, late_put_is_refused,
-    own_calls, own_commits, picks_spare, puts_stand, reads_answer,
+    own_calls, own_commits, picks_spare, puts_stand, reads_answer, referenced_stand,
 };

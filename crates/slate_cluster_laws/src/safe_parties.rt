@@ -12,7 +12,7 @@ ghost use Rattle.slate_cluster_protocol.specs.World.{HasDb, party_of};
 ghost use Rattle.slate_cluster_protocol.specs.declared.party.Party.{Party};
 ghost use Rattle.slate_cluster_protocol.specs.declared.party.State.TheVariants.{Busy};
 ghost use Rattle.slate_cluster_protocol.specs.declared.party.Task.{Task};
-ghost use Rattle.slate_cluster_laws.specs.InCalls.{CommitsEnd, CommitsHold, CreatedGoOn, DueBounded, InCall, LatePutsAreRefused, OwnOrRefused, PicksSpare, PutsStand, ReadsAnswer};
+ghost use Rattle.slate_cluster_laws.specs.InCalls.{AllStand, CommitsEnd, CommitsHold, CreatedGoOn, DueBounded, FetchedStand, InCall, LatePutsAreRefused, OwnOrRefused, PicksSpare, PutsStand, ReadsAnswer};
 ghost use Rattle.slate_cluster_laws.specs.LogsAtEnd.{bound_at_end, AgreesAtEnd};
 ghost use Rattle.slate_cluster_laws.specs.OwnCalls.{OwnCalls};
 
@@ -82,6 +82,16 @@ pub fn picks_spare()
 pub fn due_bounded()
     ensures { (specs : List DbSpec) (events : List Event) (n : ℕ) (p : Party) (task : Task)
         → IsAccepted specs → InCall specs events n p task (DueBounded specs events task) }
+{}
+
+/// What a pass has read of the versions that the latest manifest's checkpoints name: the manifest itself is the committed version of its number,
+/// each number that it names was got or is left to be got, and each version that was got and is still needed is the committed one; so it is
+/// while some are left, and when a pass over no log lists.
+pub fn referenced_stand()
+    ensures fetched { (specs : List DbSpec) (events : List Event) (n : ℕ) (p : Party) (task : Task)
+        → IsAccepted specs → InCall specs events n p task (FetchedStand specs events task) }
+    ensures listing { (specs : List DbSpec) (events : List Event) (n : ℕ) (p : Party) (task : Task)
+        → IsAccepted specs → InCall specs events n p task (AllStand specs events task) }
 {}
 
 /// Where the object of a number was removed, the step of a party that reads the boundary to commit this number ends its call with a

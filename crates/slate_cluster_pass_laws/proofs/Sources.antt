@@ -35,7 +35,7 @@ some_number [] h k = absurd k
 some_number (l ∷ []) h k = by_first h
   where
     by_first : IsFirst manifests l → 0 < l.number
-    by_first (Opens number by bytes) = omega arith
+    by_first (Opens number by bytes own) = omega arith
     by_first (Begins author made number by makes encodes value) = omega arith
 some_number (l ∷ old ∷ c) h k = let number = h.0.number in omega arith
 

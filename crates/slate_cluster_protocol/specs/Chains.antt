@@ -1,5 +1,5 @@
 -- The chain of a log: what was committed, and what each version owes to the one before it.
-use Rattle.std.specs.Prelude.{◌≡◌, ℕ, ◌+◌, ◌==◌, Bool, List, [], ◌∷◌, Option, Some, None, Result, Ok, if◌then◌else◌}
+use Rattle.std.specs.Prelude.{◌≡◌, ℕ, ◌+◌, ◌==◌, Bool, true, List, [], ◌∷◌, Option, Some, None, Result, Ok, if◌then◌else◌}
 use Rattle.slate_ids.specs.declared.error.SlateDBError.{SlateDBError}
 use Rattle.slate_store.specs.Store.{Store, object_at}
 use Rattle.slate_store.specs.declared.object.StoredObject.{StoredObject}
@@ -61,9 +61,11 @@ pub record Follows {V A : Type 0} (log : Log V A) (old new : Link V A) : Type 0 
   pub lawful : log.refusal old.number old.value new.value (log.right author) ≡ None
   pub passed : log.fence author old.value ≡ None
 
--- the first version: it was there, with the value that is read of its bytes; or an author made it where there was none
+-- the first version: it was there, with the value that is read of its bytes, which names no number but its own; or an author made it where there
+-- was none
 pub data IsFirst {V A : Type 0} (log : Log V A) (first : Link V A) : Type 0 where
-  Opens : first.number ≡ 1 → first.by ≡ None → log.decoded first.bytes ≡ Ok first.value → IsFirst log first
+  Opens : first.number ≡ 1 → first.by ≡ None → log.decoded first.bytes ≡ Ok first.value
+      → ((n : ℕ) → log.names first.value n ≡ true → n ≡ 1) → IsFirst log first
   Begins : (author : A) (made : V) → first.number ≡ 1 → first.by ≡ Some author → log.first author ≡ Ok (Some made)
       → log.encoded made ≡ Ok first.bytes → first.value ≡ log.normal made → IsFirst log first
 

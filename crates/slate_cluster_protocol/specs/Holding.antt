@@ -1,5 +1,5 @@
 -- What a party holds while it is in a call.
-use Rattle.std.specs.Prelude.{◌≡◌, ℕ, ◌+◌, ◌≤◌, List, [], ◌∷◌, true, false, Option, Some, None, Ok}
+use Rattle.std.specs.Prelude.{◌≡◌, ℕ, ◌+◌, ◌≤◌, List, [], ◌∷◌, Bool, true, false, Option, Some, None, Ok}
 use Rattle.slate_state_calls.specs.Commits.{merge_of, statuses_of}
 use Rattle.slate_state_calls.specs.declared.compactor.Compactor.{Compactor}
 use Rattle.slate_state_calls.specs.declared.open_phase.OpenPhase.{OpenPhase}
@@ -21,6 +21,7 @@ use Rattle.slate_txn_log.specs.LogPaths.{version_path}
 use Rattle.slate_txn_log.specs.declared.log_kind.LogKind.{LogKind}
 use Rattle.slate_txn_log.specs.declared.log_kind.LogKind.TheVariants as logs
 use Rattle.slate_ids.specs.declared.gc_message.GcMessage.{GcMessage}
+use Rattle.slate_ids.specs.declared.gc_message.GcMessage.TheVariants as of
 use Rattle.slate_gc_passes.specs.Rows.{log_of_pass, log_or_manifests}
 use Rattle.slate_gc_passes.specs.declared.pass_phase.PassPhase.{PassPhase}
 use Rattle.slate_gc_passes.specs.declared.pass_phase.PassPhase.TheVariants as passing
@@ -85,6 +86,11 @@ pass_log pass = log_or_manifests (log_of_pass pass)
 -- a pass deletes versions of a log
 abbrev pub IsOfLog : GcMessage → Type 0
 IsOfLog pass = log_of_pass pass ≡ Some (pass_log pass)
+
+-- whether a collector of a cluster may make a pass: any but the detaching one
+abbrev pub collects_here : GcMessage → Bool
+collects_here of.Detach = false
+collects_here _ = true
 
 -- an object is the version of a log of a database at a number that has it
 pub record IsVersionThat (k : LogKind) (db : List ℕ) (P : ℕ → Type 0) (m : ObjectMetadata) : Type 0 where

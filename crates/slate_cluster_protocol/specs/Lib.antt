@@ -19,6 +19,7 @@ pub mod Alone
 pub mod Reach
 pub mod Safe
 pub mod Holding
+pub mod Referenced
 pub mod Fenced
 pub mod Rising
 pub mod Lawful

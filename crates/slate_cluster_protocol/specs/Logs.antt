@@ -30,9 +30,11 @@ use Rattle.slate_state_calls.specs.declared.open_phase.OpenPhase.{OpenPhase}
 use Rattle.slate_state_calls.specs.declared.open_phase.OpenPhase.TheVariants as opening
 use Rattle.slate_state_calls.specs.declared.state_phase.StatePhase.{StatePhase}
 use Rattle.slate_state_calls.specs.declared.state_phase.StatePhase.TheVariants as compacting
+use Rattle.slate_state_referenced.specs.declared.referenced_phase.ReferencedPhase.{ReferencedPhase}
 use Rattle.slate_gc_passes.specs.declared.gc_phase.GcPhase.{GcPhase}
 use Rattle.slate_gc_passes.specs.declared.gc_phase.GcPhase.TheVariants.{Removing, Collecting}
 use Rattle.slate_gc_passes.specs.declared.pass_phase.PassPhase.{PassPhase}
+use Rattle.slate_gc_passes.specs.declared.pass_phase.PassPhase.TheVariants.{ReadingRecord, ReadingManifest, Fetching}
 use Rattle.slate_script_events.specs.declared.db_spec.DbSpec.{DbSpec}
 use Rattle.slate_script_events.specs.declared.event.Event.{Event}
 use Rattle.slate_script_events.specs.declared.event.Event.TheVariants.{Open, Start, Step, Stop}
@@ -148,7 +150,9 @@ pub data Phrase : Type 0 where
   Commits : (k : LogKind) → List ℕ → Puts → ℤ → CommitPhase (Held k) → Phrase
   -- the object of a table is put at a database
   Uploads : List ℕ → ℕ × ℕ → List ℕ → Phrase
-  -- a pass collects at a database
+  -- the versions that the checkpoints of a version of a database's manifests name are got
+  Fetches : List ℕ → ℕ → ReferencedPhase → Phrase
+  -- a pass lists at a database, and deletes
   Collects : List ℕ → GcMessage → PassPhase → Phrase
 
 -- of a change of a log, by what it puts
@@ -162,10 +166,17 @@ manifest_phrase db p = change_phrase logs.Manifest db (manifest_puts p.change) p
 abbrev pub record_phrase : List ℕ → RecordChanging → Phrase
 record_phrase db p = change_phrase logs.Compactions db (record_puts p.change) p.work
 
+-- of a pass once the expired checkpoints are removed, by its phase: what it reads before its list are reads as of any call
+abbrev pub collect_phrase : List ℕ → GcMessage → PassPhase → Phrase
+collect_phrase db pass (ReadingRecord phase) = Reads logs.Compactions db phase
+collect_phrase db pass (ReadingManifest least phase) = Reads logs.Manifest db phase
+collect_phrase db pass (Fetching heads phase) = Fetches db heads.latest phase
+collect_phrase db pass phase = Collects db pass phase
+
 -- of a pass
 abbrev pub pass_phrase : List ℕ → GcMessage → GcPhase → Phrase
 pass_phrase db pass (Removing work) = change_phrase logs.Manifest db (OfManifest DropExpired) work
-pass_phrase db pass (Collecting at phase) = Collects db pass phase
+pass_phrase db pass (Collecting at phase) = collect_phrase db pass phase
 
 -- of an open of a compactor, and of its calls on its state
 abbrev pub open_phrase : List ℕ → OpenPhase → Phrase
