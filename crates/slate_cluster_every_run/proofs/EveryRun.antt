@@ -39,7 +39,7 @@ below_some (suc n) most h some = h (omega arith)
 
 log_lawful : (w : World) (chains : Chains) → Inv w chains → (k : LogKind) (db : List ℕ) → HasDb w db → IsLawfulLog w k db (chains k db)
 log_lawful w chains i k db has =
-    let log = i.logs k db has in
+    let log = i.logs k db (i.named db has) in
     record {
       chain = log.chain;
       values = λ n l at. decodes (log_of k) (log_laws k) n l (chains k db) log.chain at;
@@ -62,6 +62,7 @@ module _ (keep : Keep) (specs : List DbSpec) (accepted : IsAccepted specs) (even
   lawful_at : LawfulAt specs events
   lawful_at =
       let h = good_run specs events good in
+      let i = course_inv specs events accepted good in
       let v = course_after specs events in
       let rows = rows_run events 0 (opening specs) v nobody (none_come specs) h in
       let tells = run_tells events 0 (opening specs) v nobody (numbers_of (opening_chains specs)) (opening_chains specs) (none_come specs) (λ k d. refl) h in
@@ -74,13 +75,13 @@ module _ (keep : Keep) (specs : List DbSpec) (accepted : IsAccepted specs) (even
         told = λ k db. ap (λ (xs : List Entry). told xs (opening_world specs).store (numbers_of (opening_chains specs)) k db) rows ∙ tells.told k db;
         deleted = removals_counted specs events good;
         safe = run_safe;
-        each_log = λ k db has. log_lawful v.world (chains_at_end specs events) (course_inv specs events accepted good) k db has;
+        each_log = λ k db has. log_lawful v.world (chains_at_end specs events) i k db has;
         begun = manifests_begun specs events accepted good;
-        fenced = λ db has. chain_fenced (chains_at_end specs events logs.Manifest db) ((course_inv specs events accepted good).logs logs.Manifest db has).chain;
-        records_fenced = λ db has. chain_record_fenced (chains_at_end specs events logs.Compactions db) ((course_inv specs events accepted good).logs logs.Compactions db has).chain;
-        records_rising = λ db has. records_never_fall keep (chains_at_end specs events logs.Compactions db) ((course_inv specs events accepted good).logs logs.Compactions db has).chain;
-        rising = λ db has. never_falls (chains_at_end specs events logs.Manifest db) ((course_inv specs events accepted good).logs logs.Manifest db has).chain;
-        names = λ db has. name_known (chains_at_end specs events logs.Manifest db) ((course_inv specs events accepted good).logs logs.Manifest db has).chain;
+        fenced = λ db has. chain_fenced (chains_at_end specs events logs.Manifest db) (i.logs logs.Manifest db (i.named db has)).chain;
+        records_fenced = λ db has. chain_record_fenced (chains_at_end specs events logs.Compactions db) (i.logs logs.Compactions db (i.named db has)).chain;
+        records_rising = λ db has. records_never_fall keep (chains_at_end specs events logs.Compactions db) (i.logs logs.Compactions db (i.named db has)).chain;
+        rising = λ db has. never_falls (chains_at_end specs events logs.Manifest db) (i.logs logs.Manifest db (i.named db has)).chain;
+        names = λ db has. name_known (chains_at_end specs events logs.Manifest db) (i.logs logs.Manifest db (i.named db has)).chain;
       }
 
 -- no boundary falls between two moments

@@ -1,21 +1,21 @@
 -- What is kept from event to event holds after any events on accepted databases.
-use Rattle.std.proofs.Common.{List, [], sym, subst}
-use Rattle.slate_script_events.specs.declared.entry.Entry.{Entry}
+use Rattle.std.proofs.Common.{List, sym, subst}
 use Rattle.slate_script_events.specs.declared.db_spec.DbSpec.{DbSpec}
 use Rattle.slate_script_events.specs.declared.event.Event.{Event}
 use Rattle.slate_cluster_protocol.specs.ByRows.{nobody}
 use Rattle.slate_cluster_protocol.specs.Lawful.{IsAccepted, AreGood, chains_at_end, course_after, gone_after}
-use Rattle.slate_cluster_protocol.specs.Logs.{world_after, opening_chains}
+use Rattle.slate_cluster_protocol.specs.Logs.{chains_after, world_after, opening_chains}
 use Rattle.slate_cluster_protocol.specs.Runs.{opening}
-use Rattle.slate_cluster_protocol.specs.Safe.{AllCollected, gone}
+use Rattle.slate_cluster_protocol.specs.Safe.{AllCollected, removed_by}
 use Rattle.slate_cluster_protocol.specs.Specs.{opening_world}
 use Rattle.slate_cluster_protocol.specs.World.{World}
+use Rattle.slate_cluster_laws.proofs.Along.{Moment, Kept, along_good}
 use Rattle.slate_cluster_laws.proofs.GoingOn.{run_world}
 use Rattle.slate_cluster_laws.proofs.Opening.{opening_inv}
 use Rattle.slate_cluster_laws.proofs.Removals.{good_run}
 use Rattle.slate_cluster_laws.proofs.Rows.{AllMatch}
 use Rattle.slate_cluster_laws.proofs.Runs.{Inv, run_inv}
-use Rattle.slate_cluster_laws.proofs.Safety.{run_gone}
+use Rattle.slate_cluster_laws.proofs.Safety.{all_gone, all_stay, event_after, event_gone}
 
 -- no party has come as a run begins
 pub none_come : (specs : List DbSpec) → AllMatch nobody (opening_world specs)
@@ -30,8 +30,20 @@ pub course_inv : (specs : List DbSpec) (events : List Event) → IsAccepted spec
 course_inv specs events accepted good =
     subst (λ (w : World). Inv w (chains_at_end specs events)) (sym (run_world events 0 (opening specs) (course_after specs events) (good_run specs events good))) (after_inv specs events accepted)
 
+-- each event keeps that what was removed was collected
+keeps_collected : Kept (λ m. AllCollected m.world m.chains m.removed) (λ m n p. Unit {0})
+keeps_collected = record {
+  whole = λ m e q m' d t h.
+      let chains = chains_after m.world e m.chains in
+      subst (λ (x : Moment). AllCollected x.world x.chains x.removed) (sym t.to)
+      (all_gone t.done.world chains m.removed (removed_by t.done.entry m.world.store) (all_stay m.world m.chains t.done.world chains (event_after m.world m.chains e t.done t.inv t.is) m.removed h.whole)
+      (event_gone m.world m.chains t.done.world chains (event_after m.world m.chains e t.done t.inv t.is) e t.done t.inv t.is));
+  own = λ m e q m' d t h w. tt;
+  others = λ m e q m' d t h w k ne p at o. tt;
+}
+
 -- and what they removed was collected
 pub course_collected : (specs : List DbSpec) (events : List Event) → IsAccepted specs → AreGood specs events → AllCollected (course_after specs events).world (chains_at_end specs events) (gone_after specs events)
 course_collected specs events accepted good =
-    let r = run_gone events 0 (opening specs) (course_after specs events) nobody (opening_chains specs) [] (none_come specs) (opening_inv specs accepted) tt (good_run specs events good) in
-    subst (λ (xs : List Entry). AllCollected (course_after specs events).world (chains_at_end specs events) (gone xs (opening_world specs).store)) (sym r.trail) r.all
+    subst (λ (w : World). AllCollected w (chains_at_end specs events) (gone_after specs events)) (sym (run_world events 0 (opening specs) (course_after specs events) (good_run specs events good)))
+    (along_good (λ m. AllCollected m.world m.chains m.removed) (λ m n p. Unit {0}) keeps_collected specs events accepted good tt).whole

@@ -94,7 +94,8 @@ pub above_bound : (specs : List DbSpec) (events : List Event) (k : LogKind) (db 
     → bound_in (log_of k) db (world_after events (opening_world specs)).store ≡ Some bound → bound < number → number < 2 ^ 64
     → AgreesAt (log_of k) db (world_after events (opening_world specs)).store (chains_at_end specs events k db) number
 above_bound specs events k db bound number accepted has read lt small =
-    let log = (after_inv specs events accepted).logs k db has in
+    let i = after_inv specs events accepted in
+    let log = i.logs k db (i.named db has) in
     let same : bound ≡ log.bound = cc (log.read, read) in
     log.above number (subst (λ b. b < number) same lt) small
 
@@ -386,7 +387,7 @@ module _ (specs : List DbSpec) (events : List Event) (n : ℕ) (p : Party) (task
 
   pub read_answers : (k : LogKind) (db : List ℕ) (phase : ReadPhase (Held k)) (mark : Mark) (moment : ℤ) (to : ReadPhase (Held k)) (number : ℕ) (v : Held k) → phrase_of task.work ≡ Reads k db phase
       → read_goes k (log_of k).decoded phase (effect mark (read_asks db k phase) moment w.store).answer ≡ End to (Ok (Some (number, v))) → IsVersion (chains k db) number v
-  read_answers k db phase mark moment to number v e answer = answers_of k db w.store (chains k db) (i.logs k db (has_db (Reads k db phase) e)) i.tidy phase mark moment (knows (Reads k db phase) e) to number v answer
+  read_answers k db phase mark moment to number v e answer = answers_of k db w.store (chains k db) (i.logs k db (i.named db (has_db (Reads k db phase) e))) i.tidy phase mark moment (knows (Reads k db phase) e) to number v answer
 
   -- what it has put is its own where the boundary is below the number
   pub put_stands : (k : LogKind) (db : List ℕ) (puts : Puts) (now : ℤ) (number : ℕ) (v : Held k) (bound : ℕ) → phrase_of task.work ≡ Commits k db puts now (Bounding number v)
@@ -397,7 +398,7 @@ module _ (specs : List DbSpec) (events : List Event) (n : ℕ) (p : Party) (task
   pub commit_ends : (k : LogKind) (db : List ℕ) (puts : Puts) (now : ℤ) (phase : CommitPhase (Held k)) (mark : Mark) (moment : ℤ) (to : CommitPhase (Held k)) (number : ℕ) (v : Held k) → phrase_of task.work ≡ Commits k db puts now phase
       → commit_goes phase (effect mark (commit_asks db k phase) moment w.store).answer ≡ End to (Ok (number, v)) → IsPutBy (log_of k) (chains k db) (record { party = n; puts = puts; now = now }) number v
   commit_ends k db puts now phase mark moment to number v e answer =
-      ends_of k db w.store (chains k db) (record { party = n; puts = puts; now = now }) (i.logs k db (has_db (Commits k db puts now phase) e)) phase mark moment (knows (Commits k db puts now phase) e) to number v answer
+      ends_of k db w.store (chains k db) (record { party = n; puts = puts; now = now }) (i.logs k db (i.named db (has_db (Commits k db puts now phase) e))) phase mark moment (knows (Commits k db puts now phase) e) to number v answer
 
   -- a put that was answered created leads to the read of the boundary
   pub created_goes_on : (k : LogKind) (db : List ℕ) (puts : Puts) (now : ℤ) (number : ℕ) (bytes : List ℕ) (v : Held k) (tag : ℕ) (moment : ℤ) → phrase_of task.work ≡ Commits k db puts now (Putting number bytes v)
@@ -409,7 +410,7 @@ module _ (specs : List DbSpec) (events : List Event) (n : ℕ) (p : Party) (task
       → IsRefused (moved p.facts task.call task.work moment (effect mark (asks task.work) moment w.store).answer).next ⊎ IsPutBy (log_of k) (chains k db) (record { party = n; puts = puts; now = now }) number v
   own_or_refused k db puts now number v mark moment e =
       let phrase = Commits k db puts now (Bounding number v) in
-      refused_or_own w.store moment mark p.facts task.call task.work k db puts now number v (chains k db) (record { party = n; puts = puts; now = now }) (i.logs k db (has_db phrase e)) (knows phrase e) e
+      refused_or_own w.store moment mark p.facts task.call task.work k db puts now number v (chains k db) (record { party = n; puts = puts; now = now }) (i.logs k db (i.named db (has_db phrase e))) (knows phrase e) e
 
   -- the step of a commit whose number was collected ends the call with a refusal
   pub late_refused : (k : LogKind) (db : List ℕ) (puts : Puts) (now : ℤ) (number : ℕ) (v : Held k) (front back : List ObjectPath) (mark : Mark) (moment : ℤ) → phrase_of task.work ≡ Commits k db puts now (Bounding number v)
@@ -424,6 +425,6 @@ module _ (specs : List DbSpec) (events : List Event) (n : ℕ) (p : Party) (task
           let same_log : h.log ≡ k = cc (same) in
           let same_db : h.db ≡ db = cc (same) in
           let same_number : h.number ≡ number = cc (same) in
-          let log = i.logs h.log h.db h.has in
+          let log = i.logs h.log h.db (i.named h.db h.has) in
           let read : boundary_at db k w.store ≡ Some log.bound = subst (λ d. boundary_at d k w.store ≡ Some log.bound) same_db (subst (λ j. boundary_at h.db j w.store ≡ Some log.bound) same_log (read_by w.store h.log h.db log.bound log.read)) in
           bound_fails db k number v w.store moment mark log.bound read (subst (λ j. j ≤ log.bound) same_number (h.bounded log.bound log.read))

@@ -18,11 +18,11 @@ pub mod Listed
 pub mod Passes
 pub mod Referenced
 pub mod Sweeps
-mod Steps
+pub mod Steps
 mod Changing
 mod Opens
 mod StateCalls
-mod Calls
+pub mod Calls
 mod Tallies
 pub mod Runs
 pub mod Trails
@@ -32,6 +32,7 @@ pub mod Ordered
 pub mod Removals
 mod Zeros
 pub mod Safety
+pub mod Along
 pub mod AfterEvents
 mod Holding
 mod OwnCalls

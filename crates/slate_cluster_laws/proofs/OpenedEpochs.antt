@@ -36,10 +36,10 @@ module _ {V : Type 0} (log : Log V Author) (epoch : V → ℕ) (rise : (n : ℕ)
 
 module _ (w : World) (chains : Chains) (i : Inv w chains) (n : ℕ) (p : Party) (at : party_of n w.parties ≡ Some p) where
   raised_top : (e : ℕ) → Raised chains p.facts.db e → AtMostTop (epoch_of epochs.Compactor) e (chains logs.Manifest p.facts.db)
-  raised_top e h = at_most_top manifests (epoch_of epochs.Compactor) compactor_rises e (chains logs.Manifest p.facts.db) (i.logs logs.Manifest p.facts.db (i.parties n p at).has).chain h
+  raised_top e h = at_most_top manifests (epoch_of epochs.Compactor) compactor_rises e (chains logs.Manifest p.facts.db) (i.logs logs.Manifest p.facts.db (i.named p.facts.db (i.parties n p at).has)).chain h
 
   given_top : (e : ℕ) → Given chains p.facts.db e → AtMostTop record_epoch e (chains logs.Compactions p.facts.db)
-  given_top e h = at_most_top records record_epoch record_rises e (chains logs.Compactions p.facts.db) (i.logs logs.Compactions p.facts.db (i.parties n p at).has).chain h
+  given_top e h = at_most_top records record_epoch record_rises e (chains logs.Compactions p.facts.db) (i.logs logs.Compactions p.facts.db (i.named p.facts.db (i.parties n p at).has)).chain h
 
   -- an open under way
   raised_of : (db : List ℕ) (phase : OpenPhase) (e : ℕ) → OpenKnows chains db phase → raised_at phase ≡ Some e → Raised chains db e

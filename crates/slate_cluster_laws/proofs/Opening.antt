@@ -277,64 +277,80 @@ module _ (specs : List DbSpec) (accepted : IsAccepted specs) where
     pub at : spec_of d specs ≡ Some spec
     pub found : IsFound d spec
 
+  known_by : (d : List ℕ) (spec : DbSpec) → spec_of d specs ≡ Some spec → Known d
+  known_by d spec is = record { spec = spec; at = is; found = spec_found d [] specs parts.made.firsts spec names parts.made.written is }
+
   known : (d : List ℕ) → HasDb w d → Known d
   known d h = by_spec (spec_of d specs) refl
     where
       by_spec : (o : Option DbSpec) → spec_of d specs ≡ o → Known d
       by_spec None is = absurd (cc (h, ap is_some (tally_is d), ap (λ (o : Option DbSpec). is_some (tally_for o None)) is))
-      by_spec (Some spec) is = record { spec = spec; at = is; found = spec_found d [] specs parts.made.firsts spec names parts.made.written is }
+      by_spec (Some spec) is = known_by d spec is
 
-  module _ (d : List ℕ) (has : HasDb w d) where
-    it : Known d
-    it = known d has
+  -- a database has a name
+  named : (d : List ℕ) → HasDb w d → is_db_path d ≡ true
+  named d h = (known d h).found.named
 
-    named : is_db_path d ≡ true
-    named = it.found.named
-
+  -- its first manifest
+  module _ (d : List ℕ) (it : Known d) where
     abbrev chain : Chain logs.Manifest
     chain = opening_link it.spec ∷ []
 
     chain_is : opening_manifests specs d ≡ chain
     chain_is = chains_are d specs ∙ ap chain_for it.at
 
-    pub has_first : HasFirst specs d
-    has_first =
-        let e = first_encodes it.spec.manifest it.found.bytes it.found.is in
-        record { spec = it.spec; is = chain_is; encodes = e.0; normal = e.1; apart = own_apart d it.spec specs parts.apart it.at }
+    records_chain_is : opening_records specs d ≡ record_chain it.spec.compactions
+    records_chain_is = records_are d specs ∙ ap records_for it.at
 
-    -- a path of this database that is no table's
+  pub has_first : (d : List ℕ) → HasDb w d → HasFirst specs d
+  has_first d has =
+      let it = known d has in
+      let e = first_encodes it.spec.manifest it.found.bytes it.found.is in
+      record { spec = it.spec; is = chain_is d it; encodes = e.0; normal = e.1; apart = own_apart d it.spec specs parts.apart it.at }
+
+  -- ---- at any name
+
+  module _ (d : List ℕ) (path : is_db_path d ≡ true) where
+    -- a path of this name that is no table's
     own_path : (k : LogKind) (n : ℕ) → n < 2 ^ 64 → IsNoTable (version_path k d n)
-    own_path logs.Manifest n small = record { fine = (named, small); away = λ db id e. absurd cc }
-    own_path logs.Compactions n small = record { fine = (named, small); away = λ db id e. absurd cc }
+    own_path logs.Manifest n small = record { fine = (path, small); away = λ db id e. absurd cc }
+    own_path logs.Compactions n small = record { fine = (path, small); away = λ db id e. absurd cc }
 
     no_boundary : (k : LogKind) → object_at (boundary_path k d) w.store ≡ None
-    no_boundary logs.Manifest = nothing_at (paths.ManifestBoundary d) (record { fine = named; away = λ db id e. absurd cc }) (λ db e. absurd cc) (λ db e. absurd cc)
-    no_boundary logs.Compactions = nothing_at (paths.RecordBoundary d) (record { fine = named; away = λ db id e. absurd cc }) (λ db e. absurd cc) (λ db e. absurd cc)
+    no_boundary logs.Manifest = nothing_at (paths.ManifestBoundary d) (record { fine = path; away = λ db id e. absurd cc }) (λ db e. absurd cc) (λ db e. absurd cc)
+    no_boundary logs.Compactions = nothing_at (paths.RecordBoundary d) (record { fine = path; away = λ db id e. absurd cc }) (λ db e. absurd cc) (λ db e. absurd cc)
 
     -- nothing stands at another number than the first
     no_other : (k : LogKind) (n : ℕ) → n < 2 ^ 64 → n ≢ 1 → object_at (version_path k d n) w.store ≡ None
     no_other logs.Manifest n small ne = nothing_at (paths.Manifest d n) (own_path logs.Manifest n small) (λ db e. absurd cc) (λ db e. ne cc)
     no_other logs.Compactions n small ne = nothing_at (paths.Record d n) (own_path logs.Compactions n small) (λ db e. ne cc) (λ db e. absurd cc)
 
+    -- nor at the first, where it has no bytes
+    nothing : (k : LogKind) → bytes_of (object_at (version_path k d 1) w.store) ≡ None → (n : ℕ) → n < 2 ^ 64 → object_at (version_path k d n) w.store ≡ None
+    nothing k none n small =
+        ⊎_elim
+        (λ (e : 1 ≡ n). subst (λ j. object_at (version_path k d j) w.store ≡ None) e (no_bytes_there (object_at (version_path k d 1) w.store) none))
+        (λ (ne : 1 ≢ n). no_other k n small (λ (e : n ≡ 1). ne (sym e)))
+        (same_or_not 1 n)
+
     -- ---- the log of manifests
 
-    first_there : bytes_of (object_at (paths.Manifest d 1) w.store) ≡ Some (listed_or_none (first_bytes it.spec.manifest))
+    first_there : bytes_of (object_at (paths.Manifest d 1) w.store) ≡ bytes_found (first_for (spec_of d specs) None) None
     first_there =
         bytes_at (paths.Manifest d 1)
-        ∙ (ap (λ (o : Option First). bytes_found o None)
-        (beside_records (paths.Manifest d 1) (own_path logs.Manifest 1 (omega arith)) (λ db e. absurd cc) ∙ firsts_found d named [] [] specs parts.tallies parts.made.firsts names parts.tallied parts.made.written (λ h. refl))
-        ∙ ap (λ (o : Option DbSpec). bytes_found (first_for o None) None) it.at)
+        ∙ ap (λ (o : Option First). bytes_found o None)
+        (beside_records (paths.Manifest d 1) (own_path logs.Manifest 1 (omega arith)) (λ db e. absurd cc) ∙ firsts_found d path [] [] specs parts.tallies parts.made.firsts names parts.tallied parts.made.written (λ h. refl))
 
     -- the first manifest names no other version
-    own_alone : (n : ℕ) → manifests.names it.spec.manifest n ≡ true → n ≡ 1
-    own_alone n named = names_first n it.spec.manifest.core.checkpoints (own_names d it.spec specs parts.own it.at) named
+    own_alone : (it : Known d) (n : ℕ) → manifests.names it.spec.manifest n ≡ true → n ≡ 1
+    own_alone it n named = names_first n it.spec.manifest.core.checkpoints (own_names d it.spec specs parts.own it.at) named
 
-    manifests_sound : IsSound manifests d w.store chain
-    manifests_sound =
-        one_sound manifests d w.store (no_boundary logs.Manifest) (opening_link it.spec) refl first_there
-        (Opens refl refl (ap (λ (o : Option (List ℕ)). decoded_manifest (listed_or_none o)) it.found.is ∙ first_read it.spec.manifest it.found.bytes it.found.is) own_alone)
+    manifests_sound : (it : Known d) → IsSound manifests d w.store (chain d it)
+    manifests_sound it =
+        one_sound manifests d w.store (no_boundary logs.Manifest) (opening_link it.spec) refl (first_there ∙ ap (λ (o : Option DbSpec). bytes_found (first_for o None) None) it.at)
+        (Opens refl refl (ap (λ (o : Option (List ℕ)). decoded_manifest (listed_or_none o)) it.found.is ∙ first_read it.spec.manifest it.found.bytes it.found.is) (own_alone it))
         (no_other logs.Manifest)
-        own_alone
+        (own_alone it)
 
     -- ---- the log of records
 
@@ -343,61 +359,77 @@ module _ (specs : List DbSpec) (accepted : IsAccepted specs) where
     bytes_for None = None
     bytes_for (Some r) = Some (listed_or_none (record_bytes r))
 
-    bytes_told : (o : Option Record) → bytes_found (first_record it.spec o) None ≡ bytes_for o
-    bytes_told None = refl
-    bytes_told (Some r) = refl
+    bytes_told : (spec : DbSpec) (o : Option Record) → bytes_found (first_record spec o) None ≡ bytes_for o
+    bytes_told spec None = refl
+    bytes_told spec (Some r) = refl
 
-    record_there : bytes_of (object_at (paths.Record d 1) w.store) ≡ bytes_for it.spec.compactions
+    record_there : bytes_of (object_at (paths.Record d 1) w.store) ≡ bytes_found (record_for (spec_of d specs)) None
     record_there =
         let absent = no_manifest (paths.Record d 1) (own_path logs.Compactions 1 (omega arith)) (λ db e. absurd cc) in
-        let found = records_found d named [] parts.made.firsts specs parts.tallies parts.made.records names parts.tallied parts.made.recorded absent in
-        bytes_at (paths.Record d 1)
-        ∙ (ap (λ (o : Option First). bytes_found o None) (beside_tables (paths.Record d 1) (own_path logs.Compactions 1 (omega arith)) ∙ found)
-        ∙ (ap (λ (o : Option DbSpec). bytes_found (record_for o) None) it.at ∙ bytes_told it.spec.compactions))
+        let found = records_found d path [] parts.made.firsts specs parts.tallies parts.made.records names parts.tallied parts.made.recorded absent in
+        bytes_at (paths.Record d 1) ∙ ap (λ (o : Option First). bytes_found o None) (beside_tables (paths.Record d 1) (own_path logs.Compactions 1 (omega arith)) ∙ found)
 
-    records_chain_is : opening_records specs d ≡ record_chain it.spec.compactions
-    records_chain_is = records_are d specs ∙ ap records_for it.at
+    record_is : (it : Known d) → bytes_of (object_at (paths.Record d 1) w.store) ≡ bytes_for it.spec.compactions
+    record_is it = record_there ∙ (ap (λ (o : Option DbSpec). bytes_found (record_for o) None) it.at ∙ bytes_told it.spec it.spec.compactions)
 
-    records_sound : (o : Option Record) → it.spec.compactions ≡ o → IsSound records d w.store (record_chain o)
-    records_sound None is =
-        let first = no_bytes_there (object_at (paths.Record d 1) w.store) (record_there ∙ ap bytes_for is) in
-        none_sound records d w.store (no_boundary logs.Compactions)
-        (λ n small. ⊎_elim (λ (e : 1 ≡ n). subst (λ j. object_at (paths.Record d j) w.store ≡ None) e first) (λ (ne : 1 ≢ n). no_other logs.Compactions n small (λ (e : n ≡ 1). ne (sym e))) (same_or_not 1 n))
-    records_sound (Some r) is =
+    records_sound : (it : Known d) (o : Option Record) → it.spec.compactions ≡ o → IsSound records d w.store (record_chain o)
+    records_sound it None is = none_sound records d w.store (no_boundary logs.Compactions) (nothing logs.Compactions (record_is it ∙ ap bytes_for is))
+    records_sound it (Some r) is =
         let has = record_has_bytes d parts.made.firsts specs parts.made.records it.spec r parts.made.recorded it.at is in
-        one_sound records d w.store (no_boundary logs.Compactions) (opening_record r) refl (record_there ∙ ap bytes_for is)
+        one_sound records d w.store (no_boundary logs.Compactions) (opening_record r) refl (record_is it ∙ ap bytes_for is)
         (Opens refl refl (ap (λ (o : Option (List ℕ)). decoded_record (listed_or_none o)) has.is ∙ record_read r has.bytes has.is) (λ n named. absurd cc))
         (no_other logs.Compactions)
         (λ n named. absurd cc)
 
+    -- ---- of a database, and of a name that the cluster lacks
+
+    found_sound : (k : LogKind) → Known d → IsSound (log_of k) d w.store (opening_chains specs k d)
+    found_sound logs.Manifest it = subst (λ (c : Chain logs.Manifest). IsSound manifests d w.store c) (sym (chain_is d it)) (manifests_sound it)
+    found_sound logs.Compactions it = subst (λ (c : Chain logs.Compactions). IsSound records d w.store c) (sym (records_chain_is d it)) (records_sound it it.spec.compactions refl)
+
+    lacking_sound : (k : LogKind) → spec_of d specs ≡ None → IsSound (log_of k) d w.store (opening_chains specs k d)
+    lacking_sound logs.Manifest at =
+        subst (λ (c : Chain logs.Manifest). IsSound manifests d w.store c) (sym (chains_are d specs ∙ ap chain_for at))
+        (none_sound manifests d w.store (no_boundary logs.Manifest) (nothing logs.Manifest (first_there ∙ ap (λ (o : Option DbSpec). bytes_found (first_for o None) None) at)))
+    lacking_sound logs.Compactions at =
+        subst (λ (c : Chain logs.Compactions). IsSound records d w.store c) (sym (records_are d specs ∙ ap records_for at))
+        (none_sound records d w.store (no_boundary logs.Compactions) (nothing logs.Compactions (record_there ∙ ap (λ (o : Option DbSpec). bytes_found (record_for o) None) at)))
+
     sound : (k : LogKind) → IsSound (log_of k) d w.store (opening_chains specs k d)
-    sound logs.Manifest = subst (λ (c : Chain logs.Manifest). IsSound manifests d w.store c) (sym chain_is) manifests_sound
-    sound logs.Compactions = subst (λ (c : Chain logs.Compactions). IsSound records d w.store c) (sym records_chain_is) (records_sound it.spec.compactions refl)
-
-    tally_top : (k : LogKind) (t : Tally) → tally_of d w.tallies ≡ Some t → number_in k t ≡ top (opening_chains specs k d)
-    tally_top k t h = by_log k
+    sound k = by_spec (spec_of d specs) refl
       where
-        same : first_tally it.spec ≡ t
-        same = cc (tally_is d ∙ ap (λ (o : Option DbSpec). tally_for o None) it.at, h)
+        by_spec : (o : Option DbSpec) → spec_of d specs ≡ o → IsSound (log_of k) d w.store (opening_chains specs k d)
+        by_spec None at = lacking_sound k at
+        by_spec (Some spec) at = found_sound k (known_by d spec at)
 
-        record_top : (o : Option Record) → first_record_number o ≡ top (record_chain o)
-        record_top None = refl
-        record_top (Some r) = refl
+  -- the greatest committed numbers
+  tally_top : (d : List ℕ) → HasDb w d → (k : LogKind) (t : Tally) → tally_of d w.tallies ≡ Some t → number_in k t ≡ top (opening_chains specs k d)
+  tally_top d has k t h = by_log k
+    where
+      it : Known d
+      it = known d has
 
-        by_log : (k : LogKind) → number_in k t ≡ top (opening_chains specs k d)
-        by_log logs.Manifest = sym (ap (λ (x : Tally). x.manifest) same) ∙ sym (ap top chain_is)
-        by_log logs.Compactions = sym (ap (λ (x : Tally). x.compactions) same) ∙ (record_top it.spec.compactions ∙ sym (ap top records_chain_is))
+      same : first_tally it.spec ≡ t
+      same = cc (tally_is d ∙ ap (λ (o : Option DbSpec). tally_for o None) it.at, h)
+
+      record_top : (o : Option Record) → first_record_number o ≡ top (record_chain o)
+      record_top None = refl
+      record_top (Some r) = refl
+
+      by_log : (k : LogKind) → number_in k t ≡ top (opening_chains specs k d)
+      by_log logs.Manifest = sym (ap (λ (x : Tally). x.manifest) same) ∙ sym (ap top (chain_is d it))
+      by_log logs.Compactions = sym (ap (λ (x : Tally). x.compactions) same) ∙ (record_top it.spec.compactions ∙ sym (ap top (records_chain_is d it)))
 
   -- nothing stands at the number 0
   pub no_zero : (k : LogKind) (d : List ℕ) → HasDb w d → object_at (version_path k d 0) w.store ≡ None
-  no_zero k d has = no_other d has k 0 (omega arith) (omega arith)
+  no_zero k d has = no_other d (named d has) k 0 (omega arith) (omega arith)
 
   pub opening_inv : Inv w (opening_chains specs)
   opening_inv = record {
     tidy = subst (λ (s : Store). IsTidy s.objects) (sym store_is) (store_tidy no_objects parts.objects (tables_fine parts.made.records specs parts.objects names parts.made.added
         (records_fine parts.made.firsts specs parts.made.records names parts.made.recorded (firsts_fine [] specs parts.made.firsts names parts.made.written tt))) tt);
-    named = λ d h. named d h;
-    logs = λ k d h. sound d h k;
+    named = named;
+    logs = λ k d path. sound d path k;
     told = λ k d t h. tally_top d (ap is_some h) k t h;
     parties = λ n p h. absurd cc;
   }

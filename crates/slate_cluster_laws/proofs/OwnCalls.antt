@@ -275,7 +275,7 @@ module _ (w : World) (chains : Chains) (i : Inv w chains) (n : ℕ) (p : Party) 
       ⊎_elim
       (λ (r : IsRefused standing.next). absurd (passed r.error r.is))
       (λ (own : IsPutBy (log_of k) (chains k db) (author_of n h.puts h.now) number h.v). own_of own)
-      (refused_or_own w.store moment mark p.facts task.call task.work k db h.puts h.now number h.v (chains k db) (author_of n h.puts h.now) (i.logs k db (has_db phrase e)) (knows phrase e) e)
+      (refused_or_own w.store moment mark p.facts task.call task.work k db h.puts h.now number h.v (chains k db) (author_of n h.puts h.now) (i.logs k db (i.named db (has_db phrase e))) (knows phrase e) e)
     where
       own_of : IsPutBy (log_of k) (chains k db) (author_of n h.puts h.now) number h.v → IsOwn k (chains' k db) n number bytes
       own_of own =

@@ -1,5 +1,6 @@
 -- What a put leaves of a log.
-use Rattle.std.proofs.Common.{◌≡◌, ◌≢◌, ℕ, ℤ, ◌+◌, ◌<◌, ◌≤◌, ◌^◌, true, false, List, [], ◌∷◌, Option, Some, None, Ok, ◌⊎◌, inl, inr, ⊎_elim, refl, sym, ap, ◌∙◌, subst, arith}
+use Rattle.std.proofs.Common.{◌≡◌, ◌≢◌, ℕ, ℤ, ◌+◌, ◌<◌, ◌≤◌, ◌^◌, zero, suc, nat_lt, Bool, true, false, List, [], ◌∷◌, Option, Some, None, Ok, ◌⊎◌, inl, inr, ⊎_elim, refl, sym, ap, ◌∙◌, subst, arith}
+use Rattle.std.proofs.lemmas.Bool.Decides.{nat_tests}
 use Rattle.slate_ids.specs.Ids.{is_db_path}
 use Rattle.slate_ids.specs.declared.object_path.ObjectPath.{ObjectPath}
 use Rattle.slate_store.specs.Store.{Store, object_at, stored, under, whole}
@@ -16,6 +17,8 @@ use Rattle.slate_store.proofs.LookUps.{at_put, at_else}
 use Rattle.slate_cluster_chain_laws.proofs.Links.{link_here, link_there, same_or_not, first_number, some_below, next_is_top, at_most}
 use Rattle.slate_cluster_protocol.specs.Reach.{names_top, IsNeeded, IsSpare}
 use Rattle.slate_cluster_protocol.specs.Reach.IsNeeded.{Greatest, Named}
+use Rattle.slate_cluster_laws.specs.LogsAtEnd.{HasWritten}
+use Rattle.slate_cluster_laws.specs.LogsAtEnd.HasWritten.{Joins, ComesLate}
 use Rattle.slate_cluster_laws.proofs.Paths.{IsElsewhere, versions_apart, boundary_apart}
 use Rattle.slate_cluster_chain_laws.proofs.Spares.{stays_unnamed}
 use Rattle.slate_cluster_chain_laws.proofs.LogRules.IsMade.{OfVersion, OfNone}
@@ -31,6 +34,17 @@ pub record Leaves {V A : Type 0} (log : Log V A) (db : List ℕ) (author : A) (s
 -- a committed number is one of 64 bits
 pub committed_small : {V A : Type 0} (log : Log V A) (db : List ℕ) (s : Store) (c : List (Link V A)) → IsSound log db s c → (k : ℕ) → IsCommitted log db s c k → k < 2 ^ 64
 committed_small log db s c i k h = let le = at_most log k h.link c i.chain h.at in let small = i.small in omega arith
+
+is_less : (a b : ℕ) → nat_lt a b ≡ true → a < b
+is_less a b h = grind (arith, nat_tests)
+
+not_less : (a b : ℕ) → nat_lt a b ≡ false → b ≤ a
+not_less a b h = grind (arith, nat_tests)
+
+-- the number after the greatest is above the boundary
+above_all : (b t n : ℕ) → (0 < b → b < t) → n ≡ t + 1 → b < n
+above_all zero t n below e = omega arith
+above_all (suc b) t n below e = let lt = below (omega arith) in omega arith
 
 module _ {V A : Type 0} (log : Log V A) (db : List ℕ) where
   pub grows_not : (s : Store) (c : List (Link V A)) → Grows log db s c s c
@@ -299,3 +313,19 @@ module _ {V A : Type 0} (log : Log V A) (db : List ℕ) where
 
     pub put_leaves : AfterPut (with_link new c)
     put_leaves = after_put (link_at n c) refl
+
+    -- a number that is taken while its object is absent is at or below the boundary
+    taken_bounded : (l : Link V A) → link_at n c ≡ Some l → n ≤ i.bound
+    taken_bounded l e = test (nat_lt i.bound n) refl
+      where
+        test : (b : Bool) → nat_lt i.bound n ≡ b → n ≤ i.bound
+        test true is = absurd (cc (ap bytes_of absent, ap link_bytes e, i.above n (is_less i.bound n is) h.small))
+        test false is = not_less i.bound n is
+
+    put_does : (o : Option (Link V A)) → link_at n c ≡ o → HasWritten log db s new c (if_new o new c)
+    put_does None e = let f = fresh_number e h.made in Joins i.bound i.read (above_all i.bound (top c) n i.below f.number) f.number refl
+    put_does (Some l) e = ComesLate i.bound i.read (taken_bounded l e) refl
+
+    -- what it does to the chain
+    pub put_written : HasWritten log db s new c (with_link new c)
+    put_written = put_does (link_at n c) refl

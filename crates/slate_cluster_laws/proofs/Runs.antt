@@ -60,7 +60,7 @@ pub record PartyKnows (w : World) (chains : Chains) (n : ℕ) (p : Party) : Type
 pub record Inv (w : World) (chains : Chains) : Type 0 where
   pub tidy : IsTidy w.store.objects
   pub named : (d : List ℕ) → HasDb w d → is_db_path d ≡ true
-  pub logs : (k : LogKind) (d : List ℕ) → HasDb w d → IsSound (log_of k) d w.store (chains k d)
+  pub logs : (k : LogKind) (d : List ℕ) → is_db_path d ≡ true → IsSound (log_of k) d w.store (chains k d)
   pub told : (k : LogKind) (d : List ℕ) → Told w.tallies chains k d
   pub parties : (n : ℕ) (p : Party) → party_of n w.parties ≡ Some p → PartyKnows w chains n p
 
@@ -237,7 +237,7 @@ module _ (w : World) (chains : Chains) (i : Inv w chains) (n : ℕ) (p : Party) 
   has = subst (λ d. HasDb w d) (sym own_db) (i.parties n p at).has
 
   sound : IsSound (log_of k0) db0 w.store (chains k0 db0)
-  sound = i.logs k0 db0 has
+  sound = i.logs k0 db0 (i.named db0 has)
 
   -- with the call as the phrase asks it
   pub record AfterWork : Type 0 where
@@ -287,19 +287,19 @@ module _ (w : World) (chains : Chains) (i : Inv w chains) (n : ℕ) (p : Party) 
   own_after : LogAfter k0 w.store (chains k0 db0) s' (chains' k0 db0) db0 author
   own_after = record { sound = after.sound_after; grows = after.grows; changed = after.changed }
 
-  other_after : (k : LogKind) (d : List ℕ) → HasDb w d → AreApart k d k0 db0 → LogAfter k w.store (chains k d) s' (chains' k d) d author
-  other_after k d h apart =
+  other_after : (k : LogKind) (d : List ℕ) → is_db_path d ≡ true → AreApart k d k0 db0 → LogAfter k w.store (chains k d) s' (chains' k d) d author
+  other_after k d path apart =
       let same : chains' k d ≡ chains k d = other_chain (wrote w.store s') n phrase chains k d apart in
-      let g = other_grows w.store s' k0 db0 k d (chains k d) (i.named d h) (i.named db0 has) apart after.stored in
-      let o = other_sound w.store s' k0 db0 k d (chains k d) (i.named d h) (i.named db0 has) apart after.stored (i.logs k d h) in
+      let g = other_grows w.store s' k0 db0 k d (chains k d) path (i.named db0 has) apart after.stored in
+      let o = other_sound w.store s' k0 db0 k d (chains k d) path (i.named db0 has) apart after.stored (i.logs k d path) in
       subst (λ (c : Chain k). LogAfter k w.store (chains k d) s' c d author) (sym same) (record { sound = o; grows = g; changed = Stays refl })
 
-  -- what a step leaves of each log
-  pub log_after : (k : LogKind) (d : List ℕ) → HasDb w d → LogAfter k w.store (chains k d) s' (chains' k d) d author
-  log_after k d h =
+  -- what a step leaves of each log, at any name
+  pub log_after : (k : LogKind) (d : List ℕ) → is_db_path d ≡ true → LogAfter k w.store (chains k d) s' (chains' k d) d author
+  log_after k d path =
       ⊎_elim
       (λ (e : (k ≡ k0) × (d ≡ db0)). subst (λ x. LogAfter x w.store (chains x d) s' (chains' x d) d author) (sym e.0) (subst (λ y. LogAfter k0 w.store (chains k0 y) s' (chains' k0 y) y author) (sym e.1) own_after))
-      (λ (apart : AreApart k d k0 db0). other_after k d h apart)
+      (λ (apart : AreApart k d k0 db0). other_after k d path apart)
       (same_place k d k0 db0)
 
   abbrev w' : World
@@ -316,12 +316,12 @@ module _ (w : World) (chains : Chains) (i : Inv w chains) (n : ℕ) (p : Party) 
 
   -- what is left of the logs of the party's database
   own_log : (k : LogKind) → LogAfter k w.store (chains k facts.db) s' (chains' k facts.db) facts.db author
-  own_log k = log_after k facts.db (i.parties n p at).has
+  own_log k = log_after k facts.db (i.named facts.db (i.parties n p at).has)
 
   kept : (d : List ℕ) → d ≡ facts.db → (k : LogKind) (m : ℕ) (l : _) → link_at m (chains k d) ≡ Some l → link_at m (chains' k d) ≡ Some l
   kept d is k m l = subst (λ x. link_at m (chains k x) ≡ Some l → link_at m (chains' k x) ≡ Some l) (sym is) ((own_log k).grows.kept m l)
 
-  reaches : Reaches s' chains' n facts task.call standing
+  pub reaches : Reaches s' chains' n facts task.call standing
   reaches = moved_reaches s' chains' n task.call facts knows.asked (kept_holds chains chains' facts.db (kept facts.db refl) facts.compactor (i.parties n p at).holds) task.work knows.own
       (λ k. subst (λ d. IsSound (log_of k) d s' (chains' k d)) (sym knows.own) (own_log k).sound) knows.over knows.fits (kept_work chains chains' task.work (kept (db_of task.work) knows.own) knows.holds) moment answer after.brings
 
@@ -332,10 +332,10 @@ module _ (w : World) (chains : Chains) (i : Inv w chains) (n : ℕ) (p : Party) 
   stepped_inv = record {
     tidy = tidy_after k0 db0 w.store s' (i.named db0 has) after.stored i.tidy;
     named = λ d h. i.named d (was_db d h);
-    logs = λ k d h. (log_after k d (was_db d h)).sound;
+    logs = λ k d path. (log_after k d path).sound;
     told = after.tallies.told;
     parties = each_knows w w' chains chains' n (settled task.call standing) (party_in_place n p (settled task.call standing) w.parties at) (λ k ne. others_stay n k (settled task.call standing) w.parties ne)
-        same_db (λ k d h. (log_after k d h).grows) own_knows i.parties;
+        same_db (λ k d h. (log_after k d (i.named d h)).grows) own_knows i.parties;
   }
 
 -- ---- events

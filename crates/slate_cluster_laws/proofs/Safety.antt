@@ -1,6 +1,5 @@
 -- Nothing reachable is removed: what was removed stays spare, at or below the boundary of its log, at each moment of a run.
-use Rattle.std.proofs.Common.{◌≡◌, ℕ, ℤ, ◌+◌, ◌≤◌, Bool, true, false, List, [], ◌∷◌, ◌++◌, Option, Some, None, is_some, refl, sym, ap, ◌∙◌, subst, append_assoc, arith}
-use Rattle.std.proofs.lemmas.List.{append-nil}
+use Rattle.std.proofs.Common.{◌≡◌, ℕ, ℤ, ◌+◌, ◌≤◌, Bool, true, false, List, [], ◌∷◌, ◌++◌, Option, Some, None, is_some, refl, sym, ap, ◌∙◌, subst, arith}
 use Rattle.std.specs.Prelude.{if◌then◌else◌}
 use Rattle.slate_ids.specs.declared.object_path.ObjectPath.{ObjectPath}
 use Rattle.slate_ids.specs.Ids.{is_db_path}
@@ -9,7 +8,6 @@ use Rattle.slate_store.specs.declared.store_call.StoreCall.{StoreCall}
 use Rattle.slate_store.specs.declared.mark.Mark.{Mark}
 use Rattle.slate_store.specs.declared.object.ObjectMetadata.{ObjectMetadata}
 use Rattle.slate_script_events.specs.declared.call.Call.{Call}
-use Rattle.slate_script_events.specs.declared.entry.Entry.{Entry}
 use Rattle.slate_script_events.specs.declared.event.Event.{Event}
 use Rattle.slate_script_events.specs.declared.event.Event.TheVariants.{Open, Start, Step, Stop}
 use Rattle.slate_txn_log.specs.CommitPhase.{commit_asks}
@@ -30,16 +28,15 @@ use Rattle.slate_gc_passes.specs.declared.pass_phase.PassPhase.TheVariants as pa
 use Rattle.slate_state_referenced.specs.Referenced.{referenced_asks}
 use Rattle.slate_state_referenced.specs.declared.referenced_phase.ReferencedPhase.{ReferencedPhase}
 use Rattle.slate_state_referenced.specs.declared.referenced_phase.ReferencedPhase.TheVariants as fetching
-use Rattle.slate_cluster_protocol.specs.ByRows.{AllTold, all_told_after, entry_store}
 use Rattle.slate_cluster_protocol.specs.Chains.{bound_in}
 use Rattle.slate_cluster_protocol.specs.Holding.{IsOfLog, IsVersionThat}
-use Rattle.slate_cluster_protocol.specs.Logs.{Chains, Phrase, Reads, Commits, Uploads, Fetches, Collects, log_of, phrase_of, chains_state, chains_at, chains_after, chains_of}
+use Rattle.slate_cluster_protocol.specs.Logs.{Chains, Phrase, Reads, Commits, Uploads, Fetches, Collects, log_of, phrase_of, chains_state, chains_at, chains_after}
 use Rattle.slate_cluster_protocol.specs.Owners.{owner_of}
 use Rattle.slate_cluster_protocol.specs.Owners.Owner.{Version}
 use Rattle.slate_cluster_protocol.specs.Reach.{IsNeeded, InReach, Reachable, IsSpare}
 use Rattle.slate_cluster_protocol.specs.Reach.InReach.{OfVersion}
 use Rattle.slate_cluster_protocol.specs.Runs.{Course, Ran, going_on, run}
-use Rattle.slate_cluster_protocol.specs.Safe.{took_away, path_if, removed_by_call, removed_by, gone, NoneReachable, IsCollected, AllCollected, IsPresent, IsSafe}
+use Rattle.slate_cluster_protocol.specs.Safe.{took_away, path_if, removed_by_call, removed_by, NoneReachable, IsCollected, AllCollected, IsPresent, IsSafe}
 use Rattle.slate_cluster_protocol.specs.Works.{asks, db_of}
 use Rattle.slate_cluster_protocol.specs.World.{World, Transition, HasDb, party_of, tally_of, step_state, start_state, stop_state, carrying, may_start, open_at, start_at, step_at, stop_at, happens}
 use Rattle.slate_cluster_protocol.specs.declared.party.Facts.{Facts}
@@ -53,7 +50,7 @@ use Rattle.slate_cluster_laws.proofs.Facts.{IsReached, Grows}
 use Rattle.slate_cluster_laws.proofs.Passes.{PassKnows}
 use Rattle.slate_cluster_laws.proofs.Paths.{version_owner}
 use Rattle.slate_cluster_laws.proofs.Puts.{grows_not}
-use Rattle.slate_cluster_laws.proofs.Rows.{AllMatch, ended, event_brings, all_after}
+use Rattle.slate_cluster_laws.proofs.Rows.{ended}
 use Rattle.slate_cluster_laws.proofs.Runs.{Inv, StateKnows, log_after, same_tallies, event_inv}
 use Rattle.slate_cluster_chain_laws.proofs.Spares.{not_needed}
 use Rattle.slate_cluster_laws.proofs.Steps.{CollectKnows, PhraseKnows, db_in, phrase_asks, work_asks, work_db}
@@ -82,7 +79,7 @@ step_after w chains i n p at moment mark Resting k = leaves_all w w chains refl 
 step_after w chains i n p at moment mark Halted k = leaves_all w w chains refl refl
 step_after w chains i n p at moment mark (Busy task) k = record {
   same = λ db. same_tallies w chains i n p at task k moment mark db;
-  grows = λ log db has. (log_after w chains i n p at task k moment mark log db has).grows;
+  grows = λ log db has. (log_after w chains i n p at task k moment mark log db (i.named db has)).grows;
   zero = λ h log db has.
       let had = sym (same_tallies w chains i n p at task k moment mark db) ∙ has in
       zero_stays log db (i.named db had) w.store chains n task.work moment mark (subst (λ d. is_db_path d ≡ true) (sym k.own) (i.named p.facts.db (i.parties n p at).has)) k.knows (h log db had);
@@ -131,7 +128,7 @@ event_after w chains (Stop n) d i h = went (party_of n w.parties) h
 
 -- ---- what was removed
 
-all_gone : (w : World) (chains : Chains) (xs ys : List ObjectPath) → AllCollected w chains xs → AllCollected w chains ys → AllCollected w chains (xs ++ ys)
+pub all_gone : (w : World) (chains : Chains) (xs ys : List ObjectPath) → AllCollected w chains xs → AllCollected w chains ys → AllCollected w chains (xs ++ ys)
 all_gone w chains [] ys h k = k
 all_gone w chains (x ∷ xs) ys h k = (h.0, all_gone w chains xs ys h.1 k)
 
@@ -257,47 +254,6 @@ module _ (w : World) (chains : Chains) (v : World) (chains' : Chains) (a : Event
           let same : stop_state w n p.facts p.state ≡ d = cc in
           subst (λ (r : Transition). AllCollected v chains' (removed_by r.entry w.store)) same (stop_gone n p.facts p.state)
 
--- ---- along a run
-
--- what the entries of a run removed, beside what was removed before
-pub record RunGone (c v : Course) (chains' : Chains) (paths : List ObjectPath) : Type 0 where
-  pub entries : List Entry
-  pub trail : v.trail ≡ c.trail ++ entries
-  pub all : AllCollected v.world chains' (paths ++ gone entries c.world.store)
-
--- one entry more in front
-more_gone : (c v : Course) (d : Transition) (chains' : Chains) (paths : List ObjectPath) → d.world.store ≡ entry_store d.entry c.world.store → RunGone (going_on c d) v chains' (paths ++ removed_by d.entry c.world.store) → RunGone c v chains' paths
-more_gone c v d chains' paths e r = record {
-  entries = d.entry ∷ r.entries;
-  trail = r.trail ∙ append_assoc c.trail (d.entry ∷ []) r.entries;
-  all = subst (λ (ps : List ObjectPath). AllCollected v.world chains' ps)
-      (append_assoc paths (removed_by d.entry c.world.store) (gone r.entries d.world.store) ∙ ap (λ (s : Store). paths ++ (removed_by d.entry c.world.store ++ gone r.entries s)) e) r.all;
-}
-
-pub run_gone : (es : List Event) (place : ℕ) (c v : Course) (all : AllTold) (chains : Chains) (paths : List ObjectPath) → AllMatch all c.world → Inv c.world chains → AllCollected c.world chains paths → run es place c ≡ ended v
-    → RunGone c v (chains_of es c.world chains) paths
-run_gone [] place c v all chains paths m i h is =
-    let same : c ≡ v = ap (λ (r : Ran). r.course) is in
-    record {
-      entries = [];
-      trail = ap (λ (x : Course). x.trail) (sym same) ∙ sym (append-nil c.trail);
-      all = subst (λ (ps : List ObjectPath). AllCollected v.world chains ps) (sym (append-nil paths)) (subst (λ (x : Course). AllCollected x.world chains paths) same h);
-    }
-run_gone (e ∷ es) place c v all chains paths m i h is =
-    went (happens c.world e) refl is
-    (λ d k at.
-    let after = event_after c.world chains e d i at in
-    run_gone es (place + 1) (going_on c d) v (all_told_after e d.entry all) (chains_after c.world e chains) (paths ++ removed_by d.entry c.world.store)
-    (all_after e all c.world d m (event_brings e all c.world d m at)) (event_inv c.world chains e d at i)
-    (all_gone d.world (chains_after c.world e chains) paths (removed_by d.entry c.world.store) (all_stay c.world chains d.world (chains_after c.world e chains) after paths h)
-    (event_gone c.world chains d.world (chains_after c.world e chains) after e d i at)) k)
-  where
-    went : (o : Option Transition) → happens c.world e ≡ o → (elim o as (λ _. Ran) [ None ↦ record { course = c; bad = Some place } | Some done ↦ run es (place + 1) (going_on c done) ]) ≡ ended v
-        → ((d : Transition) → run es (place + 1) (going_on c d) ≡ ended v → happens c.world e ≡ Some d → RunGone (going_on c d) v (chains_of es d.world (chains_after c.world e chains)) (paths ++ removed_by d.entry c.world.store))
-        → RunGone c v (elim o as (λ _. Chains) [ None ↦ chains | Some d ↦ chains_of es d.world (chains_after c.world e chains) ]) paths
-    went None at is f = absurd (cc (ap (λ (r : Ran). r.bad) is))
-    went (Some d) at is f = more_gone c v d (chains_of es d.world (chains_after c.world e chains)) paths (event_brings e all c.world d m at).store (f d is at)
-
 -- ---- so it is safe
 
 module _ (w : World) (chains : Chains) (i : Inv w chains) where
@@ -318,8 +274,8 @@ module _ (w : World) (chains : Chains) (i : Inv w chains) where
   none_reachable (path ∷ paths) h = (unreachable_one path h.0, none_reachable paths h.1)
 
   stands_there : (k : LogKind) (db : List ℕ) (n : ℕ) → HasDb w db → IsNeeded (log_of k) (chains k db) n → IsPresent w chains k db n
-  stands_there logs.Manifest db n has needed = let it = (i.logs logs.Manifest db has).needed n needed in record { link = it.link; committed = it.at; stands = it.stands }
-  stands_there logs.Compactions db n has needed = let it = (i.logs logs.Compactions db has).needed n needed in record { link = it.link; committed = it.at; stands = it.stands }
+  stands_there logs.Manifest db n has needed = let it = (i.logs logs.Manifest db (i.named db has)).needed n needed in record { link = it.link; committed = it.at; stands = it.stands }
+  stands_there logs.Compactions db n has needed = let it = (i.logs logs.Compactions db (i.named db has)).needed n needed in record { link = it.link; committed = it.at; stands = it.stands }
 
   pub is_safe : (paths : List ObjectPath) → AllCollected w chains paths → IsSafe w chains paths
   is_safe paths h = record { unreachable = none_reachable paths h; stands = stands_there; collected = h }
@@ -351,7 +307,7 @@ run_rises log (e ∷ es) place c v chains db i has is before now was read =
     let after = event_after c.world chains e d i at in
     let mid_inv = event_inv c.world chains e d at i in
     let mid_has : HasDb d.world db = after.same db ∙ has in
-    let mid = mid_inv.logs log db mid_has in
+    let mid = mid_inv.logs log db (mid_inv.named db mid_has) in
     let was_there = (after.grows log db has).bound mid.bound mid.read in
     let equal : was_there.0 ≡ before = cc (was_there.1, was) in
     let up = was_there.2 in

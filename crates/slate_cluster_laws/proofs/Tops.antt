@@ -40,14 +40,14 @@ module _ (specs : List DbSpec) (events : List Event) where
 
   -- the greatest number of the list is the greatest committed one
   pub top_listed : (k : LogKind) (db : List ℕ) → IsAccepted specs → HasDb w db → 0 < top (chains k db) → greatest k (listed (folder k db) w.store) ≡ Some (top (chains k db))
-  top_listed logs.Manifest db accepted has some = let i = after_inv specs events accepted in list_top (log_of logs.Manifest) db (i.named db has) w.store (chains logs.Manifest db) (i.logs logs.Manifest db has) some i.tidy
-  top_listed logs.Compactions db accepted has some = let i = after_inv specs events accepted in list_top (log_of logs.Compactions) db (i.named db has) w.store (chains logs.Compactions db) (i.logs logs.Compactions db has) some i.tidy
+  top_listed logs.Manifest db accepted has some = let i = after_inv specs events accepted in list_top (log_of logs.Manifest) db (i.named db has) w.store (chains logs.Manifest db) (i.logs logs.Manifest db (i.named db has)) some i.tidy
+  top_listed logs.Compactions db accepted has some = let i = after_inv specs events accepted in list_top (log_of logs.Compactions) db (i.named db has) w.store (chains logs.Compactions db) (i.logs logs.Compactions db (i.named db has)) some i.tidy
 
   -- where none is committed it has none
   pub none_listed : (k : LogKind) (db : List ℕ) → IsAccepted specs → HasDb w db → top (chains k db) ≡ 0 → greatest k (listed (folder k db) w.store) ≡ None
   none_listed logs.Manifest db accepted has empty =
       let i = after_inv specs events accepted in
-      list_none (log_of logs.Manifest) db (i.named db has) w.store (chains logs.Manifest db) (i.logs logs.Manifest db has) empty (zeros accepted logs.Manifest db has) i.tidy
+      list_none (log_of logs.Manifest) db (i.named db has) w.store (chains logs.Manifest db) (i.logs logs.Manifest db (i.named db has)) empty (zeros accepted logs.Manifest db has) i.tidy
   none_listed logs.Compactions db accepted has empty =
       let i = after_inv specs events accepted in
-      list_none (log_of logs.Compactions) db (i.named db has) w.store (chains logs.Compactions db) (i.logs logs.Compactions db has) empty (zeros accepted logs.Compactions db has) i.tidy
+      list_none (log_of logs.Compactions) db (i.named db has) w.store (chains logs.Compactions db) (i.logs logs.Compactions db (i.named db has)) empty (zeros accepted logs.Compactions db has) i.tidy

@@ -23,12 +23,13 @@ use Rattle.slate_txn_log.specs.declared.read_phase.ReadPhase.{ReadPhase}
 use Rattle.slate_txn_log.specs.declared.read_phase.ReadPhase.TheVariants as reading
 use Rattle.slate_cluster_protocol.specs.Chains.{Link, Log, link_at, with_link, bytes_of, link_bytes, bound_in}
 use Rattle.slate_cluster_protocol.specs.World.{wrote}
+use Rattle.slate_cluster_laws.specs.LogsAtEnd.{HasWritten}
 use Rattle.slate_cluster_laws.proofs.Stores.{IsTidy}
 use Rattle.slate_cluster_laws.proofs.Lists.{listed_small}
 use Rattle.slate_cluster_chain_laws.proofs.Links.{decodes}
 use Rattle.slate_cluster_chain_laws.proofs.LogRules.{IsLog}
 use Rattle.slate_cluster_laws.proofs.Facts.{IsSound, IsValue, Holds, HoldsBy, IsNext, ReadKnows, ReadBrings, CommitBrings}
-use Rattle.slate_cluster_laws.proofs.Puts.{Leaves, leaves_not, put_leaves}
+use Rattle.slate_cluster_laws.proofs.Puts.{Leaves, leaves_not, put_leaves, put_written}
 
 -- the chain after a put, where it wrote
 abbrev pub chain_if : {V A : Type 0} → Bool → Link V A → List (Link V A) → List (Link V A)
@@ -173,3 +174,13 @@ module _ {V A : Type 0} (log : Log V A) (laws : IsLog log) (db : List ℕ) (s : 
 
       pub put_step : (mark : Mark) → AfterPutting (effect mark (commit_asks db log.kind (committing.Putting n bytes v)) moment s)
       put_step mark = by_object (object_at path s) (taken mark (PutNew path bytes) s) refl
+
+      -- a put that wrote found no object at its path
+      found_none : (o : Option StoredObject) (mark : Mark) → object_at path s ≡ o → wrote s (outcome o mark).store ≡ true → object_at path s ≡ None
+      found_none (Some object) Good at did = absurd (cc (did, wrote_not s.last_tag))
+      found_none (Some object) Fail at did = absurd (cc (did, wrote_not s.last_tag))
+      found_none (Some object) Lost at did = absurd (cc (did, wrote_not s.last_tag))
+      found_none None mark at did = at
+
+      pub put_wrote : (mark : Mark) → wrote s (effect mark (commit_asks db log.kind (committing.Putting n bytes v)) moment s).store ≡ true → HasWritten log db s put c (with_link put c)
+      put_wrote mark did = put_written log db named laws author s c n bytes v moment i h (found_none (object_at path s) (taken mark (PutNew path bytes) s) refl did)

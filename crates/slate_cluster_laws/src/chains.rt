@@ -13,13 +13,24 @@ ghost use Rattle.slate_cluster_protocol.specs.Chains.{top};
 ghost use Rattle.slate_cluster_protocol.specs.Lawful.{IsAccepted, chains_at_end, world_at_end};
 ghost use Rattle.slate_cluster_protocol.specs.Owners.{owner_of, is_log, LogStays};
 ghost use Rattle.slate_cluster_protocol.specs.World.{HasDb};
-ghost use Rattle.slate_cluster_laws.specs.LogsAtEnd.{greatest_listed, ChangedBy};
+ghost use Rattle.slate_cluster_protocol.specs.declared.party.Party.{Party};
+ghost use Rattle.slate_cluster_protocol.specs.declared.party.Task.{Task};
+ghost use Rattle.slate_cluster_laws.specs.InCalls.{InCall};
+ghost use Rattle.slate_cluster_laws.specs.LogsAtEnd.{greatest_listed, ChangedBy, WrittenPuts};
 
 /// An event leaves the chain of a log, or puts one version on top, by the party of the event.
 pub fn changed()
     ensures { (specs : List DbSpec) (events : List Event) (event : Event) (k : LogKind) (db : List ℕ)
         → IsAccepted specs → HasDb (world_at_end specs events) db
         → ChangedBy specs events event k db }
+{}
+
+/// Where a party is about to commit a version, and the step that puts it writes, whatever the mark: either its number is above the boundary of
+/// the log and the one after the greatest committed one, and the chain has what was put on top, by this party; or its number is at or below the
+/// boundary, and the chain stays as it was.
+pub fn written_puts()
+    ensures { (specs : List DbSpec) (events : List Event) (n : ℕ) (p : Party) (task : Task)
+        → IsAccepted specs → InCall specs events n p task (WrittenPuts specs events n task) }
 {}
 
 /// The greatest number that a list of a log gives is the greatest committed one; where none is committed, it gives none.

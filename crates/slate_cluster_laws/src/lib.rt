@@ -9,7 +9,7 @@ mod openings;
 mod parties_known;
 mod safe_parties;
 
-pub use chains::{changed, list_top, put_elsewhere, taken_path};
+pub use chains::{changed, list_top, put_elsewhere, taken_path, written_puts};
 pub use events_done::{bad_after, checkpoints_carried, ulids_carried};
 pub use openings::opening_stands;
 pub use parties_known::known_as_told;

@@ -91,7 +91,7 @@ good_after db w chains e d h g =
       inv = i;
       ordered = event_ordered w e d h g.ordered;
       has = has;
-      source = source_stays (By (party_in e)) (chains logs.Manifest db) (chains_after w e chains logs.Manifest db) (event_changes w chains e g.inv logs.Manifest db g.has) (i.logs logs.Manifest db has).chain g.source;
+      source = source_stays (By (party_in e)) (chains logs.Manifest db) (chains_after w e chains logs.Manifest db) (event_changes w chains e g.inv logs.Manifest db (g.inv.named db g.has)) (i.logs logs.Manifest db (i.named db has)).chain g.source;
     }
 
 -- the store has the greatest manifest
@@ -147,11 +147,11 @@ module _ (db : List ℕ) (named : is_db_path db ≡ true) (s : Store) where
   }
 
 bound_there : (k : LogKind) (db : List ℕ) (w : World) (chains : Chains) → Inv w chains → HasDb w db → HasBound k db w.store
-bound_there logs.Manifest db w chains i has = record { bound = (i.logs logs.Manifest db has).bound; read = (i.logs logs.Manifest db has).read }
-bound_there logs.Compactions db w chains i has = record { bound = (i.logs logs.Compactions db has).bound; read = (i.logs logs.Compactions db has).read }
+bound_there logs.Manifest db w chains i has = record { bound = (i.logs logs.Manifest db (i.named db has)).bound; read = (i.logs logs.Manifest db (i.named db has)).read }
+bound_there logs.Compactions db w chains i has = record { bound = (i.logs logs.Compactions db (i.named db has)).bound; read = (i.logs logs.Compactions db (i.named db has)).read }
 
 fine : (k : LogKind) (db : List ℕ) (w : World) (chains : Chains) → IsGood db w chains → IsFine k db w.store
-fine k db w chains g = fine_by db (g.inv.named db g.has) w.store k (bound_there k db w chains g.inv g.has) g.inv.tidy g.ordered (chains logs.Manifest db) (g.inv.logs logs.Manifest db g.has) g.source
+fine k db w chains g = fine_by db (g.inv.named db g.has) w.store k (bound_there k db w chains g.inv g.has) g.inv.tidy g.ordered (chains logs.Manifest db) (g.inv.logs logs.Manifest db (g.inv.named db g.has)) g.source
 
 -- ---- entries
 
@@ -502,7 +502,7 @@ manifests_begun specs events accepted good db has =
     let c = course_after specs events in
     let has0 = sym (run_same events 0 (opening specs) c (opening_chains specs) db i0 (good_run specs events good)) ∙ has in
     let g = run_good db events (opening_world specs) (opening_chains specs) (begins_good specs accepted db has0) in
-    some_number (chains_at_end specs events logs.Manifest db) (g.inv.logs logs.Manifest db g.has).chain g.source
+    some_number (chains_at_end specs events logs.Manifest db) (g.inv.logs logs.Manifest db (g.inv.named db g.has)).chain g.source
 
 same_rest : (xs ys zs : List Entry) → xs ++ ys ≡ xs ++ zs → ys ≡ zs
 same_rest [] ys zs h = h

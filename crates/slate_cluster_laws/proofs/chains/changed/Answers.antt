@@ -6,4 +6,6 @@ use Rattle.slate_cluster_laws.proofs.AfterEvents.{after_inv}
 use Rattle.slate_cluster_laws.proofs.chains.changed.Goals as goal
 
 pub returns : goal.returns
-returns c = λ specs events event k db accepted has. event_changes (world_after events (opening_world specs)) (chains_at_end specs events) event (after_inv specs events accepted) k db has
+returns c = λ specs events event k db accepted has.
+    let i = after_inv specs events accepted in
+    event_changes (world_after events (opening_world specs)) (chains_at_end specs events) event i k db (i.named db has)
