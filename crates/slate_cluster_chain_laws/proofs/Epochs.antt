@@ -73,7 +73,7 @@ at_or_above : (a b : ℕ) → nat_lt a b ≡ false → b ≤ a
 at_or_above a b h = grind (arith, nat_tests)
 
 -- an epoch that the fence lets is not below the one read
-passes : (own read : ℕ) → fence own read ≡ None → read ≤ own
+pub passes : (own read : ℕ) → fence own read ≡ None → read ≤ own
 passes own read h = test (nat_lt own read) refl h
   where
     test : (b : Bool) → nat_lt own read ≡ b → (if b then Some (Fenced own read) else None) ≡ None → read ≤ own
@@ -140,7 +140,7 @@ record_epoch_rises n old new right h = test (epoch_falls old new) refl (neither 
     test true is k = absurd cc
     test false is k = at_or_above new.compactor_epoch old.compactor_epoch is
 
-record_above : (change : Option RecordChange) (old : Record) (e : ℕ) → fence_by record_fence_of change old ≡ None → record_epoch_in change ≡ Some e → old.compactor_epoch ≤ e
+pub record_above : (change : Option RecordChange) (old : Record) (e : ℕ) → fence_by record_fence_of change old ≡ None → record_epoch_in change ≡ Some e → old.compactor_epoch ≤ e
 record_above None old e passed is = absurd cc
 record_above (Some (GiveEpoch epoch)) old e passed is = holder_passes (Some epoch) old.compactor_epoch e passed is
 record_above (Some (Reset epoch)) old e passed is = holder_passes (Some epoch) old.compactor_epoch e passed is

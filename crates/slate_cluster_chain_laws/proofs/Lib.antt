@@ -7,3 +7,9 @@ pub mod Manifests
 pub mod Epochs
 pub mod Rising
 pub mod Names
+pub mod ChainSteps
+pub mod Raises
+mod FoundEntries
+pub mod Locals
+pub mod RecordSteps
+pub mod TableSteps

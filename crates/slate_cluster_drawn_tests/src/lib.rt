@@ -10,4 +10,6 @@ mod test_clusters;
 #[cfg(test)]
 mod test_counts;
 #[cfg(test)]
+mod test_holdings;
+#[cfg(test)]
 mod test_lists;

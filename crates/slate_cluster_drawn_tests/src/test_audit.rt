@@ -1,13 +1,16 @@
 //! An audit of a run by its events, its trail and its stores: both logs are chains of which nothing reachable is removed, epochs and least
-//! ids don't fall, and no party puts under an epoch that isn't its own.
+//! ids don't fall, no party puts under an epoch that isn't its own, and the record has what compactors hold.
 
 use crate::test_clusters::db;
 use crate::test_counts::{Counts, Word, counted, one_more, word_of};
+use crate::test_holdings::{
+    Growth, Held, Statuses, check_finished, check_growth, check_pending, statuses_of,
+};
 use slate_ids::{DbPath, ObjectPath, SlateDBError};
 use slate_layout::{decode_compactions, decode_manifest};
 use slate_model::Manifest;
 use slate_script::{Entry, Event, Reply};
-use slate_store::{Mark, MemoryStore, StoreAnswer, StoreCall};
+use slate_store::{ListDir, Mark, MemoryStore, StoreAnswer, StoreCall};
 use slate_txn_log::decode_boundary;
 use std::alloc::Global;
 use std::collections::BTreeMap;
@@ -73,6 +76,8 @@ struct Heads {
     record_epoch: u64,
     // The milliseconds of the record's least id, where it has compactions.
     least: Option<u64>,
+    // The statuses of the record's compactions.
+    statuses: Statuses,
     // How many tables the trees have.
     tables: u64,
 }
@@ -89,6 +94,9 @@ struct Audit {
     late: BTreeMap<u32, u64>,
     heads: Heads,
     parties: BTreeMap<u32, Party>,
+    // The compactors by the epochs that their opens had.
+    openers: BTreeMap<u64, u32>,
+    held: Held,
     counts: Counts,
 }
 
@@ -227,16 +235,17 @@ fn commit_manifest(rt: &impl Abort, alloc: Global, audit: &mut Audit, number: u6
     raise(rt, &mut audit.heads, writer, compactor);
 }
 
-// The epoch of a record, and the milliseconds of its least id.
-fn record_of(rt: &impl Abort, alloc: Global, bytes: &[u8]) -> (u64, Option<u64>) {
+// The epoch of a record, the milliseconds of its least id, and the statuses of its compactions.
+fn record_of(rt: &impl Abort, alloc: Global, bytes: &[u8]) -> (u64, Option<u64>, Statuses) {
     let record = decode_compactions(alloc, bytes).expect(rt, "a record");
     let least = match record.least_id() {
         Some(id) => Some(id.timestamp_ms()),
         None => None,
     };
     let epoch = record.compactor_epoch;
+    let statuses = statuses_of(rt, &record);
     drop(record);
-    (epoch, least)
+    (epoch, least, statuses)
 }
 
 // Whether the least id may follow the last one: a record with compactions keeps one, and the least doesn't fall.
@@ -252,7 +261,7 @@ fn may_follow(last: Option<u64>, least: Option<u64>) -> bool {
 
 // A record is committed: its epoch doesn't fall, nor does its least id, and the manifest has that epoch or a greater one.
 fn commit_record(rt: &impl Abort, alloc: Global, heads: &mut Heads, bytes: &[u8]) {
-    let (epoch, least) = record_of(rt, alloc, bytes);
+    let (epoch, least, statuses) = record_of(rt, alloc, bytes);
     assert!(rt; epoch >= heads.record_epoch, "the epoch of a record fell");
     assert!(rt;
         epoch <= heads.compactor_epoch,
@@ -261,6 +270,7 @@ fn commit_record(rt: &impl Abort, alloc: Global, heads: &mut Heads, bytes: &[u8]
     assert!(rt; may_follow(heads.least, least), "the least id fell");
     heads.record_epoch = epoch;
     heads.least = least;
+    heads.statuses = statuses;
 }
 
 // The next version of a log is committed, at a place of the trail where it is put.
@@ -291,7 +301,7 @@ fn compactor_epoch_in(heads: Heads, log: Log) -> u64 {
 // Whether a party may have put the last version of a log: but for an open it has the party's own epoch.
 fn is_own(party: Party, heads: Heads, log: Log) -> bool {
     match party.word {
-        Word::Compactor | Word::Schedule | Word::State => {
+        Word::Manifest | Word::Record | Word::State | Word::Schedule => {
             party.epoch == Some(compactor_epoch_in(heads, log))
         }
         Word::Flush => log == Log::Manifests && party.epoch == Some(heads.writer_epoch),
@@ -313,6 +323,21 @@ fn put_late(rt: &impl Abort, audit: &mut Audit, party: u32, version: (Log, u64))
     inserted.expect(rt, "memory");
 }
 
+// A record is put by a call on the last one, whose epoch and statuses were these.
+fn put_record(rt: &impl Abort, audit: &mut Audit, word: Word, last: Heads) {
+    let new = audit.heads.statuses;
+    let growth = Growth {
+        old: last.statuses,
+        new,
+        word,
+        raises: last.record_epoch < audit.heads.record_epoch,
+    };
+    check_growth(rt, &mut audit.counts, &growth);
+    if audit.held.leads(audit.heads.compactor_epoch) {
+        check_pending(rt, &mut audit.counts, &audit.held, &new);
+    }
+}
+
 // The next number is put by a party, at a place of the trail.
 fn put_next(
     rt: &impl Abort,
@@ -322,9 +347,13 @@ fn put_next(
     log: Log,
     bytes: &[u8],
 ) {
+    let last = audit.heads;
     commit(rt, alloc, audit, log, Some(at.0), bytes);
     let party = party_of(audit, at.1);
     assert!(rt; is_own(party, audit.heads, log), "another party's epoch");
+    if log == Log::Records {
+        put_record(rt, audit, party.word, last);
+    }
 }
 
 // A put has its effect: of the next number it commits, and of one that was committed and collected it is late.
@@ -376,6 +405,13 @@ fn deletes(audit: &mut Audit, version: (Log, u64), mark: Mark) {
     }
 }
 
+// A party lists a folder. Where it writes its whole state, and lists the records, its manifest is there.
+fn lists(audit: &mut Audit, party: u32, folder: &ListDir) {
+    if matches!(folder, ListDir::Records(_)) && party_of(audit, party).word == Word::State {
+        audit.held.writes(party);
+    }
+}
+
 // What a store call does to the versions, at a place of the trail, by a party, with its mark and whether it created.
 fn called(
     rt: &impl Abort,
@@ -386,6 +422,7 @@ fn called(
     told: (Mark, bool),
 ) {
     match call {
+        StoreCall::List(folder) => lists(audit, at.1, folder),
         StoreCall::PutNew(path, bytes) => match version_of(path) {
             Some(version) => puts(rt, alloc, audit, at, version, bytes.as_slice(), told),
             None => {}
@@ -432,13 +469,70 @@ fn bounded(rt: &impl Abort, audit: &mut Audit, party: u32, reply: &Reply) {
     }
 }
 
-// The reply of a call of this party, whose epoch it may be.
+// Whether another party had an epoch of compactors before.
+fn has_rival(audit: &Audit, party: u32) -> bool {
+    let mut rival = false;
+    for opener in audit.openers.values() {
+        rival = rival || *opener != party;
+    }
+    rival
+}
+
+// An open of a compactor is done with an epoch that no open had before. It is at most that of the greatest record, and this is at most that
+// of the greatest manifest.
+fn opened(rt: &impl Abort, audit: &mut Audit, party: u32, epoch: u64) {
+    let heads = audit.heads;
+    assert!(rt; epoch <= heads.record_epoch, "the record is behind an open");
+    assert!(rt;
+        heads.record_epoch <= heads.compactor_epoch,
+        "the manifest is behind the record"
+    );
+    assert!(rt;
+        audit.openers.get(&epoch).is_none(),
+        "two opens of one epoch"
+    );
+    if heads.statuses.has_some() && has_rival(audit, party) {
+        one_more(&mut audit.counts.rivals);
+    }
+    let inserted: Result<_, _> = audit.openers.insert(epoch, party);
+    inserted.expect(rt, "memory");
+    audit.held.opens(party, epoch);
+}
+
+// A compaction is finished by a party.
+fn finished(rt: &impl Abort, audit: &mut Audit, party: u32) {
+    let heads = audit.heads;
+    if audit.held.is_led_by(party) && audit.held.leads(heads.compactor_epoch) {
+        check_finished(rt, &mut audit.counts, &mut audit.held, &heads.statuses);
+    }
+}
+
+// A call of this party is done.
+fn done(rt: &impl Abort, audit: &mut Audit, party: u32, word: Word) {
+    match word {
+        Word::Finish => finished(rt, audit, party),
+        Word::Manifest => audit.held.writes(party),
+        _ => {}
+    }
+}
+
+// An open of this party is done.
+fn epoch_replied(rt: &impl Abort, audit: &mut Audit, party: u32, word: Word, number: u64) {
+    let epoch = Some(number);
+    set_party(rt, audit, party, Party { word, epoch });
+    if word == Word::OpenCompactor {
+        opened(rt, audit, party, number);
+    }
+}
+
+// The reply of a call of this party.
 fn replied(rt: &impl Abort, audit: &mut Audit, party: u32, reply: &Reply) {
     let Party { word, epoch: _ } = party_of(audit, party);
     counted(&mut audit.counts, word, reply);
-    if let Reply::Epoch(number) = reply {
-        let epoch = Some(*number);
-        set_party(rt, audit, party, Party { word, epoch });
+    match reply {
+        Reply::Epoch(number) => epoch_replied(rt, audit, party, word, *number),
+        Reply::Done => done(rt, audit, party, word),
+        _ => {}
     }
 }
 
@@ -446,6 +540,7 @@ fn replied(rt: &impl Abort, audit: &mut Audit, party: u32, reply: &Reply) {
 fn started(rt: &impl Abort, audit: &mut Audit, party: u32, event: &Event) {
     if let Event::Start { call, .. } = event {
         let word = word_of(call.get());
+        audit.held.starts(call.get());
         let epoch = party_of(audit, party).epoch;
         set_party(rt, audit, party, Party { word, epoch });
     }
@@ -594,9 +689,12 @@ fn begun(rt: &impl Abort, alloc: Global, before: &MemoryStore, counts: Counts) -
             compactor_epoch: 0,
             record_epoch: 0,
             least: None,
+            statuses: Statuses::new(),
             tables: 0,
         },
         parties: BTreeMap::new(alloc),
+        openers: BTreeMap::new(alloc),
+        held: Held::new(),
         counts,
     };
     begin(rt, alloc, &mut audit, before, Log::Manifests);
@@ -626,7 +724,9 @@ fn ended(rt: &impl Abort, audit: Audit, run: Run<'_>) -> Counts {
 /// one that was collected, and then it isn't done. After each entry no manifest is removed that is the greatest committed one or that a
 /// checkpoint of its value names, nor the greatest record. Epochs never fall, the record's is never above that of the manifest, and a record
 /// with compactions keeps some, whose least id never falls. But for opens, a compactor and a writer put under the epoch of their last open
-/// alone. At the end, of each log, each version that was never removed stands as it was put first, none stands after them, and the boundary
+/// alone. An entry of a record goes, or is Compacted no more, only by a reset or by a compactor's statuses. No two opens of compactors have
+/// one epoch, and that of an open which is done is at most the record's. Where the epoch of a compactor is that of the greatest manifest,
+/// what it finishes is Compacted in the greatest record, which has an entry of it until a manifest has it. At the end, of each log, each version that was never removed stands as it was put first, none stands after them, and the boundary
 /// is below the greatest number and at or above each removed one.
 pub(crate) fn audited(rt: &impl Abort, alloc: Global, run: Run<'_>, counts: Counts) -> Counts {
     let mut audit = begun(rt, alloc, run.before, counts);

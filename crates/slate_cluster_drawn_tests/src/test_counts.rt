@@ -32,6 +32,17 @@ pub(crate) struct Counts {
     pub finishes: u64,
     pub states: u64,
     pub flushes: u64,
+    /// Opens of compactors that were done after another party's, where the record has a compaction.
+    pub rivals: u64,
+    /// Entries of records that resets dropped, and that statuses of compactors dropped.
+    pub reset_drops: u64,
+    pub trims: u64,
+    /// Entries that are Compacted no more.
+    pub ends: u64,
+    /// Compactions that a compactor finished whose epoch was that of the greatest manifest.
+    pub compacted: u64,
+    /// Records that were put while a compaction was pending of such a compactor.
+    pub pending: u64,
 }
 
 impl Counts {
@@ -53,6 +64,12 @@ impl Counts {
             finishes: 0,
             states: 0,
             flushes: 0,
+            rivals: 0,
+            reset_drops: 0,
+            trims: 0,
+            ends: 0,
+            compacted: 0,
+            pending: 0,
         }
     }
 }
@@ -68,10 +85,11 @@ pub(crate) fn check_least(rt: &impl Abort, found: &[(&str, u64, u64)]) {
 #[derive(Clone, Copy, PartialEq, Eq)]
 pub(crate) enum Word {
     OpenCompactor,
-    /// Any other call of a compactor that puts.
-    Compactor,
-    Schedule,
+    /// Writes of the manifest, of the record, and of both.
+    Manifest,
+    Record,
     State,
+    Schedule,
     Finish,
     Claim,
     Report,
@@ -85,8 +103,8 @@ pub(crate) enum Word {
 pub(crate) fn word_of(call: &Call) -> Word {
     match call {
         Call::OpenCompactor => Word::OpenCompactor,
-        Call::Refresh | Call::WriteRecord => Word::Compactor,
-        Call::WriteManifest { .. } => Word::Compactor,
+        Call::WriteManifest { .. } => Word::Manifest,
+        Call::WriteRecord => Word::Record,
         Call::Schedule { .. } => Word::Schedule,
         Call::WriteState { .. } => Word::State,
         Call::Finish { .. } => Word::Finish,

@@ -582,11 +582,48 @@ fn open_late(rt: &impl Abort, events: &mut Vec<Event>, draws: &mut Draws) {
     steps(rt, events, draws, late, 2);
 }
 
-// Beside compactors: now and then an open whose put may come late, or a party that is replaced and starts its first call, else half the
-// time a start.
+// The party at a place starts to finish each compaction, and half the time to fail one, for which no steps are needed.
+fn end_all(rt: &impl Abort, events: &mut Vec<Event>, draws: &mut Draws, place: usize) {
+    for tail in 0..COMPACTIONS {
+        let id = Ulid::from_parts(10, tail.saturating_add(1) as u128);
+        start_call(rt, events, draws, place, Call::Finish { id });
+    }
+    if draws.once_in(2) {
+        let id = draws.compaction();
+        start_call(rt, events, draws, place, Call::Fail { id });
+    }
+}
+
+// The compactor that leads refreshes, ends what it can, and writes the record before the manifest. Then it writes both, two times in
+// three, or the other one opens.
+fn settle(rt: &impl Abort, events: &mut Vec<Event>, draws: &mut Draws) {
+    let place = draws.leading;
+    steps(rt, events, draws, place, 12);
+    start_call(rt, events, draws, place, Call::Refresh);
+    steps(rt, events, draws, place, 6);
+    end_all(rt, events, draws, place);
+    start_call(rt, events, draws, place, Call::WriteRecord);
+    steps(rt, events, draws, place, 5);
+    if draws.once_in(3) {
+        let other = if place == 0 { 1 } else { 0 };
+        steps(rt, events, draws, other, 12);
+        start_first(rt, events, draws, other);
+        steps(rt, events, draws, other, 12);
+    } else {
+        let checkpoint = draws.new_id();
+        start_call(rt, events, draws, place, Call::WriteState { checkpoint });
+        steps(rt, events, draws, place, 12);
+    }
+}
+
+// Beside compactors: now and then an open whose put may come late, a compactor that ends what it can, or a party that is replaced and starts
+// its first call, else half the time a start.
 fn busy(rt: &impl Abort, events: &mut Vec<Event>, draws: &mut Draws, db: DbPath, place: usize) {
     if draws.once_in(40) {
         open_late(rt, events, draws);
+    }
+    if draws.once_in(40) {
+        settle(rt, events, draws);
     }
     if draws.once_in(60) {
         replace(rt, events, draws, db, place);

@@ -21,7 +21,7 @@ use Rattle.slate_cluster_laws.proofs.AfterEvents.{none_come, after_inv, course_i
 use Rattle.slate_cluster_laws.proofs.GoingOn.{run_world, run_split}
 use Rattle.slate_cluster_chain_laws.proofs.Epochs.{chain_fenced, chain_record_fenced}
 use Rattle.slate_cluster_pass_laws.proofs.ExactByRule.{exact_passes}
-use Rattle.slate_cluster_laws.proofs.Known.{known_as_told}
+use Rattle.slate_cluster_known_laws.proofs.Known.{known_as_told}
 use Rattle.slate_cluster_chain_laws.proofs.Links.{decodes}
 use Rattle.slate_cluster_chain_laws.proofs.Manifests.{log_laws}
 use Rattle.slate_cluster_chain_laws.proofs.Rising.{never_falls, records_never_fall, name_known}

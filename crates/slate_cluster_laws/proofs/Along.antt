@@ -175,7 +175,8 @@ module _ (m : Moment) where
       opened (Some p) t none found is = absurd cc
   does (Start n call) d is = started (party_of n m.world.parties) refl is
     where
-      test : (p : Party) (b : Bool) → may_start m.world call p ≡ b → party_of n m.world.parties ≡ Some p → (if b then Some (start_state (carrying n call m.world) n p.facts p.state call) else None) ≡ Some d → Done m (Start n call) (moment_with m m.chains d)
+      test : (p : Party) (b : Bool) → may_start m.world call p ≡ b → party_of n m.world.parties ≡ Some p → (if b then Some (start_state (carrying n call m.world) n p.facts p.state call) else None) ≡ Some d
+          → Done m (Start n call) (moment_with m m.chains d)
       test p true may at is =
           let same : start_state (carrying n call m.world) n p.facts p.state call ≡ d = cc in
           subst (λ (r : Transition). Done m (Start n call) (moment_with m m.chains r)) same (start_does n call p.facts p.state at may)
@@ -275,7 +276,8 @@ module _ (Whole : Moment → Type 0) (Of : Moment → ℕ → Party → Type 0) 
   along [] m i h = h
   along (e ∷ es) m i h = went (happens m.world e) refl (λ d is. along es (moment_after m e d) (event_inv m.world m.chains e d is i) (all_after_event m e d is i h))
     where
-      went : (o : Option Transition) → happens m.world e ≡ o → ((d : Transition) → happens m.world e ≡ Some d → All Whole Of (moment_of es (moment_after m e d))) → All Whole Of (elim o as (λ _. Moment) [ None ↦ m | Some d ↦ moment_of es (moment_after m e d) ])
+      went : (o : Option Transition) → happens m.world e ≡ o → ((d : Transition) → happens m.world e ≡ Some d → All Whole Of (moment_of es (moment_after m e d)))
+          → All Whole Of (elim o as (λ _. Moment) [ None ↦ m | Some d ↦ moment_of es (moment_after m e d) ])
       went None is f = h
       went (Some d) is f = f d is
 

@@ -38,7 +38,8 @@ by_party : (k : LogKind) (n : ℕ) (author : Author) (c c' : Chain k) → author
 by_party k n author c c' e (Stays same) = Stays same
 by_party k n author c c' e (Gets l a is same grown) = Gets l a is (ap (λ (x : Author). x.party) same ∙ e) grown
 
-step_changes : (w : World) (chains : Chains) (i : Inv w chains) (n : ℕ) (p : Party) (at : party_of n w.parties ≡ Some p) (moment : ℤ) (mark : Mark) (state : State) → StateKnows w.store chains n p.facts state → (k : LogKind) (d : List ℕ) → is_db_path d ≡ true
+step_changes : (w : World) (chains : Chains) (i : Inv w chains) (n : ℕ) (p : Party) (at : party_of n w.parties ≡ Some p) (moment : ℤ) (mark : Mark) (state : State) → StateKnows w.store chains n p.facts state
+    → (k : LogKind) (d : List ℕ) → is_db_path d ≡ true
     → Changed (By n) (chains k d) (chains_state w n state moment mark chains k d)
 step_changes w chains i n p at moment mark Resting known k d h = Stays refl
 step_changes w chains i n p at moment mark Halted known k d h = Stays refl

@@ -6,7 +6,7 @@ mod Puts
 mod Moves
 mod Lists
 mod Turns
-mod Maps
+pub mod Maps
 mod Advances
 pub mod FactsKept
 pub mod Rows
@@ -19,8 +19,8 @@ pub mod Passes
 pub mod Referenced
 pub mod Sweeps
 pub mod Steps
-mod Changing
-mod Opens
+pub mod Changing
+pub mod Opens
 mod StateCalls
 pub mod Calls
 mod Tallies
@@ -38,10 +38,7 @@ mod Holding
 mod OwnCalls
 mod Tops
 mod Elsewhere
-mod Pools
-mod StepsTold
-pub mod Known
-mod Bad
-mod OpenedEpochs
+pub mod Pools
+pub mod OpenedEpochs
 mod OpeningStands
 mod OpeningTags

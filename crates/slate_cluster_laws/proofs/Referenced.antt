@@ -31,6 +31,7 @@ use Rattle.slate_cluster_chain_laws.proofs.Links.{at_most, decodes, le_or_lt, sa
 use Rattle.slate_cluster_chain_laws.proofs.Manifests.{manifests_log}
 use Rattle.slate_cluster_chain_laws.proofs.Names.{names_below, some_number}
 use Rattle.slate_cluster_chain_laws.proofs.Spares.{not_needed}
+use Rattle.slate_cluster_laws.proofs.Rows.{same_number}
 use Rattle.slate_cluster_laws.proofs.Facts.{IsSound, IsValue, Grows}
 use Rattle.slate_cluster_laws.proofs.Maps.{number_order, insert_here, insert_else}
 
@@ -91,9 +92,6 @@ or_right false b h = h
 neither : (a b : Bool) → (a || b) ≡ false → a ≡ false
 neither true b h = absurd cc
 neither false b h = refl
-
-same_number : (a b : ℕ) → (a == b) ≡ true → a ≡ b
-same_number a b h = grind (arith, nat_tests)
 
 number_itself : (a b : ℕ) → a ≡ b → (a == b) ≡ true
 number_itself a b h = grind (arith, nat_tests)

@@ -185,7 +185,7 @@ same_place j d k db =
     (same_kind j k)
 
 -- a put of a phrase leaves the other chains
-other_chain : (b : Bool) (n : ℕ) (phrase : Phrase) (chains : Chains) (j : LogKind) (d : List ℕ) → AreApart j d (log_in phrase) (db_in phrase) → chains_put b (put_by n phrase) chains j d ≡ chains j d
+pub other_chain : (b : Bool) (n : ℕ) (phrase : Phrase) (chains : Chains) (j : LogKind) (d : List ℕ) → AreApart j d (log_in phrase) (db_in phrase) → chains_put b (put_by n phrase) chains j d ≡ chains j d
 other_chain b n (Reads k db phase) chains j d apart = none_put b chains j d
 other_chain b n (Uploads db table bytes) chains j d apart = none_put b chains j d
 other_chain b n (Fetches db m phase) chains j d apart = none_put b chains j d

@@ -4,15 +4,11 @@
 #![tactic(auto)]
 
 mod chains;
-mod events_done;
 mod openings;
-mod parties_known;
 mod safe_parties;
 
 pub use chains::{changed, list_top, put_elsewhere, taken_path, written_puts};
-pub use events_done::{bad_after, checkpoints_carried, ulids_carried};
 pub use openings::opening_stands;
-pub use parties_known::known_as_told;
 pub use safe_parties::{
     above_boundary, changes_fit, commits_hold, due_bounded, epochs_stand, late_put_is_refused,
     own_calls, own_commits, picks_spare, puts_stand, reads_answer, referenced_stand,

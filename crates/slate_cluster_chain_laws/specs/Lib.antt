@@ -1,0 +1,5 @@
+pub mod ChainSteps
+pub mod Raises
+pub mod RecordSteps
+pub mod Locals
+pub mod TableSteps

@@ -1,0 +1,3 @@
+mod StepsTold
+pub mod Known
+mod Bad

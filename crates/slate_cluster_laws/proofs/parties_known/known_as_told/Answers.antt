@@ -1,5 +1,0 @@
-use Rattle.slate_cluster_laws.proofs.Known as laws
-use Rattle.slate_cluster_laws.proofs.parties_known.known_as_told.Goals as goal
-
-pub returns : goal.returns
-returns c = λ specs events n accepted good. laws.known_as_told specs events accepted good n
