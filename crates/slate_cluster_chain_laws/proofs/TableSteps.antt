@@ -34,19 +34,19 @@ use Rattle.slate_cluster_chain_laws.specs.TableSteps.ComesFrom.{Stays, Flushed, 
 
 -- ---- tests
 
-either : (a b : Bool) → (a || b) ≡ true → (a ≡ true) ⊎ (b ≡ true)
+pub either : (a b : Bool) → (a || b) ≡ true → (a ≡ true) ⊎ (b ≡ true)
 either true b h = inl refl
 either false b h = inr h
 
-first_of : (a b : Bool) → a ≡ true → (a || b) ≡ true
+pub first_of : (a b : Bool) → a ≡ true → (a || b) ≡ true
 first_of true b h = refl
 first_of false b h = absurd cc
 
-second_of : (a b : Bool) → b ≡ true → (a || b) ≡ true
+pub second_of : (a b : Bool) → b ≡ true → (a || b) ≡ true
 second_of true b h = refl
 second_of false b h = h
 
-both_of : (a b : Bool) → (a && b) ≡ true → (a ≡ true) × (b ≡ true)
+pub both_of : (a b : Bool) → (a && b) ≡ true → (a ≡ true) × (b ≡ true)
 both_of true b h = (refl, h)
 both_of false b h = absurd cc
 
@@ -68,13 +68,13 @@ same_ids a b h = ap (λ x. (x, a.1)) (firsts a b h) ∙ ap (λ y. (b.0, y)) (sec
     seconds : (a b : ℕ × ℕ) → same_id a b ≡ true → a.1 ≡ b.1
     seconds a b h = grind (arith, nat_tests)
 
-same_tables : (a b : SsTableId) → same_table a b ≡ true → a ≡ b
+pub same_tables : (a b : SsTableId) → same_table a b ≡ true → a ≡ b
 same_tables (Wal a) (Wal b) h = ap (λ (n : ℕ). Wal n) (numbers_same a b h)
 same_tables (Compacted a) (Compacted b) h = ap (λ (id : ℕ × ℕ). Compacted id) (same_ids a b h)
 same_tables (Wal a) (Compacted b) h = absurd cc
 same_tables (Compacted a) (Wal b) h = absurd cc
 
-among_either : (xs ys : List SsTableId) (id : SsTableId) → is_among (xs ++ ys) id ≡ true → (is_among xs id ≡ true) ⊎ (is_among ys id ≡ true)
+pub among_either : (xs ys : List SsTableId) (id : SsTableId) → is_among (xs ++ ys) id ≡ true → (is_among xs id ≡ true) ⊎ (is_among ys id ≡ true)
 among_either [] ys id h = inr h
 among_either (x ∷ xs) ys id h =
     ⊎_elim
@@ -85,7 +85,7 @@ among_either (x ∷ xs) ys id h =
     (among_either xs ys id e))
     (either (same_table id x) (is_among (xs ++ ys) id) h)
 
-among_front : (xs ys : List SsTableId) (id : SsTableId) → is_among xs id ≡ true → is_among (xs ++ ys) id ≡ true
+pub among_front : (xs ys : List SsTableId) (id : SsTableId) → is_among xs id ≡ true → is_among (xs ++ ys) id ≡ true
 among_front [] ys id h = absurd cc
 among_front (x ∷ xs) ys id h =
     ⊎_elim
@@ -93,12 +93,12 @@ among_front (x ∷ xs) ys id h =
     (λ (e : is_among xs id ≡ true). second_of (same_table id x) (is_among (xs ++ ys) id) (among_front xs ys id e))
     (either (same_table id x) (is_among xs id) h)
 
-among_back : (xs ys : List SsTableId) (id : SsTableId) → is_among ys id ≡ true → is_among (xs ++ ys) id ≡ true
+pub among_back : (xs ys : List SsTableId) (id : SsTableId) → is_among ys id ≡ true → is_among (xs ++ ys) id ≡ true
 among_back [] ys id h = h
 among_back (x ∷ xs) ys id h = second_of (same_table id x) (is_among (xs ++ ys) id) (among_back xs ys id h)
 
 -- what holds of each holds of one among them
-all_of : (P : SsTableId → Bool) (xs : List SsTableId) (id : SsTableId) → list_all P xs ≡ true → is_among xs id ≡ true → P id ≡ true
+pub all_of : (P : SsTableId → Bool) (xs : List SsTableId) (id : SsTableId) → list_all P xs ≡ true → is_among xs id ≡ true → P id ≡ true
 all_of P [] id h among = absurd cc
 all_of P (x ∷ xs) id h among =
     let parts = both_of (P x) (list_all P xs) h in
@@ -108,7 +108,7 @@ all_of P (x ∷ xs) id h among =
     (either (same_table id x) (is_among xs id) among)
 
 -- among those that a test keeps
-kept_of : (P : SsTableId → Bool) (xs : List SsTableId) (id : SsTableId) → is_among (filter P xs) id ≡ true → (is_among xs id ≡ true) × (P id ≡ true)
+pub kept_of : (P : SsTableId → Bool) (xs : List SsTableId) (id : SsTableId) → is_among (filter P xs) id ≡ true → (is_among xs id ≡ true) × (P id ≡ true)
 kept_of P [] id h = absurd cc
 kept_of P (x ∷ xs) id h = by_test (P x) refl h (λ k. kept_of P xs id k)
   where
@@ -161,7 +161,7 @@ module _ (id : SsTableId) where
       among_either (tables_of_views tree.l0) (tables_of_views (views_of_runs tree.compacted)) id
       (subst (λ (ids : List SsTableId). is_among ids id ≡ true) (tables_append tree.l0 (views_of_runs tree.compacted)) h)
 
-  either_way : (trees : List LsmTreeState) → is_among (all_in trees) id ≡ true → (is_among (flushed_in trees) id ≡ true) ⊎ (is_among (runs_in trees) id ≡ true)
+  pub either_way : (trees : List LsmTreeState) → is_among (all_in trees) id ≡ true → (is_among (flushed_in trees) id ≡ true) ⊎ (is_among (runs_in trees) id ≡ true)
   either_way [] h = absurd cc
   either_way (tree ∷ trees) h =
       ⊎_elim
@@ -175,7 +175,7 @@ module _ (id : SsTableId) where
       (either_way trees e))
       (among_either (tables_of_views (views_of_tree tree)) (all_in trees) id (subst (λ (ids : List SsTableId). is_among ids id ≡ true) (tables_append (views_of_tree tree) (flat_map views_of_tree trees)) h))
 
-  flushed_there : (trees : List LsmTreeState) → is_among (flushed_in trees) id ≡ true → is_among (all_in trees) id ≡ true
+  pub flushed_there : (trees : List LsmTreeState) → is_among (flushed_in trees) id ≡ true → is_among (all_in trees) id ≡ true
   flushed_there [] h = absurd cc
   flushed_there (tree ∷ trees) h =
       subst (λ (ids : List SsTableId). is_among ids id ≡ true) (sym (tables_append (views_of_tree tree) (flat_map views_of_tree trees)))
@@ -238,7 +238,7 @@ module _ (n : ℕ) (old new : Manifest) (right : Right) (lawful : manifest_refus
           (still_listed table (tables_of new.core) new.external_dbs used old.external_dbs
           (both_of _ (list_all (used_stay (tables_of new.core) new.external_dbs) old.external_dbs) (keeps n old new right lawful).entries).1 is))
 
-  was_own : is_among (tables_of new.core) table ≡ true → is_owned new.external_dbs table ≡ true → is_among (tables_of old.core) table ≡ true → HasOwn old id
+  pub was_own : is_among (tables_of new.core) table ≡ true → is_owned new.external_dbs table ≡ true → is_among (tables_of old.core) table ≡ true → HasOwn old id
   was_own used own had = is_kept (is_owned old.external_dbs) (tables_of old.core) table had (stays_own used own)
 
   by_flush : is_among (tables_of new.core) table ≡ true → is_owned new.external_dbs table ≡ true → is_among (flushed_tables new.core) table ≡ true → ComesFrom right old id
@@ -271,7 +271,7 @@ module _ (n : ℕ) (old new : Manifest) (right : Right) (lawful : manifest_refus
 -- ---- along a chain
 
 -- no change attaches another database
-none_attaches : (o : Option ManifestChange) → attaches (right_by right_of o) ≡ false
+pub none_attaches : (o : Option ManifestChange) → attaches (right_by right_of o) ≡ false
 none_attaches None = refl
 none_attaches (Some (MergeTrees compactor trees outputs)) = refl
 none_attaches (Some _) = refl

@@ -1,0 +1,10 @@
+mod EachLink
+mod Marks
+mod Outputs
+mod NewViews
+mod OwnTables
+mod Stand
+mod OpeningObjects
+mod Starting
+mod Moving
+mod Moments
