@@ -26,7 +26,9 @@ fn places(mix: Mix) -> usize {
     }
 }
 
-// The place of the collector beside compactors.
+// The places of the first worker and of the collector beside compactors.
+const WORKER: usize = 2;
+
 const COLLECTOR: usize = 6;
 
 // How many compactions the opening record has.
@@ -594,21 +596,43 @@ fn end_all(rt: &impl Abort, events: &mut Vec<Event>, draws: &mut Draws, place: u
     }
 }
 
-// The compactor that leads refreshes, ends what it can, and writes the record before the manifest. Then it writes both, two times in
-// three, or the other one opens.
+// The compactor at a place schedules a compaction, and the first worker claims it, or another one, and reports it.
+fn work(rt: &impl Abort, events: &mut Vec<Event>, draws: &mut Draws, place: usize) {
+    let schedule = draws.schedule();
+    start_call(rt, events, draws, place, schedule);
+    steps(rt, events, draws, place, 5);
+    steps(rt, events, draws, WORKER, 12);
+    let claim = draws.claim(WORKER);
+    start_call(rt, events, draws, WORKER, claim);
+    steps(rt, events, draws, WORKER, 5);
+    let upload = draws.upload(WORKER);
+    start_call(rt, events, draws, WORKER, upload);
+    steps(rt, events, draws, WORKER, 1);
+    let report = draws.report(rt, *events.allocator(), WORKER);
+    start_call(rt, events, draws, WORKER, report);
+    steps(rt, events, draws, WORKER, 5);
+}
+
+// The compactor at a place opens, once what it did is over.
+fn open_again(rt: &impl Abort, events: &mut Vec<Event>, draws: &mut Draws, place: usize) {
+    steps(rt, events, draws, place, 12);
+    start_first(rt, events, draws, place);
+    steps(rt, events, draws, place, 12);
+}
+
+// The compactor that leads has work done, refreshes, ends what it can, and writes the record before the manifest. Then it writes both, two
+// times in three, or the other one opens.
 fn settle(rt: &impl Abort, events: &mut Vec<Event>, draws: &mut Draws) {
     let place = draws.leading;
     steps(rt, events, draws, place, 12);
+    work(rt, events, draws, place);
     start_call(rt, events, draws, place, Call::Refresh);
     steps(rt, events, draws, place, 6);
     end_all(rt, events, draws, place);
     start_call(rt, events, draws, place, Call::WriteRecord);
     steps(rt, events, draws, place, 5);
     if draws.once_in(3) {
-        let other = if place == 0 { 1 } else { 0 };
-        steps(rt, events, draws, other, 12);
-        start_first(rt, events, draws, other);
-        steps(rt, events, draws, other, 12);
+        open_again(rt, events, draws, if place == 0 { 1 } else { 0 });
     } else {
         let checkpoint = draws.new_id();
         start_call(rt, events, draws, place, Call::WriteState { checkpoint });

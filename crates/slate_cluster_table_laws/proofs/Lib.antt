@@ -6,5 +6,7 @@ mod OwnTables
 mod Stand
 mod OpeningObjects
 mod Starting
+mod HeldOutputs
+mod Merges
 mod Moving
 mod Moments

@@ -1,9 +1,10 @@
--- At each moment of a run: watermarks are at most floors, and what uploads and records name was put.
-use Rattle.std.proofs.Common.{◌≡◌, ◌≢◌, ℕ, ℤ, true, false, List, ◌∷◌, Option, Some, ◌⊎◌, inl, inr, ⊎_elim, sym, ap, ◌∙◌, subst}
+-- At each moment of a run: watermarks are at most floors, and what uploads, records, manifests and compactors name was put.
+use Rattle.std.proofs.Common.{◌≡◌, ◌≢◌, ℕ, ℤ, true, false, List, Option, Some, inl, inr, ⊎_elim, sym, ap, ◌∙◌, subst}
 use Rattle.slate_ids.specs.Ids.{is_db_path}
 use Rattle.slate_ids.specs.declared.object_path.ObjectPath.TheVariants as paths
 use Rattle.slate_model.specs.declared.manifest.Manifest.{Manifest}
 use Rattle.slate_model_records.specs.Records.{Record}
+use Rattle.slate_state_calls.specs.declared.compactor.Compactor.{Compactor}
 use Rattle.slate_store.specs.Store.{effect, stands_at}
 use Rattle.slate_store.specs.declared.mark.Mark.{Mark}
 use Rattle.slate_store.specs.declared.store_answer.StoreAnswer.{StoreAnswer}
@@ -14,16 +15,12 @@ use Rattle.slate_script_events.specs.declared.call.Call.{Call}
 use Rattle.slate_script_events.specs.declared.db_spec.DbSpec.{DbSpec}
 use Rattle.slate_script_events.specs.declared.event.Event.{Event}
 use Rattle.slate_cluster_protocol.specs.ByRows.{party_in}
-use Rattle.slate_cluster_protocol.specs.Calls.{is_unknown}
-use Rattle.slate_cluster_protocol.specs.Chains.{Link, Follows, Changed}
-use Rattle.slate_cluster_protocol.specs.Chains.Changed.{Stays as Unchanged, Gets}
+use Rattle.slate_cluster_protocol.specs.Calls.{facts_at_start, is_unknown}
+use Rattle.slate_cluster_protocol.specs.Chains.{Link, Follows}
 use Rattle.slate_cluster_chain_laws.proofs.TableSteps.{none_attaches}
-use Rattle.slate_state_updates.specs.RunTables.{outputs_of}
-use Rattle.slate_state_updates.specs.TableSets.{is_among}
 use Rattle.slate_model_tables.specs.declared.ss_table_id.SsTableId.{SsTableId}
-use Rattle.slate_model_tables.specs.declared.ss_table_id.SsTableId.TheVariants.{Compacted}
 use Rattle.slate_cluster_protocol.specs.Lawful.{IsAccepted, AreGood, chains_at_end, world_at_end}
-use Rattle.slate_cluster_protocol.specs.Logs.{Author, Chain, Chains, change_by, manifests, opening_manifests, phrase_of, records}
+use Rattle.slate_cluster_protocol.specs.Logs.{Author, Chain, Chains, change_by, manifests, phrase_of, records}
 use Rattle.slate_cluster_protocol.specs.Rows.{Standing, begin}
 use Rattle.slate_cluster_protocol.specs.Works.{asks, db_of}
 use Rattle.slate_cluster_protocol.specs.World.{HasDb, World, party_of, settled, state_after, wrote}
@@ -39,9 +36,11 @@ use Rattle.slate_cluster_laws.proofs.Runs.{Inv, other_chain}
 use Rattle.slate_cluster_laws.proofs.Steps.{author_in, work_db}
 use Rattle.slate_cluster_laws.proofs.Stores.{same_name}
 use Rattle.slate_cluster_table_laws.specs.Links.{EachValue}
-use Rattle.slate_cluster_table_laws.specs.Presence.{EachOutput, IsMadeBy, IsMerged, UploadsPut, WasPut}
-use Rattle.slate_cluster_table_laws.proofs.EachLink.{each_newest, each_next, each_weaker}
+use Rattle.slate_cluster_table_laws.specs.Presence.{EachOutput, UploadsPut, WasPut}
+use Rattle.slate_cluster_table_laws.proofs.EachLink.{each_next, each_weaker}
+use Rattle.slate_cluster_table_laws.proofs.HeldOutputs.{HeldHas, held_weaker, moved_has, start_has}
 use Rattle.slate_cluster_table_laws.proofs.Marks.{IsMarked, next_marked, none_begins}
+use Rattle.slate_cluster_table_laws.proofs.Merges.{MayBring, may_bring}
 use Rattle.slate_cluster_table_laws.proofs.Moving.{Leaves, known_more, moved_left, work_brings, work_tables}
 use Rattle.slate_cluster_table_laws.proofs.Moving.Leaves.{Same, More}
 use Rattle.slate_cluster_table_laws.proofs.NewViews.{EachNew, PutsTables, puts_new}
@@ -59,12 +58,9 @@ PutAt m db id = WasPut m.removed m.world.store db id
 abbrev pub OutputsAt : Moment → List ℕ → Record → Type 0
 OutputsAt m db r = EachOutput (PutAt m db) r.entries
 
--- the own tables of a manifest were, but for those that a compactor made
-abbrev pub PutOrMerged : Moment → List ℕ → ℕ × ℕ → Type 0
-PutOrMerged m db id = PutAt m db id ⊎ IsMerged (m.chains logs.Manifest db) id
-
+-- the own tables of a manifest were
 abbrev pub TablesAt : Moment → List ℕ → Manifest → Type 0
-TablesAt m db v = OwnAre (PutOrMerged m db) v
+TablesAt m db v = OwnAre (PutAt m db) v
 
 -- of the whole
 pub record WholeAt (m : Moment) : Type 0 where
@@ -75,6 +71,7 @@ pub record WholeAt (m : Moment) : Type 0 where
 -- of a party
 pub record PartyAt (m : Moment) (n : ℕ) (p : Party) : Type 0 where
   pub uploads : UploadsPut m.removed m.world.store p.facts
+  pub held : HeldHas (PutAt m p.facts.db) p.facts.compactor
   pub named : NamedIn p.facts.uploads p.state
 
 -- what was put stays so
@@ -84,17 +81,11 @@ Stays m m' = (db : List ℕ) (id : ℕ × ℕ) → PutAt m db id → PutAt m' db
 outputs_stay : (m m' : Moment) → Stays m m' → (db : List ℕ) (c : Chain logs.Compactions) → EachValue (OutputsAt m db) c → EachValue (OutputsAt m' db) c
 outputs_stay m m' stays db c h = each_weaker (OutputsAt m db) (OutputsAt m' db) (λ r own. outputs_weaker (PutAt m db) (PutAt m' db) (λ id put. stays db id put) r.entries own) c h
 
--- what a chain had merged stays
-merged_stay : (A : Author → Type 0) (c c' : Chain logs.Manifest) (id : ℕ × ℕ) → Changed A c c' → IsMerged c id → IsMerged c' id
-merged_stay A c c' id (Unchanged same) h = subst (λ (x : Chain logs.Manifest). IsMerged x id) (sym same) h
-merged_stay A c c' id (Gets l who by is same) h = subst (λ (x : Chain logs.Manifest). IsMerged x id) (sym same) (inr h)
+tables_stay : (m m' : Moment) → Stays m m' → (db : List ℕ) (c : Chain logs.Manifest) → EachValue (TablesAt m db) c → EachValue (TablesAt m' db) c
+tables_stay m m' stays db c h = each_weaker (TablesAt m db) (TablesAt m' db) (λ v own id has. stays db id (own id has)) c h
 
--- and what a compactor's new version merged
-merged_now : (c c' : Chain logs.Manifest) (l : Link Manifest Author) (author : Author) (id : ℕ × ℕ) → c' ≡ l ∷ c → l.by ≡ Some author → is_among (outputs_of (manifests.right author)) (Compacted id) ≡ true → IsMerged c' id
-merged_now c c' l author id same by h = subst (λ (x : Chain logs.Manifest). IsMerged x id) (sym same) (inl (subst (λ (o : Option Author). IsMadeBy o id) (sym by) h))
-
-tables_stay : (m m' : Moment) → Stays m m' → (db : List ℕ) (c : Chain logs.Manifest) → ((id : ℕ × ℕ) → IsMerged (m.chains logs.Manifest db) id → IsMerged (m'.chains logs.Manifest db) id) → EachValue (TablesAt m db) c → EachValue (TablesAt m' db) c
-tables_stay m m' stays db c merged h = each_weaker (TablesAt m db) (TablesAt m' db) (λ v own id has. ⊎_elim (λ (p : PutAt m db id). inl (stays db id p)) (λ (k : IsMerged (m.chains logs.Manifest db) id). inr (merged id k)) (own id has)) c h
+held_stay : (m m' : Moment) → Stays m m' → (db : List ℕ) (o : Option Compactor) → HeldHas (PutAt m db) o → HeldHas (PutAt m' db) o
+held_stay m m' stays db o h = held_weaker (PutAt m db) (PutAt m' db) (λ id put. stays db id put) o h
 
 -- ---- a step
 
@@ -136,26 +127,28 @@ module _ (m : Moment) (n : ℕ) (moment : ℤ) (mark : Mark) (facts : Facts) (ta
         (λ (ne : db ≢ facts.db). subst (EachValue (OutputsAt next db)) (sym (away logs.Compactions db ne)) stay)
         (same_name db facts.db)
 
-    next_tables : (old new : Link Manifest Author) (rest : Chain logs.Manifest) → next.chains logs.Manifest facts.db ≡ new ∷ old ∷ rest → new.by ≡ Some author → (f : Follows manifests old new) → f.author ≡ author → TablesAt next facts.db old.value
-        → TablesAt next facts.db new.value
-    next_tables old new rest same by f its before =
-        let P : ℕ × ℕ → Type 0 = PutOrMerged next facts.db in
+    -- what it may bring by its right
+    own_brings : MayBring (PutAt next facts.db) author.puts
+    own_brings = may_bring (PutAt next facts.db) n facts (held_stay m next step_stays facts.db facts.compactor own.held) task.call task.work brought.knows.fits
+
+    next_tables : (old new : Link Manifest Author) → (f : Follows manifests old new) → f.author ≡ author → TablesAt next facts.db old.value → TablesAt next facts.db new.value
+    next_tables old new f its before =
+        let P : ℕ × ℕ → Type 0 = PutAt next facts.db in
         let Q : SsTableId → Type 0 = OldOr P old.value.core in
-        let puts = work_tables Q n facts (λ id known. inr (inl (step_stays facts.db id (own.uploads id known)))) task.call task.work brought.knows.fits own.named in
+        let puts = work_tables Q n facts (λ id known. inr (step_stays facts.db id (own.uploads id known))) task.call task.work brought.knows.fits own.named in
         let news = puts_new Q f.author.puts f.author.now old.number old.value f.made f.makes (subst (λ (a : Author). PutsTables Q a.puts) (sym its) puts) (old_new P old.value.core) in
         own_put P old.number old.value new.value (manifests.right f.author) f.lawful (none_attaches (change_by f.author.puts)) (subst (λ (v : Manifest). EachNew Q v.core) (sym f.value) news) before
-        (λ id made. inr (merged_now (old ∷ rest) (next.chains logs.Manifest facts.db) new f.author id same (by ∙ ap (λ (a : Author). Some a) (sym its)) made))
+        (subst (λ (a : Author). MayBring P a.puts) (sym its) own_brings)
 
     stepped_tables : (db : List ℕ) → is_db_path db ≡ true → EachValue (TablesAt m db) (m.chains logs.Manifest db) → EachValue (TablesAt next db) (next.chains logs.Manifest db)
     stepped_tables db is h =
-        let log = brought.log logs.Manifest db is in
-        let stay = tables_stay m next step_stays db (m.chains logs.Manifest db) (λ id k. merged_stay (λ (a : Author). a ≡ author) (m.chains logs.Manifest db) (next.chains logs.Manifest db) id log.changed k) h in
+        let stay = tables_stay m next step_stays db (m.chains logs.Manifest db) h in
         ⊎_elim
         (λ (same : db ≡ facts.db).
         let here = subst (λ (d : List ℕ). EachValue (TablesAt next d) (m.chains logs.Manifest d)) same stay in
-        let own_log = brought.log logs.Manifest facts.db (subst (λ (d : List ℕ). is_db_path d ≡ true) same is) in
+        let log = brought.log logs.Manifest facts.db (subst (λ (d : List ℕ). is_db_path d ≡ true) same is) in
         subst (λ (d : List ℕ). EachValue (TablesAt next d) (next.chains logs.Manifest d)) (sym same)
-        (each_newest manifests (TablesAt next facts.db) author (next.chains logs.Manifest facts.db) (λ l by first. none_begins (TablesAt next facts.db) author l by first) next_tables (m.chains logs.Manifest facts.db) own_log.changed own_log.sound.chain here))
+        (each_next manifests (TablesAt next facts.db) author (λ l by first. none_begins (TablesAt next facts.db) author l by first) next_tables (m.chains logs.Manifest facts.db) (next.chains logs.Manifest facts.db) log.changed log.sound.chain here))
         (λ (ne : db ≢ facts.db). subst (EachValue (TablesAt next db)) (sym (away logs.Manifest db ne)) stay)
         (same_name db facts.db)
 
@@ -187,11 +180,27 @@ module _ (m : Moment) (n : ℕ) (moment : ℤ) (mark : Mark) (facts : Facts) (ta
     named_next standing (Same uploads db) = named_after standing.facts.uploads task.call standing.next (subst (λ (x : Uploads). Named x task.call) (sym uploads) own.named)
     named_next standing (More db upload bytes tag is answer same) = subst (λ (x : Standing). NamedIn x.facts.uploads (state_after task.call x.next)) (sym same) tt
 
-    stepped_party : PartyAt next n (settled task.call (standing_after m.world facts task moment mark))
-    stepped_party =
-        let leaves = moved_left facts task.call task.work moment answered in
-        let standing = standing_after m.world facts task moment mark in
-        record { uploads = uploads_after standing leaves; named = named_next standing leaves }
+    same_db : (standing : Standing) → Leaves facts task.work answered standing → standing.facts.db ≡ facts.db
+    same_db standing (Same uploads db) = db
+    same_db standing (More db upload bytes tag is answer same) = ap (λ (x : Standing). x.facts.db) same
+
+    -- what its compactor holds, by the records of its database
+    module _ (before : EachValue (OutputsAt m facts.db) (m.chains logs.Compactions facts.db)) where
+      after : EachValue (OutputsAt next facts.db) (next.chains logs.Compactions (db_of task.work))
+      after = subst (λ (d : List ℕ). EachValue (OutputsAt next facts.db) (next.chains logs.Compactions d)) (sym brought.knows.own) (stepped_outputs facts.db (i.named facts.db brought.has) before)
+
+      held_after : HeldHas (PutAt next facts.db) (standing_after m.world facts task moment mark).facts.compactor
+      held_after = moved_has (PutAt next facts.db) facts task.call (held_stay m next step_stays facts.db facts.compactor own.held) n next.world.store next.chains moment answered task.work after brought.brings
+
+      stepped_party : PartyAt next n (settled task.call (standing_after m.world facts task moment mark))
+      stepped_party =
+          let standing = standing_after m.world facts task moment mark in
+          let leaves = moved_left facts task.call task.work moment answered in
+          record {
+            uploads = uploads_after standing leaves;
+            held = subst (λ (d : List ℕ). HeldHas (PutAt next d) standing.facts.compactor) (sym (same_db standing leaves)) held_after;
+            named = named_next standing leaves;
+          }
 
 -- ---- each event
 
@@ -215,23 +224,28 @@ started m n call facts h =
     let same = start_same facts call in
     record {
       uploads = λ id known. subst (λ (d : List ℕ). PutAt m d id) (sym same.1) (h.uploads id (subst (λ (x : Uploads). is_unknown x id ≡ false) same.0 known));
+      held = subst (λ (d : List ℕ). HeldHas (PutAt m d) (facts_at_start facts call).compactor) (sym same.1) (start_has (PutAt m facts.db) facts h.held call);
       named = start_named facts call;
     }
 
 own_kept : (m : Moment) (e : Event) (q : Party) (m' : Moment) → Does m e q m' → Turn m e m' → All WholeAt PartyAt m → WholeAt m' → PartyAt m' (party_in e) q
-own_kept m e q m' (Comes n kind db tally none found) t h whole = record { uploads = λ id known. absurd (cc known); named = tt }
-own_kept m e q m' (Starts n call facts at may) t h whole = let own = started m n call facts (h.each n _ at) in record { uploads = own.uploads; named = own.named }
-own_kept m e q m' (Carries n call p at may) t h whole = let own = h.each n p at in record { uploads = own.uploads; named = own.named }
-own_kept m e q m' (Stops n p at) t h whole = record { uploads = (h.each n p at).uploads; named = tt }
+own_kept m e q m' (Comes n kind db tally none found) t h whole = record { uploads = λ id known. absurd (cc known); held = tt; named = tt }
+own_kept m e q m' (Starts n call facts at may) t h whole = let own = started m n call facts (h.each n _ at) in record { uploads = own.uploads; held = own.held; named = own.named }
+own_kept m e q m' (Carries n call p at may) t h whole = let own = h.each n p at in record { uploads = own.uploads; held = own.held; named = own.named }
+own_kept m e q m' (Stops n p at) t h whole = let own = h.each n p at in record { uploads = own.uploads; held = own.held; named = tt }
 own_kept m e q m' (Idles _ p at) t h whole = h.each (party_in e) p at
-own_kept m e q m' (Steps n moment mark facts task at) t h whole = stepped_party m n moment mark facts task t.inv at (h.each n (in_call facts task) at)
+own_kept m e q m' (Steps n moment mark facts task at) t h whole =
+    let has = (step_brings m n facts task moment mark t.inv at).has in
+    stepped_party m n moment mark facts task t.inv at (h.each n (in_call facts task) at) (h.whole.outputs facts.db has)
 
 others_kept : (m : Moment) (e : Event) (q : Party) (m' : Moment) → Does m e q m' → Turn m e m' → All WholeAt PartyAt m → WholeAt m' → (k : ℕ) → k ≢ party_in e → (p : Party) → party_of k m.world.parties ≡ Some p → PartyAt m k p → PartyAt m' k p
-others_kept m e q m' (Steps n moment mark facts task at) t h whole k ne p is own = record { uploads = λ id known. step_stays m n moment mark facts task t.inv at p.facts.db id (own.uploads id known); named = own.named }
-others_kept m e q m' (Comes n kind db tally none found) t h whole k ne p is own = record { uploads = own.uploads; named = own.named }
-others_kept m e q m' (Starts n call facts at may) t h whole k ne p is own = record { uploads = own.uploads; named = own.named }
-others_kept m e q m' (Carries n call r at may) t h whole k ne p is own = record { uploads = own.uploads; named = own.named }
-others_kept m e q m' (Stops n r at) t h whole k ne p is own = record { uploads = own.uploads; named = own.named }
+others_kept m e q m' (Steps n moment mark facts task at) t h whole k ne p is own =
+    let stays = step_stays m n moment mark facts task t.inv at in
+    record { uploads = λ id known. stays p.facts.db id (own.uploads id known); held = held_stay m m' stays p.facts.db p.facts.compactor own.held; named = own.named }
+others_kept m e q m' (Comes n kind db tally none found) t h whole k ne p is own = record { uploads = own.uploads; held = own.held; named = own.named }
+others_kept m e q m' (Starts n call facts at may) t h whole k ne p is own = record { uploads = own.uploads; held = own.held; named = own.named }
+others_kept m e q m' (Carries n call r at may) t h whole k ne p is own = record { uploads = own.uploads; held = own.held; named = own.named }
+others_kept m e q m' (Stops n r at) t h whole k ne p is own = record { uploads = own.uploads; held = own.held; named = own.named }
 others_kept m e q m' (Idles _ r at) t h whole k ne p is own = own
 
 each_kept : Kept WholeAt PartyAt
@@ -243,7 +257,7 @@ opening_whole : (specs : List DbSpec) → IsAccepted specs → WholeAt (opening_
 opening_whole specs accepted = record {
   marks = λ db has. opening_marked specs accepted db;
   outputs = λ db has. opening_there specs accepted db;
-  tables = λ db has. each_weaker (OwnAre (PutAt (opening_moment specs) db)) (TablesAt (opening_moment specs) db) (λ v own id is. inl (own id is)) (opening_manifests specs db) (opening_own specs accepted db);
+  tables = λ db has. opening_own specs accepted db;
 }
 
 pub marked_of_run : (specs : List DbSpec) (events : List Event) → IsAccepted specs → (db : List ℕ) → HasDb (world_at_end specs events) db → EachValue IsMarked (chains_at_end specs events logs.Manifest db)

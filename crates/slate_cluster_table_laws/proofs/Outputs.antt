@@ -44,7 +44,7 @@ module _ (P : ℕ × ℕ → Type 0) where
   abbrev Own : Compaction → Type 0
   Own c = EachTable P c.output_ssts
 
-  found_own : (id : ℕ × ℕ) (es : List Compaction) (c : Compaction) → entry_of id es ≡ Some c → EachOutput P es → Own c
+  pub found_own : (id : ℕ × ℕ) (es : List Compaction) (c : Compaction) → entry_of id es ≡ Some c → EachOutput P es → Own c
   found_own id [] c is h = absurd cc
   found_own id (d ∷ es) c is h = by (same_id d.id id) is (λ k. found_own id es c k h.1)
     where
@@ -64,11 +64,11 @@ module _ (P : ℕ × ℕ → Type 0) where
   both_own [] ds h k = k
   both_own (c ∷ es) ds h k = (h.0, both_own es ds h.1 k)
 
-  mapped_own : (f : Compaction → Compaction) → ((c : Compaction) → Own c → Own (f c)) → (es : List Compaction) → EachOutput P es → EachOutput P (map f es)
+  pub mapped_own : (f : Compaction → Compaction) → ((c : Compaction) → Own c → Own (f c)) → (es : List Compaction) → EachOutput P es → EachOutput P (map f es)
   mapped_own f keeps [] h = tt
   mapped_own f keeps (c ∷ es) h = (keeps c h.0, mapped_own f keeps es h.1)
 
-  entry_own : (c : Compaction) (es : List Compaction) → Own c → EachOutput P es → EachOutput P (inserted c es)
+  pub entry_own : (c : Compaction) (es : List Compaction) → Own c → EachOutput P es → EachOutput P (inserted c es)
   entry_own c es own h = both_own (filter (λ d. id_lt d.id c.id) es) (c ∷ filter (λ d. id_lt c.id d.id) es) (kept_own (λ d. id_lt d.id c.id) es h) (own, kept_own (λ d. id_lt c.id d.id) es h)
 
   -- ---- a step of one compaction

@@ -1,5 +1,5 @@
 -- Tables that were put.
-use Rattle.std.specs.Prelude.{◌≡◌, ◌⊎◌, ℕ, Bool, true, false, List, [], ◌∷◌, Option, Some, None}
+use Rattle.std.specs.Prelude.{◌≡◌, ◌⊎◌, ℕ, Bool, true, false, List, [], ◌∷◌}
 use Rattle.std.specs.List.{list_any}
 use Rattle.std.specs.BTreeMap.{is_at}
 use Rattle.slate_ids.specs.PathText.{path_cmp}
@@ -10,11 +10,7 @@ use Rattle.slate_model_tables.specs.declared.ss_table_handle.SsTableHandle.{SsTa
 use Rattle.slate_model_tables.specs.declared.ss_table_id.SsTableId.{SsTableId}
 use Rattle.slate_model_tables.specs.declared.ss_table_id.SsTableId.TheVariants.{Wal, Compacted}
 use Rattle.slate_store.specs.Store.{Store, stands_at}
-use Rattle.slate_state_updates.specs.RunTables.{outputs_of}
-use Rattle.slate_state_updates.specs.TableSets.{is_among}
-use Rattle.slate_txn_log.specs.declared.log_kind.LogKind.TheVariants as logs
 use Rattle.slate_cluster_protocol.specs.Calls.{is_unknown}
-use Rattle.slate_cluster_protocol.specs.Logs.{Author, Chain, manifests}
 use Rattle.slate_cluster_protocol.specs.declared.party.Facts.{Facts}
 
 -- whether a path is among those that were removed
@@ -43,13 +39,3 @@ EachOutput P (c ∷ entries) = EachTable P c.output_ssts × EachOutput P entries
 -- each table that a party uploaded was put at its database
 abbrev pub UploadsPut : List ObjectPath → Store → Facts → Type 0
 UploadsPut removed s facts = (id : ℕ × ℕ) → is_unknown facts.uploads id ≡ false → WasPut removed s facts.db id
-
--- an author's right has a table among its outputs
-abbrev pub IsMadeBy : Option Author → ℕ × ℕ → Type 0
-IsMadeBy None id = ⊥
-IsMadeBy (Some author) id = is_among (outputs_of (manifests.right author)) (Compacted id) ≡ true
-
--- a compactor whose merge is a version of the chain made a table
-abbrev pub IsMerged : Chain logs.Manifest → ℕ × ℕ → Type 0
-IsMerged [] id = ⊥
-IsMerged (l ∷ c) id = IsMadeBy l.by id ⊎ IsMerged c id
