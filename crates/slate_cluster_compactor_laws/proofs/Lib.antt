@@ -11,4 +11,4 @@ mod Starts
 mod Wholes
 mod Openings
 mod EachMoment
-mod Laws
+pub mod Laws

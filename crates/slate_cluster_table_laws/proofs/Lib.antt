@@ -7,6 +7,7 @@ mod Stand
 mod OpeningObjects
 mod Starting
 mod HeldOutputs
+pub mod Merging
 mod Merges
 mod Moving
 mod Moments

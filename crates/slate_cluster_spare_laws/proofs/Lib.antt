@@ -1,0 +1,3 @@
+mod SpareTables
+mod Pending
+mod Stays
