@@ -1,4 +1,4 @@
-mod Growing
+pub mod Growing
 mod Works
 mod Greatest
 mod Held

@@ -1,5 +1,5 @@
-mod EachLink
-mod Marks
+pub mod EachLink
+pub mod Marks
 mod Outputs
 mod NewViews
 mod OwnTables
@@ -10,4 +10,4 @@ mod HeldOutputs
 pub mod Merging
 mod Merges
 mod Moving
-mod Moments
+pub mod Moments
