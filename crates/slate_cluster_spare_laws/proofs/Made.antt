@@ -1,5 +1,5 @@
 -- What a step leaves of the chains of its database; the tables that a merge brings are from the least compaction of the greatest record on.
-use Rattle.std.proofs.Common.{◌≡◌, ◌≢◌, ℕ, ℤ, ◌≤◌, true, List, [], ◌∷◌, map, Some, None, sym, ◌∙◌, subst, arith}
+use Rattle.std.proofs.Common.{◌≡◌, ◌≢◌, ℕ, ℤ, ◌≤◌, true, List, [], ◌∷◌, map, Some, None, sym, subst, arith}
 use Rattle.slate_model.specs.declared.manifest.Manifest.{Manifest}
 use Rattle.slate_model_tables.specs.declared.ss_table_id.SsTableId.TheVariants.{Compacted}
 use Rattle.slate_state_compactor.specs.Local.{pending_outputs}
@@ -17,17 +17,18 @@ use Rattle.slate_txn_log.specs.declared.log_kind.LogKind.TheVariants as logs
 use Rattle.slate_cluster_protocol.specs.Chains.{Changed, IsChain, Link}
 use Rattle.slate_cluster_protocol.specs.Holding.{AtMostTop, EpochsStand}
 use Rattle.slate_cluster_protocol.specs.Logs.{Author, Chain, Chains, Puts, change_by, manifests, phrase_of, records}
-use Rattle.slate_cluster_protocol.specs.World.{party_of, wrote}
+use Rattle.slate_cluster_protocol.specs.World.{party_of}
 use Rattle.slate_cluster_protocol.specs.declared.party.Facts.{Facts}
 use Rattle.slate_cluster_protocol.specs.declared.party.Task.{Task}
 use Rattle.slate_cluster_chain_laws.proofs.Epochs.{passes}
 use Rattle.slate_cluster_chain_laws.specs.Locals.{IsHeldIn, ObeyOutputs}
 use Rattle.slate_cluster_laws.proofs.Along.{Moment, StepBrings, in_call, moment_stepped, step_brings}
-use Rattle.slate_cluster_laws.proofs.Runs.{Inv, other_chain}
-use Rattle.slate_cluster_laws.proofs.Steps.{author_in, work_db}
+use Rattle.slate_cluster_laws.proofs.Runs.{Inv}
+use Rattle.slate_cluster_laws.proofs.Steps.{author_in}
 use Rattle.slate_cluster_compactor_laws.specs.Pending.{HoldsPending, IsTopEpoch, OfTop}
 use Rattle.slate_cluster_spare_laws.specs.Spares.{least_top}
 use Rattle.slate_cluster_table_laws.proofs.Merging.{may_bring}
+use Rattle.slate_cluster_table_laws.proofs.Moments.{away}
 use Rattle.slate_cluster_spare_laws.proofs.Pending.{pending_late}
 
 -- what a step, by an author, leaves of the chains: those of other databases stay, each of its own stays or gets one version on top, and a table that the
@@ -66,10 +67,6 @@ module _ (m : Moment) (n : ℕ) (moment : ℤ) (mark : Mark) (facts : Facts) (ta
   brought : StepBrings m n facts task moment mark
   brought = step_brings m n facts task moment mark i at
 
-  -- a step leaves the chains of other databases
-  away : (k : LogKind) (d : List ℕ) → d ≢ facts.db → next.chains k d ≡ m.chains k d
-  away k d ne = other_chain (wrote m.world.store next.world.store) n (phrase_of task.work) m.chains k d (λ log db. ne (db ∙ (work_db task.work ∙ brought.knows.own)))
-
   -- a table that a merge brings is from the least compaction on
   made : (id : ℕ × ℕ) (old : Link Manifest Author) (rest : Chain logs.Manifest) → m.chains logs.Manifest facts.db ≡ old ∷ rest → manifests.fence author old.value ≡ None
       → is_among (outputs_of (manifests.right author)) (Compacted id) ≡ true → least_top (m.chains logs.Compactions facts.db) ≤ id.0
@@ -93,6 +90,6 @@ module _ (m : Moment) (n : ℕ) (moment : ℤ) (mark : Mark) (facts : Facts) (ta
         manifest_changed = log.changed;
         record_chain = record_log.sound.chain;
         record_changed = record_log.changed;
-        away = away;
+        away = away m n moment mark facts task i at;
         made = made;
       }

@@ -26,7 +26,7 @@ use Rattle.slate_cluster_protocol.specs.Referenced.{IsReferenced, version_at}
 use Rattle.slate_cluster_protocol.specs.World.{HasDb}
 use Rattle.slate_cluster_chain_laws.proofs.Links.{at_most, le_or_lt, link_here, link_there, same_or_not}
 use Rattle.slate_cluster_chain_laws.proofs.Rising.{name_known}
-use Rattle.slate_cluster_chain_laws.proofs.TableSteps.{among_back, among_front, kept_of}
+use Rattle.slate_cluster_chain_laws.proofs.TableSteps.{among_back, among_front, both_of, kept_of}
 use Rattle.slate_cluster_chain_laws.specs.TableSteps.{HasOwn}
 use Rattle.slate_cluster_protocol.specs.Rising.{NameKnown}
 use Rattle.slate_ids.specs.Ids.{is_db_path}
@@ -46,10 +46,6 @@ use Rattle.slate_cluster_spare_laws.proofs.Later.{IsFrom, IsLater, step_later, s
 use Rattle.slate_cluster_spare_laws.proofs.Onward.{run_keeps}
 
 -- ---- what a pick is
-
-both_of : (a b : Bool) → (a && b) ≡ true → (a ≡ true) × (b ≡ true)
-both_of true b h = (refl, h)
-both_of false b h = absurd cc
 
 clash : (b : Bool) → not b ≡ true → b ≡ true → ⊥
 clash true h k = cc h

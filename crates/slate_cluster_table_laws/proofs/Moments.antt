@@ -103,7 +103,7 @@ module _ (m : Moment) (n : ℕ) (moment : ℤ) (mark : Mark) (facts : Facts) (ta
   step_stays db id h = put_stays m.removed mark (asks task.work) moment m.world.store db id h
 
   -- a step leaves the chains of other databases
-  away : (k : LogKind) (d : List ℕ) → d ≢ facts.db → next.chains k d ≡ m.chains k d
+  pub away : (k : LogKind) (d : List ℕ) → d ≢ facts.db → next.chains k d ≡ m.chains k d
   away k d ne = other_chain (wrote m.world.store next.world.store) n (phrase_of task.work) m.chains k d (λ log db. ne (db ∙ (work_db task.work ∙ brought.knows.own)))
 
   stepped_marked : (db : List ℕ) → is_db_path db ≡ true → EachValue IsMarked (m.chains logs.Manifest db) → EachValue IsMarked (next.chains logs.Manifest db)
