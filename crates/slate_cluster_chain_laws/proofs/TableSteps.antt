@@ -26,10 +26,11 @@ use Rattle.slate_txn_changes.specs.Changes.{right_by}
 use Rattle.slate_txn_log.specs.declared.right.Right.{Right}
 use Rattle.slate_cluster_protocol.specs.Chains.{IsChain}
 use Rattle.slate_cluster_protocol.specs.Logs.{Chain, change_by, manifests}
+use Rattle.slate_cluster_protocol.specs.Reach.{HasOwn}
 use Rattle.slate_txn_log.specs.declared.log_kind.LogKind.TheVariants as logs
 use Rattle.slate_cluster_chain_laws.proofs.ChainSteps.{each_step}
 use Rattle.slate_cluster_chain_laws.specs.ChainSteps.{EachStep}
-use Rattle.slate_cluster_chain_laws.specs.TableSteps.{ComesFrom, HasOwn, OwnTablesCome}
+use Rattle.slate_cluster_chain_laws.specs.TableSteps.{ComesFrom, OwnTablesCome}
 use Rattle.slate_cluster_chain_laws.specs.TableSteps.ComesFrom.{Stays, Flushed, Made}
 
 -- ---- tests

@@ -1,16 +1,12 @@
 -- From one manifest to the next: where the tables of its database come from.
 use Rattle.std.specs.Prelude.{◌≡◌, ℕ, ◌≤◌, true}
-use Rattle.slate_model.specs.Externals.{owned}
 use Rattle.slate_model.specs.declared.manifest.Manifest.{Manifest}
 use Rattle.slate_model_tables.specs.declared.ss_table_id.SsTableId.TheVariants.{Compacted}
 use Rattle.slate_state_updates.specs.FlushedTables.{least_tick}
 use Rattle.slate_state_updates.specs.RunTables.{outputs_of}
 use Rattle.slate_state_updates.specs.TableSets.{is_among}
 use Rattle.slate_txn_log.specs.declared.right.Right.{Right}
-
--- a table of a manifest's trees that no entry of another database lists
-abbrev pub HasOwn : Manifest → ℕ × ℕ → Type 0
-HasOwn m id = is_among (owned m) (Compacted id) ≡ true
+use Rattle.slate_cluster_protocol.specs.Reach.{HasOwn}
 
 -- the old manifest has it; or a flush brings it, which is from the old floor and the old watermark on; or a compactor does, which made it
 pub data ComesFrom (right : Right) (old : Manifest) (id : ℕ × ℕ) : Type 0 where

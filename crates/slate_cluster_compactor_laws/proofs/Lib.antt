@@ -8,7 +8,7 @@ mod OpenSteps
 mod StateSteps
 mod OwnParty
 mod Starts
-mod Wholes
-mod Openings
-mod EachMoment
+pub mod Wholes
+pub mod Openings
+pub mod EachMoment
 pub mod Laws

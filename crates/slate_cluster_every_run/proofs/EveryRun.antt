@@ -17,7 +17,7 @@ use Rattle.slate_cluster_protocol.specs.Safe.{IsSafe}
 use Rattle.slate_cluster_protocol.specs.Specs.{opening_world}
 use Rattle.slate_cluster_protocol.specs.Trails.{numbers_of, store_of, told}
 use Rattle.slate_cluster_protocol.specs.World.{World, HasDb}
-use Rattle.slate_cluster_laws.proofs.AfterEvents.{none_come, after_inv, course_inv, course_collected}
+use Rattle.slate_cluster_laws.proofs.AfterEvents.{none_come, after_inv, course_inv}
 use Rattle.slate_cluster_laws.proofs.GoingOn.{run_world, run_split}
 use Rattle.slate_cluster_chain_laws.proofs.Epochs.{chain_fenced, chain_record_fenced}
 use Rattle.slate_cluster_pass_laws.proofs.ExactByRule.{exact_passes}
@@ -31,6 +31,7 @@ use Rattle.slate_cluster_laws.proofs.Runs.{Inv}
 use Rattle.slate_cluster_laws.proofs.Safety.{is_safe, run_rises}
 use Rattle.slate_cluster_laws.proofs.Trails.{run_tells}
 use Rattle.slate_cluster_pass_laws.proofs.Undisturbed.{manifests_begun, passes_alone}
+use Rattle.slate_cluster_spare_laws.proofs.RemovedTables.{course_collected}
 
 -- a boundary that isn't 0 is below the greatest number; so each is, where there is a number
 below_some : (bound most : ℕ) → (0 < bound → bound < most) → 0 < most → bound < most
@@ -57,7 +58,7 @@ Keep = (n : ℕ) (old new : Record) (right : Right) → record_refusal_of n old 
 module _ (keep : Keep) (specs : List DbSpec) (accepted : IsAccepted specs) (events : List Event) (good : AreGood specs events) where
   -- what a run removed is not reachable at its end
   run_safe : IsSafe (course_after specs events).world (chains_at_end specs events) (gone_after specs events)
-  run_safe = is_safe (course_after specs events).world (chains_at_end specs events) (course_inv specs events accepted good) (gone_after specs events) (course_collected specs events accepted good)
+  run_safe = is_safe (course_after specs events).world (chains_at_end specs events) (course_inv specs events accepted good) (gone_after specs events) (course_collected specs accepted events good)
 
   lawful_at : LawfulAt specs events
   lawful_at =

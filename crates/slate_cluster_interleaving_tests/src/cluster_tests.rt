@@ -115,13 +115,13 @@ const PASSES: [(GcMessage, bool); 6] = [
     (GcMessage::Manifest, true),
     (GcMessage::Wal, false),
     (GcMessage::WalFence, false),
-    (GcMessage::Compacted, false),
+    (GcMessage::Compacted, true),
     (GcMessage::Compactions, true),
     (GcMessage::Detach, false),
 ];
 
 #[test]
-fn manifests_and_records_have_a_pass(rt: HostRuntime) {
+fn manifests_records_and_tables_have_a_pass(rt: HostRuntime) {
     for (pass, starting) in &PASSES {
         assert!(rt; starts(&rt, rt.alloc(), *pass, FilterWord::All) == *starting);
     }

@@ -289,6 +289,26 @@ module _ (Whole : Moment → Type 0) (Of : Moment → ℕ → Party → Type 0) 
   pub along_run : (specs : List DbSpec) (events : List Event) → IsAccepted specs → Whole (opening_moment specs) → All Whole Of (moment_of events (opening_moment specs))
   along_run specs events accepted h = along events (opening_moment specs) (opening_inv specs accepted) (opens specs h)
 
+-- ---- the moments of a run
+
+-- a moment to which events lead from a first one, of which none is bad
+pub data LeadsTo (first : Moment) : Moment → Type 0 where
+  Begins : LeadsTo first first
+  Goes : (m : Moment) (e : Event) (d : Transition) → LeadsTo first m → happens m.world e ≡ Some d → LeadsTo first (moment_after m e d)
+
+pub inv_there : (first m : Moment) → Inv first.world first.chains → LeadsTo first m → Inv m.world m.chains
+inv_there first m i Begins = i
+inv_there first m i (Goes before e d to is) = event_inv before.world before.chains e d is (inv_there first before i to)
+
+-- what each event keeps holds there
+pub all_there : (Whole : Moment → Type 0) (Of : Moment → ℕ → Party → Type 0) → Kept Whole Of → (first m : Moment) → Inv first.world first.chains → All Whole Of first → LeadsTo first m → All Whole Of m
+all_there Whole Of kept first m i h Begins = h
+all_there Whole Of kept first m i h (Goes before e d to is) = all_after_event Whole Of kept before e d is (inv_there first before i to) (all_there Whole Of kept first before i h to)
+
+-- so it does at each moment of a run on accepted databases
+pub all_in_run : (Whole : Moment → Type 0) (Of : Moment → ℕ → Party → Type 0) → Kept Whole Of → (specs : List DbSpec) → IsAccepted specs → Whole (opening_moment specs) → (m : Moment) → LeadsTo (opening_moment specs) m → All Whole Of m
+all_in_run Whole Of kept specs accepted h m to = all_there Whole Of kept (opening_moment specs) m (opening_inv specs accepted) (opens Whole Of kept specs h) to
+
 -- ---- the moment at the end
 
 pub its_world : (es : List Event) (m : Moment) → (moment_of es m).world ≡ world_after es m.world

@@ -1,19 +1,15 @@
 -- What a call knows of its work, and what a step of it brings.
-use Rattle.std.proofs.Common.{◌≡◌, ℕ, ℤ, Bool, true, false, List, [], ◌∷◌, Option, Some, None, Ok, Err, refl, sym, subst}
+use Rattle.std.proofs.Common.{◌≡◌, ◌⊎◌, inl, inr, ℕ, ℤ, Bool, true, false, List, [], ◌∷◌, Option, Some, None, Ok, Err, refl, sym, subst}
 use Rattle.slate_txn_changes.specs.LogWorks.{WorkGoes, work_goes}
 use Rattle.slate_txn_changes.specs.declared.log_work.LogEnd.{LogEnd}
 use Rattle.slate_txn_changes.specs.declared.log_work.LogEnd.TheVariants.{Absent, Unchanged, Committed}
-use Rattle.slate_txn_changes.specs.declared.log_work.LogWork.{LogWork}
-use Rattle.slate_txn_changes.specs.declared.log_work.LogWork.TheVariants.{Reading, Committing}
 use Rattle.slate_state_compactor.specs.Local.{finished, failed}
 use Rattle.slate_state_compactor.specs.declared.local_state.LocalState.{LocalState}
 use Rattle.slate_state_calls.specs.Commits.{ManifestChanging, RecordChanging, manifest_put, record_put}
 use Rattle.slate_state_calls.specs.Opening.{OpenGoes, open_goes}
 use Rattle.slate_state_calls.specs.StateSteps.{StateGoes, state_goes}
 use Rattle.slate_state_calls.specs.declared.compactor.Compactor.{Compactor}
-use Rattle.slate_state_calls.specs.declared.open_phase.OpenPhase.TheVariants as opening
 use Rattle.slate_state_calls.specs.declared.state_phase.StatePhase.{StatePhase}
-use Rattle.slate_state_calls.specs.declared.state_phase.StatePhase.TheVariants as compacting
 use Rattle.slate_state_calls.specs.declared.state_start.StateStart.{StateStart}
 use Rattle.slate_state_calls.specs.declared.state_start.StateStart.TheVariants as starts
 use Rattle.slate_script_events.specs.declared.call.Call.{Call}
@@ -54,7 +50,7 @@ use Rattle.slate_state_updates.specs.declared.manifest_change.ManifestChange.The
 use Rattle.slate_cluster_protocol.specs.Calls.{end_of, facts_after, facts_at_start, facts_with, has_call, local_in, refusal_at_start, state_phase, unless_open, with_held, Next, Go, Finish}
 use Rattle.slate_cluster_protocol.specs.Chains.{link_at}
 use Rattle.slate_cluster_protocol.specs.Holding.{Fits, FitsState, IsOfLog, collects_here}
-use Rattle.slate_cluster_protocol.specs.Logs.{Chains, Held, Puts, OfManifest, Phrase, Collects, log_of, manifests, records, manifest_puts, record_puts, change_phrase, collect_phrase, pass_phrase, phrase_of}
+use Rattle.slate_cluster_protocol.specs.Logs.{Chains, OfManifest, log_of, manifests, records, collect_phrase, pass_phrase, phrase_of}
 use Rattle.slate_cluster_protocol.specs.Referenced.{IsReferenced}
 use Rattle.slate_cluster_protocol.specs.Rows.{Standing, begin, begin_unless, compactor_on, first_next, manifest_on, moved, open_on, pass_on, put_on, record_on, state_on}
 use Rattle.slate_cluster_protocol.specs.Works.{db_of, pass_ways}
@@ -69,7 +65,7 @@ use Rattle.slate_cluster_laws.proofs.Opens.{Given, OpenBrings, OpenKnows, Raised
 use Rattle.slate_cluster_laws.proofs.Passes.{bounded_pass}
 use Rattle.slate_cluster_laws.proofs.Referenced.{FetchBrings, referenced_begins}
 use Rattle.slate_cluster_laws.proofs.StateCalls.{BeginsAs, StateBrings, state_begins, state_brings}
-use Rattle.slate_cluster_laws.proofs.Steps.{ByPass, CollectKnows, CollectBrings, PhraseKnows, PhraseBrings, by_phase}
+use Rattle.slate_cluster_laws.proofs.Steps.{ByPass, CollectKnows, CollectBrings, PhraseKnows, PhraseBrings}
 
 -- ---- what is known
 
@@ -326,15 +322,16 @@ upload_is_id Writer table first last h = h
 upload_is_id Worker table first last h = h
 upload_is_id _ table first last h = absurd cc
 
--- a pass that a party may start is one over a log, so far
-pub over_log : (kind : PartyKind) (pass : GcMessage) (min_age : ℕ) (dry_run : Bool) (filter : FilterWord) → has_call kind (Pass pass min_age dry_run filter) ≡ true → IsOfLog pass
-over_log Collector of.Manifest min_age dry_run filter h = refl
-over_log Collector of.Compactions min_age dry_run filter h = refl
-over_log Writer pass min_age dry_run filter h = absurd cc
-over_log CompactorKind pass min_age dry_run filter h = absurd cc
-over_log Worker pass min_age dry_run filter h = absurd cc
-over_log Holder pass min_age dry_run filter h = absurd cc
-over_log Collector _ min_age dry_run filter h = absurd cc
+-- a pass that a party may start is one over a log or over tables, so far
+pub over_logs_or_tables : (kind : PartyKind) (pass : GcMessage) (min_age : ℕ) (dry_run : Bool) (filter : FilterWord) → has_call kind (Pass pass min_age dry_run filter) ≡ true → IsOfLog pass ⊎ (pass ≡ of.Compacted)
+over_logs_or_tables Collector of.Manifest min_age dry_run filter h = inl refl
+over_logs_or_tables Collector of.Compactions min_age dry_run filter h = inl refl
+over_logs_or_tables Collector of.Compacted min_age dry_run filter h = inr refl
+over_logs_or_tables Writer pass min_age dry_run filter h = absurd cc
+over_logs_or_tables CompactorKind pass min_age dry_run filter h = absurd cc
+over_logs_or_tables Worker pass min_age dry_run filter h = absurd cc
+over_logs_or_tables Holder pass min_age dry_run filter h = absurd cc
+over_logs_or_tables Collector _ min_age dry_run filter h = absurd cc
 
 -- and none that detaches
 over_here : (kind : PartyKind) (pass : GcMessage) (min_age : ℕ) (dry_run : Bool) (filter : FilterWord) → has_call kind (Pass pass min_age dry_run filter) ≡ true → collects_here pass ≡ true
@@ -344,30 +341,6 @@ over_here CompactorKind pass min_age dry_run filter h = absurd cc
 over_here Worker pass min_age dry_run filter h = absurd cc
 over_here Holder pass min_age dry_run filter h = absurd cc
 over_here Collector _ min_age dry_run filter h = refl
-
--- what is listed and deleted is of a log
-abbrev pub OfLog : Phrase → Type 0
-OfLog (Collects db pass phase) = IsOfLog pass
-OfLog _ = Unit {0}
-
-change_of_log : (k : LogKind) (db : List ℕ) (puts : Puts) (work : LogWork (Held k)) → OfLog (change_phrase k db puts work)
-change_of_log k db puts (Reading phase) = tt
-change_of_log k db puts (Committing now phase) = tt
-
-pub work_of_log : (facts : Facts) (call : Call) (work : Work) → has_call facts.kind call ≡ true → Fits facts call work → OfLog (phrase_of work)
-work_of_log facts call (works.Manifests db p) asked fits = change_of_log logs.Manifest db (manifest_puts p.change) p.work
-work_of_log facts call (works.Records db p) asked fits = change_of_log logs.Compactions db (record_puts p.change) p.work
-work_of_log facts call (works.PutTable db upload bytes) asked fits = tt
-work_of_log facts call (works.Pass db settings filter (Removing work)) asked fits = change_of_log logs.Manifest db (OfManifest DropExpired) work
-work_of_log facts call (works.Pass db settings filter (Collecting at phase)) asked fits =
-    let log = over_log facts.kind settings.pass settings.options.min_age settings.options.dry_run filter (subst (λ (c : Call). has_call facts.kind c ≡ true) fits asked) in
-    by_phase OfLog db settings.pass (λ k read. tt) (λ n fetch. tt) (λ collect. log) phase
-work_of_log facts call (works.Opening db (opening.Raising p)) asked fits = change_of_log logs.Manifest db (manifest_puts p.change) p.work
-work_of_log facts call (works.Opening db (opening.OnRecord step m p)) asked fits = change_of_log logs.Compactions db (record_puts p.change) p.work
-work_of_log facts call (works.Opening db opening.Over) asked fits = tt
-work_of_log facts call (works.Compacting db (compacting.OnRecord step p)) asked fits = change_of_log logs.Compactions db (record_puts p.change) p.work
-work_of_log facts call (works.Compacting db (compacting.OnManifest step p)) asked fits = change_of_log logs.Manifest db (manifest_puts p.change) p.work
-work_of_log facts call (works.Compacting db compacting.Over) asked fits = tt
 
 module _ (s : Store) (chains : Chains) (n : ℕ) (facts : Facts) where
   -- a call of a compactor on its state begins with the compactor that is held

@@ -63,7 +63,7 @@ use Rattle.slate_cluster_protocol.specs.Reach.{IsSpare}
 use Rattle.slate_cluster_protocol.specs.Referenced.{IsReferenced}
 use Rattle.slate_cluster_protocol.specs.Rows.{compactor_on, manifest_on, moved, open_on, pass_on, record_on, state_on}
 use Rattle.slate_cluster_protocol.specs.Runs.{opening}
-use Rattle.slate_cluster_protocol.specs.Safe.{IsCollected, AllCollected}
+use Rattle.slate_cluster_protocol.specs.Safe.{EachPath, IsCollectedVersion}
 use Rattle.slate_cluster_protocol.specs.Specs.{opening_world}
 use Rattle.slate_cluster_protocol.specs.Works.{asks}
 use Rattle.slate_cluster_protocol.specs.World.{World, HasDb, party_of}
@@ -74,8 +74,8 @@ use Rattle.slate_cluster_protocol.specs.declared.party.Task.{Task}
 use Rattle.slate_cluster_protocol.specs.declared.work.Work.{Work}
 use Rattle.slate_cluster_protocol.specs.declared.work.Work.TheVariants.{Manifests, Records, PutTable, Pass, Opening, Compacting}
 use Rattle.slate_cluster_laws.proofs.Advances.{at_least}
-use Rattle.slate_cluster_laws.proofs.AfterEvents.{after_inv, course_collected}
-use Rattle.slate_cluster_laws.proofs.Calls.{OfLog, WorkKnows, work_of_log}
+use Rattle.slate_cluster_laws.proofs.AfterEvents.{after_inv, course_gone}
+use Rattle.slate_cluster_laws.proofs.Calls.{WorkKnows}
 use Rattle.slate_cluster_chain_laws.proofs.LogRules.{IsMade}
 use Rattle.slate_cluster_laws.proofs.Facts.{HoldsBy, IsSound, ReadKnows, ReadBrings, CommitKnows, CommitBrings}
 use Rattle.slate_cluster_chain_laws.proofs.LogRules.IsMade.{OfVersion, OfNone}
@@ -86,6 +86,7 @@ use Rattle.slate_cluster_laws.proofs.Paths.{version_owner}
 use Rattle.slate_cluster_laws.proofs.Removals.{good_run}
 use Rattle.slate_cluster_laws.proofs.Runs.{Inv, StateKnows}
 use Rattle.slate_cluster_laws.proofs.Steps.{CollectKnows, PhraseKnows, by_phase, db_in, work_db}
+use Rattle.slate_cluster_laws.proofs.Safety.{IsGone}
 use Rattle.slate_cluster_laws.proofs.Stores.{IsTidy}
 use Rattle.slate_cluster_laws.proofs.Turns.{above_test, read_step, bound_step}
 use Rattle.slate_cluster_laws.proofs.Tallies.{its_kind}
@@ -288,15 +289,20 @@ refused_or_own s moment mark facts call work k db puts now number v c author i h
     by_test b read true is = inl (work_fails s moment mark facts call work (subst (PhraseFails s moment mark) (sym e) (bound_fails db k number v s moment mark b (read_by s k db b read) (at_least number b is))))
     by_test b read false is = inr (h.same b read (above_test number b is))
 
--- what was removed up to now was collected
-gone_collected : (specs : List DbSpec) (events : List Event) → IsAccepted specs → AreGood specs events → AllCollected (world_after events (opening_world specs)) (chains_at_end specs events) (gone_after specs events)
-gone_collected specs events accepted good =
-    subst (λ (w : World). AllCollected w (chains_at_end specs events) (gone_after specs events)) (run_world events 0 (opening specs) (course_after specs events) (good_run specs events good))
-    (course_collected specs events accepted good)
+-- what was removed up to now is a collected version, or of no log
+all_gone : (specs : List DbSpec) (events : List Event) → IsAccepted specs → AreGood specs events → EachPath (IsGone (world_after events (opening_world specs)) (chains_at_end specs events)) (gone_after specs events)
+all_gone specs events accepted good =
+    subst (λ (w : World). EachPath (IsGone w (chains_at_end specs events)) (gone_after specs events)) (run_world events 0 (opening specs) (course_after specs events) (good_run specs events good))
+    (course_gone specs events accepted good)
 
-one_collected : (w : World) (chains : Chains) (front : List ObjectPath) (path : ObjectPath) (back : List ObjectPath) → AllCollected w chains (front ++ path ∷ back) → IsCollected w chains path
-one_collected w chains [] path back h = h.0
-one_collected w chains (x ∷ front) path back h = one_collected w chains front path back h.1
+one_of : (P : ObjectPath → Type 0) (front : List ObjectPath) (path : ObjectPath) (back : List ObjectPath) → EachPath P (front ++ path ∷ back) → P path
+one_of P [] path back h = h.0
+one_of P (x ∷ front) path back h = one_of P front path back h.1
+
+-- a version that was removed was collected
+version_gone : (w : World) (chains : Chains) (k : LogKind) (db : List ℕ) (number : ℕ) → IsGone w chains (version_path k db number) → IsCollectedVersion w chains (version_path k db number)
+version_gone w chains k db number (inl h) = h
+version_gone w chains k db number (inr other) = absurd ((other.other k db).version number (version_owner k db number))
 
 -- ---- the parties
 
@@ -337,19 +343,15 @@ module _ (specs : List DbSpec) (events : List Event) (n : ℕ) (p : Party) (task
   all_spare k db (passing.Deleting left counts) h = at_log k db _ left (each_is (log_of k).kind db _ (IsSpare (log_of k) (chains k db)) (λ n w. w.1) left h)
   all_spare k db _ h = tt
 
-  -- what is listed and deleted is of a log
-  of_log : (db : List ℕ) (pass : GcMessage) (phase : PassPhase) → phrase_of task.work ≡ Collects db pass phase → IsOfLog pass
-  of_log db pass phase e = subst OfLog e (work_of_log p.facts task.call task.work known.asked known.fits)
-
   pass_spare : (db : List ℕ) (pass : GcMessage) (phase : PassPhase) → IsOfLog pass → CollectKnows w.store chains db pass phase
       → Each (IsVersionThat (pass_log pass) db (IsSpare (log_of (pass_log pass)) (chains (pass_log pass) db))) (picks_in phase)
   pass_spare db of.Manifest phase log h = all_spare logs.Manifest db phase h
   pass_spare db of.Compactions phase log h = all_spare logs.Compactions db phase h
   pass_spare db _ phase log h = absurd (cc (log))
 
-  pub spare_picks : (db : List ℕ) (pass : GcMessage) (phase : PassPhase) → phrase_of task.work ≡ Collects db pass phase
+  pub spare_picks : (db : List ℕ) (pass : GcMessage) (phase : PassPhase) → IsOfLog pass → phrase_of task.work ≡ Collects db pass phase
       → Each (IsVersionThat (pass_log pass) db (IsSpare (log_of (pass_log pass)) (chains (pass_log pass) db))) (picks_in phase)
-  spare_picks db pass phase e = pass_spare db pass phase (of_log db pass phase e) (knows (Collects db pass phase) e)
+  spare_picks db pass phase log e = pass_spare db pass phase log (knows (Collects db pass phase) e)
 
   all_bounded : (k : LogKind) (db : List ℕ) (bound : ℕ) → bound_in (log_of k) db w.store ≡ Some bound → (phase : PassPhase) → PassKnows (log_of k) db w.store (chains k db) phase → Each (IsVersionThat k db (λ n. n ≤ bound)) (due_in phase)
   all_bounded k db bound read (passing.Deleting left counts) h = at_log k db _ left (each_is (log_of k).kind db _ (λ n. n ≤ bound) (λ n w. w.0.reached bound read) left h)
@@ -361,9 +363,9 @@ module _ (specs : List DbSpec) (events : List Event) (n : ℕ) (p : Party) (task
   pass_bounded db of.Compactions phase bound log read h = all_bounded logs.Compactions db bound read phase h
   pass_bounded db _ phase bound log read h = absurd (cc (log))
 
-  pub bounded_due : (db : List ℕ) (pass : GcMessage) (phase : PassPhase) (bound : ℕ) → phrase_of task.work ≡ Collects db pass phase → bound_in (log_of (pass_log pass)) db w.store ≡ Some bound
+  pub bounded_due : (db : List ℕ) (pass : GcMessage) (phase : PassPhase) (bound : ℕ) → IsOfLog pass → phrase_of task.work ≡ Collects db pass phase → bound_in (log_of (pass_log pass)) db w.store ≡ Some bound
       → Each (IsVersionThat (pass_log pass) db (λ n. n ≤ bound)) (due_in phase)
-  bounded_due db pass phase bound e read = pass_bounded db pass phase bound (of_log db pass phase e) read (knows (Collects db pass phase) e)
+  bounded_due db pass phase bound log e read = pass_bounded db pass phase bound log read (knows (Collects db pass phase) e)
 
   -- what a pass has read of the versions that the latest manifest names
   pub fetched_stand : (db : List ℕ) (number : ℕ) (left : List ℕ) (found : List (ℕ × Manifest)) → phrase_of task.work ≡ Fetches db number (fetching.Getting left found) → IsReferenced (chains logs.Manifest db) number left found
@@ -416,10 +418,11 @@ module _ (specs : List DbSpec) (events : List Event) (n : ℕ) (p : Party) (task
   pub late_refused : (k : LogKind) (db : List ℕ) (puts : Puts) (now : ℤ) (number : ℕ) (v : Held k) (front back : List ObjectPath) (mark : Mark) (moment : ℤ) → phrase_of task.work ≡ Commits k db puts now (Bounding number v)
       → AreGood specs events → gone_after specs events ≡ front ++ version_path k db number ∷ back → IsRefused (moved p.facts task.call task.work moment (effect mark (asks task.work) moment w.store).answer).next
   late_refused k db puts now number v front back mark moment e good gone =
-      let all = subst (λ (paths : List ObjectPath). AllCollected w chains paths) gone (gone_collected specs events accepted good) in
-      work_fails w.store moment mark p.facts task.call task.work (subst (PhraseFails w.store moment mark) (sym e) (by_log k db number v (one_collected w chains front (version_path k db number) back all)))
+      let all = subst (λ (paths : List ObjectPath). EachPath (IsGone w chains) paths) gone (all_gone specs events accepted good) in
+      let one = version_gone w chains k db number (one_of (IsGone w chains) front (version_path k db number) back all) in
+      work_fails w.store moment mark p.facts task.call task.work (subst (PhraseFails w.store moment mark) (sym e) (by_log k db number v one))
     where
-      by_log : (k : LogKind) (db : List ℕ) (number : ℕ) (v : Held k) → IsCollected w chains (version_path k db number) → CommitFails (commit_goes (Bounding number v) (effect mark (commit_asks db k (Bounding number v)) moment w.store).answer)
+      by_log : (k : LogKind) (db : List ℕ) (number : ℕ) (v : Held k) → IsCollectedVersion w chains (version_path k db number) → CommitFails (commit_goes (Bounding number v) (effect mark (commit_asks db k (Bounding number v)) moment w.store).answer)
       by_log k db number v h =
           let same : Version h.log h.db h.number ≡ Version k db number = sym (version_owner h.log h.db h.number) ∙ (ap owner_of (sym h.is) ∙ version_owner k db number) in
           let same_log : h.log ≡ k = cc (same) in

@@ -30,7 +30,7 @@ pub mod Opening
 pub mod Changes
 pub mod Ordered
 pub mod Removals
-mod Zeros
+pub mod Zeros
 pub mod Safety
 pub mod Along
 pub mod AfterEvents

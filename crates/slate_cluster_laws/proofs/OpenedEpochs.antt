@@ -81,7 +81,7 @@ module _ (w : World) (chains : Chains) (i : Inv w chains) (n : ℕ) (p : Party) 
       let held = subst (λ (x : Compactor). Holds chains p.facts.db (Some x)) same h in
       (raised_top c.epoch held.0, given_top c.epoch held.1)
 
-  epochs_stand : EpochsStand chains p
+  pub epochs_stand : EpochsStand chains p
   epochs_stand =
       let own = i.parties n p at in
       record {

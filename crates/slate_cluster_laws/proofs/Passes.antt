@@ -72,7 +72,7 @@ pub each_is : (k : LogKind) (db : List ℕ) (P Q : ℕ → Type 0) → ((n : ℕ
 each_is k db P Q f ms h = each_map (IsVersionThat k db P) (IsVersionThat k db Q) (λ m w. record { number = w.number; is = w.is; has = f w.number w.has }) ms h
 
 -- what a filter keeps has it, and what the filter asks
-each_tested : (P Q : ObjectMetadata → Type 0) (t : ObjectMetadata → Bool) → ((m : ObjectMetadata) → t m ≡ true → P m → Q m) → (ms : List ObjectMetadata) → Each P ms → Each Q (filter t ms)
+pub each_tested : (P Q : ObjectMetadata → Type 0) (t : ObjectMetadata → Bool) → ((m : ObjectMetadata) → t m ≡ true → P m → Q m) → (ms : List ObjectMetadata) → Each P ms → Each Q (filter t ms)
 each_tested P Q t f [] h = tt
 each_tested P Q t f (m ∷ ms) h = test (t m) refl (each_tested P Q t f ms h.1)
   where

@@ -1,7 +1,8 @@
--- Nothing reachable is removed: what was removed stays spare, at or below the boundary of its log, at each moment of a run.
-use Rattle.std.proofs.Common.{◌≡◌, ℕ, ℤ, ◌+◌, ◌≤◌, Bool, true, false, List, [], ◌∷◌, ◌++◌, Option, Some, None, is_some, refl, sym, ap, ◌∙◌, subst, arith}
+-- What was removed of a log stays spare, at or below its boundary, at each moment of a run; where all that was removed is collected, nothing reachable was.
+use Rattle.std.proofs.Common.{◌≡◌, ◌⊎◌, inl, inr, ℕ, ℤ, ◌+◌, ◌≤◌, Bool, true, false, List, [], ◌∷◌, ◌++◌, Option, Some, None, is_some, refl, sym, ap, ◌∙◌, subst, arith}
 use Rattle.std.specs.Prelude.{if◌then◌else◌}
 use Rattle.slate_ids.specs.declared.object_path.ObjectPath.{ObjectPath}
+use Rattle.slate_ids.specs.declared.object_path.ObjectPath.TheVariants as paths
 use Rattle.slate_ids.specs.Ids.{is_db_path}
 use Rattle.slate_store.specs.Store.{Store, object_at, effect}
 use Rattle.slate_store.specs.declared.store_call.StoreCall.{StoreCall}
@@ -10,45 +11,39 @@ use Rattle.slate_store.specs.declared.object.ObjectMetadata.{ObjectMetadata}
 use Rattle.slate_script_events.specs.declared.call.Call.{Call}
 use Rattle.slate_script_events.specs.declared.event.Event.{Event}
 use Rattle.slate_script_events.specs.declared.event.Event.TheVariants.{Open, Start, Step, Stop}
-use Rattle.slate_txn_log.specs.CommitPhase.{commit_asks}
 use Rattle.slate_txn_log.specs.LogPaths.{version_path}
-use Rattle.slate_txn_log.specs.ReadPhase.{read_asks}
 use Rattle.slate_txn_log.specs.declared.advance_phase.AdvancePhase.TheVariants as advancing
-use Rattle.slate_txn_log.specs.declared.commit_phase.CommitPhase.{CommitPhase}
 use Rattle.slate_txn_log.specs.declared.commit_phase.CommitPhase.TheVariants as committing
 use Rattle.slate_txn_log.specs.declared.log_kind.LogKind.{LogKind}
 use Rattle.slate_txn_log.specs.declared.log_kind.LogKind.TheVariants as logs
-use Rattle.slate_txn_log.specs.declared.read_phase.ReadPhase.{ReadPhase}
 use Rattle.slate_txn_log.specs.declared.read_phase.ReadPhase.TheVariants as reading
 use Rattle.slate_ids.specs.declared.gc_message.GcMessage.{GcMessage}
 use Rattle.slate_ids.specs.declared.gc_message.GcMessage.TheVariants as of
-use Rattle.slate_gc_passes.specs.Pass.{pass_asks}
+use Rattle.slate_gc_passes.specs.declared.pass_counts.PassCounts.{PassCounts}
 use Rattle.slate_gc_passes.specs.declared.pass_phase.PassPhase.{PassPhase}
 use Rattle.slate_gc_passes.specs.declared.pass_phase.PassPhase.TheVariants as passing
-use Rattle.slate_state_referenced.specs.Referenced.{referenced_asks}
-use Rattle.slate_state_referenced.specs.declared.referenced_phase.ReferencedPhase.{ReferencedPhase}
 use Rattle.slate_state_referenced.specs.declared.referenced_phase.ReferencedPhase.TheVariants as fetching
 use Rattle.slate_cluster_protocol.specs.Chains.{bound_in}
-use Rattle.slate_cluster_protocol.specs.Holding.{IsOfLog, IsVersionThat}
+use Rattle.slate_cluster_protocol.specs.Holding.{IsVersionThat}
 use Rattle.slate_cluster_protocol.specs.Logs.{Chains, Phrase, Reads, Commits, Uploads, Fetches, Collects, log_of, phrase_of, chains_state, chains_at, chains_after}
 use Rattle.slate_cluster_protocol.specs.Owners.{owner_of}
 use Rattle.slate_cluster_protocol.specs.Owners.Owner.{Version}
-use Rattle.slate_cluster_protocol.specs.Reach.{IsNeeded, InReach, Reachable, IsSpare}
-use Rattle.slate_cluster_protocol.specs.Reach.InReach.{OfVersion}
+use Rattle.slate_cluster_protocol.specs.Reach.{IsNeeded, InReach, NeedsTable, Reachable, IsSpare}
+use Rattle.slate_cluster_protocol.specs.Reach.InReach.{OfVersion, OfTable}
 use Rattle.slate_cluster_protocol.specs.Runs.{Course, Ran, going_on, run}
-use Rattle.slate_cluster_protocol.specs.Safe.{took_away, path_if, removed_by_call, removed_by, NoneReachable, IsCollected, AllCollected, IsPresent, IsSafe}
-use Rattle.slate_cluster_protocol.specs.Works.{asks, db_of}
+use Rattle.slate_cluster_protocol.specs.Safe.{took_away, path_if, removed_by_call, removed_by, EachPath, IsCollected, IsCollectedTable, IsCollectedVersion, AllCollected, IsPresent, IsSafe}
+use Rattle.slate_cluster_protocol.specs.Safe.IsCollected.{OfLog, OfTables}
+use Rattle.slate_cluster_protocol.specs.Works.{asks}
 use Rattle.slate_cluster_protocol.specs.World.{World, Transition, HasDb, party_of, tally_of, step_state, start_state, stop_state, carrying, may_start, open_at, start_at, step_at, stop_at, happens}
 use Rattle.slate_cluster_protocol.specs.declared.party.Facts.{Facts}
 use Rattle.slate_cluster_protocol.specs.declared.party.Party.{Party}
 use Rattle.slate_cluster_protocol.specs.declared.party.State.{State}
 use Rattle.slate_cluster_protocol.specs.declared.party.State.TheVariants.{Resting, Busy, Halted}
+use Rattle.slate_cluster_protocol.specs.declared.party.Task.{Task}
 use Rattle.slate_cluster_protocol.specs.declared.tally.Tally.{Tally}
 use Rattle.slate_cluster_protocol.specs.declared.work.Work.{Work}
-use Rattle.slate_cluster_laws.proofs.Calls.{OfLog, work_of_log}
 use Rattle.slate_cluster_laws.proofs.Facts.{IsReached, Grows}
-use Rattle.slate_cluster_laws.proofs.Passes.{PassKnows}
-use Rattle.slate_cluster_laws.proofs.Paths.{version_owner}
+use Rattle.slate_cluster_laws.proofs.Paths.{IsNobodys, version_owner}
 use Rattle.slate_cluster_laws.proofs.Puts.{grows_not}
 use Rattle.slate_cluster_laws.proofs.Rows.{ended}
 use Rattle.slate_cluster_laws.proofs.Runs.{Inv, StateKnows, log_after, same_tallies, event_inv}
@@ -128,14 +123,131 @@ event_after w chains (Stop n) d i h = went (party_of n w.parties) h
 
 -- ---- what was removed
 
-pub all_gone : (w : World) (chains : Chains) (xs ys : List ObjectPath) → AllCollected w chains xs → AllCollected w chains ys → AllCollected w chains (xs ++ ys)
-all_gone w chains [] ys h k = k
-all_gone w chains (x ∷ xs) ys h k = (h.0, all_gone w chains xs ys h.1 k)
+pub each_both : (P : ObjectPath → Type 0) (xs ys : List ObjectPath) → EachPath P xs → EachPath P ys → EachPath P (xs ++ ys)
+each_both P [] ys h k = k
+each_both P (x ∷ xs) ys h k = (h.0, each_both P xs ys h.1 k)
 
--- what was removed stays so
+pub each_path : (P Q : ObjectPath → Type 0) → ((path : ObjectPath) → P path → Q path) → (paths : List ObjectPath) → EachPath P paths → EachPath Q paths
+each_path P Q f [] h = tt
+each_path P Q f (path ∷ paths) h = (f path h.0, each_path P Q f paths h.1)
+
+-- what was removed is a collected version, or of no log
+abbrev pub IsGone : World → Chains → ObjectPath → Type 0
+IsGone w chains path = IsCollectedVersion w chains path ⊎ IsNobodys path
+
+-- a phrase that deletes an object: a pass, the first of what is left of its picks
+pub record Deletes (phrase : Phrase) (path : ObjectPath) : Type 0 where
+  pub db : List ℕ
+  pub pass : GcMessage
+  pub first : ObjectMetadata
+  pub left : List ObjectMetadata
+  pub counts : PassCounts
+  pub is : phrase ≡ Collects db pass (passing.Deleting (first ∷ left) counts)
+  pub same : path ≡ first.location
+
+-- what a store call of a phrase removed
+module _ (s s' : Store) where
+  abbrev Removes : Phrase → Type 0
+  Removes phrase = EachPath (Deletes phrase) (removed_by_call (phrase_asks phrase) s s')
+
+  took_one : (db : List ℕ) (pass : GcMessage) (m : ObjectMetadata) (left : List ObjectMetadata) (counts : PassCounts) (b : Bool) → EachPath (Deletes (Collects db pass (passing.Deleting (m ∷ left) counts))) (path_if b m.location)
+  took_one db pass m left counts true = (record { db = db; pass = pass; first = m; left = left; counts = counts; is = refl; same = refl }, tt)
+  took_one db pass m left counts false = tt
+
+  pass_removes : (db : List ℕ) (pass : GcMessage) (phase : PassPhase) → Removes (Collects db pass phase)
+  pass_removes db pass (passing.ReadingRecord reading.Listing) = tt
+  pass_removes db pass (passing.ReadingRecord (reading.Getting n)) = tt
+  pass_removes db pass (passing.ReadingRecord (reading.Bounding n m)) = tt
+  pass_removes db pass (passing.ReadingRecord reading.Over) = tt
+  pass_removes db pass (passing.ReadingManifest least reading.Listing) = tt
+  pass_removes db pass (passing.ReadingManifest least (reading.Getting n)) = tt
+  pass_removes db pass (passing.ReadingManifest least (reading.Bounding n m)) = tt
+  pass_removes db pass (passing.ReadingManifest least reading.Over) = tt
+  pass_removes db pass (passing.Fetching heads (fetching.Getting [] found)) = tt
+  pass_removes db pass (passing.Fetching heads (fetching.Getting (n ∷ left) found)) = tt
+  pass_removes db pass (passing.Fetching heads fetching.Over) = tt
+  pass_removes db pass (passing.Listing heads versions) = tt
+  pass_removes db pass (passing.Getting n listed found) = tt
+  pass_removes db pass (passing.Bounding n listed candidates) = tt
+  pass_removes db pass (passing.Advancing (advancing.Bounding n) left counts) = tt
+  pass_removes db pass (passing.Advancing (advancing.Creating n) left counts) = tt
+  pass_removes db pass (passing.Advancing (advancing.Replacing n tag) left counts) = tt
+  pass_removes db pass (passing.Advancing advancing.Over left counts) = tt
+  pass_removes db pass (passing.Deleting [] counts) = tt
+  pass_removes db pass (passing.Deleting (m ∷ left) counts) = took_one db pass m left counts (took_away m.location s s')
+  pass_removes db pass passing.Over = tt
+
+  phrase_removes : (phrase : Phrase) → Removes phrase
+  phrase_removes (Reads k db reading.Listing) = tt
+  phrase_removes (Reads k db (reading.Getting n)) = tt
+  phrase_removes (Reads k db (reading.Bounding n m)) = tt
+  phrase_removes (Reads k db reading.Over) = tt
+  phrase_removes (Commits k db puts now (committing.Putting n bytes m)) = tt
+  phrase_removes (Commits k db puts now (committing.Bounding n m)) = tt
+  phrase_removes (Commits k db puts now committing.Over) = tt
+  phrase_removes (Uploads db table bytes) = tt
+  phrase_removes (Fetches db m (fetching.Getting [] found)) = tt
+  phrase_removes (Fetches db m (fetching.Getting (n ∷ left) found)) = tt
+  phrase_removes (Fetches db m fetching.Over) = tt
+  phrase_removes (Collects db pass phase) = pass_removes db pass phase
+
+  pub work_removes : (work : Work) → EachPath (Deletes (phrase_of work)) (removed_by_call (asks work) s s')
+  work_removes work = subst (λ (call : StoreCall). EachPath (Deletes (phrase_of work)) (removed_by_call call s s')) (sym (work_asks work)) (phrase_removes (phrase_of work))
+
+-- what an event removed: what is deleted by the party in a call that steps
+module _ (w : World) (P : ObjectPath → Type 0) (deleted : (n : ℕ) (facts : Facts) (task : Task) → party_of n w.parties ≡ Some (record { facts = facts; state = Busy task }) → (path : ObjectPath) → Deletes (phrase_of task.work) path → P path) where
+  step_removes : (n : ℕ) (facts : Facts) (state : State) (moment : ℤ) (mark : Mark) → party_of n w.parties ≡ Some (record { facts = facts; state = state }) → EachPath P (removed_by (step_state w n facts state moment mark).entry w.store)
+  step_removes n facts Resting moment mark at = tt
+  step_removes n facts Halted moment mark at = tt
+  step_removes n facts (Busy task) moment mark at =
+      let s = (effect mark (asks task.work) moment w.store).store in
+      each_path (Deletes (phrase_of task.work)) P (deleted n facts task at) (removed_by_call (asks task.work) w.store s) (work_removes w.store s task.work)
+
+  start_removes : (n : ℕ) (facts : Facts) (state : State) (call : Call) (u : World) → EachPath P (removed_by (start_state u n facts state call).entry w.store)
+  start_removes n facts Resting call u = tt
+  start_removes n facts (Busy task) call u = tt
+  start_removes n facts Halted call u = tt
+
+  stop_removes : (n : ℕ) (facts : Facts) (state : State) → EachPath P (removed_by (stop_state w n facts state).entry w.store)
+  stop_removes n facts Halted = tt
+  stop_removes n facts Resting = tt
+  stop_removes n facts (Busy task) = tt
+
+  pub event_removes : (e : Event) (d : Transition) → happens w e ≡ Some d → EachPath P (removed_by d.entry w.store)
+  event_removes (Open n kind db) d h = opened (party_of n w.parties) (tally_of db w.tallies) h
+    where
+      opened : (o : Option Party) (t : Option Tally) → open_at w n kind db o t ≡ Some d → EachPath P (removed_by d.entry w.store)
+      opened None (Some t) h = subst (λ (o : Option Transition). elim o as (λ _. Type 0) [ None ↦ Unit {0} | Some r ↦ EachPath P (removed_by r.entry w.store) ]) h tt
+      opened None None h = absurd cc
+      opened (Some p) t h = absurd cc
+  event_removes (Start n call) d h = started (party_of n w.parties) h
+    where
+      test : (p : Party) (b : Bool) → (if b then Some (start_state (carrying n call w) n p.facts p.state call) else None) ≡ Some d → EachPath P (removed_by d.entry w.store)
+      test p true h = let same : start_state (carrying n call w) n p.facts p.state call ≡ d = cc in subst (λ (r : Transition). EachPath P (removed_by r.entry w.store)) same (start_removes n p.facts p.state call (carrying n call w))
+      test p false h = absurd cc
+
+      started : (o : Option Party) → start_at w n call o ≡ Some d → EachPath P (removed_by d.entry w.store)
+      started None h = absurd cc
+      started (Some p) h = test p (may_start w call p) h
+  event_removes (Step n moment mark) d h = went (party_of n w.parties) refl h
+    where
+      went : (o : Option Party) → party_of n w.parties ≡ o → step_at w n moment mark o ≡ Some d → EachPath P (removed_by d.entry w.store)
+      went None at h = absurd cc
+      went (Some p) at h =
+          let same : step_state w n p.facts p.state moment mark ≡ d = cc in
+          subst (λ (r : Transition). EachPath P (removed_by r.entry w.store)) same (step_removes n p.facts p.state moment mark at)
+  event_removes (Stop n) d h = went (party_of n w.parties) h
+    where
+      went : (o : Option Party) → stop_at w n o ≡ Some d → EachPath P (removed_by d.entry w.store)
+      went None h = absurd cc
+      went (Some p) h =
+          let same : stop_state w n p.facts p.state ≡ d = cc in
+          subst (λ (r : Transition). EachPath P (removed_by r.entry w.store)) same (stop_removes n p.facts p.state)
+
+-- what was removed stays so, and what an event removes is so after it
 module _ (w : World) (chains : Chains) (v : World) (chains' : Chains) (a : EventAfter w chains v chains') where
-  stays_gone : (path : ObjectPath) → IsCollected w chains path → IsCollected v chains' path
-  stays_gone path h =
+  pub version_stays : (path : ObjectPath) → IsCollectedVersion w chains path → IsCollectedVersion v chains' path
+  version_stays path h =
       let g = a.grows h.log h.db h.has in
       record {
         log = h.log;
@@ -147,118 +259,43 @@ module _ (w : World) (chains : Chains) (v : World) (chains' : Chains) (a : Event
         bounded = λ bound read. let was = g.bound bound read in let up = was.2 in let le = h.bounded was.0 was.1 in omega arith;
       }
 
-  pub all_stay : (paths : List ObjectPath) → AllCollected w chains paths → AllCollected v chains' paths
-  all_stay [] h = tt
-  all_stay (path ∷ paths) h = (stays_gone path h.0, all_stay paths h.1)
+  stays_gone : (path : ObjectPath) → IsGone w chains path → IsGone v chains' path
+  stays_gone path (inl h) = inl (version_stays path h)
+  stays_gone path (inr h) = inr h
 
-  -- and so does what a delete of a version removes that is spare and at or below the boundary
-  delete_gone : (k : LogKind) (db : List ℕ) (m : ObjectMetadata) (b : Bool) → HasDb w db → IsVersionThat (log_of k).kind db (λ n. IsReached (log_of k) db w.store n × IsSpare (log_of k) (chains k db) n) m
-      → AllCollected v chains' (path_if b m.location)
-  delete_gone k db m true has h =
+  pub all_stay : (paths : List ObjectPath) → EachPath (IsGone w chains) paths → EachPath (IsGone v chains') paths
+  all_stay paths h = each_path (IsGone w chains) (IsGone v chains') stays_gone paths h
+
+  -- a version that a pass over its log deletes is spare, and at or below the boundary
+  pub delete_gone : (k : LogKind) (db : List ℕ) (m : ObjectMetadata) → HasDb w db → IsVersionThat (log_of k).kind db (λ n. IsReached (log_of k) db w.store n × IsSpare (log_of k) (chains k db) n) m
+      → IsCollectedVersion v chains' m.location
+  delete_gone k db m has h =
       let is = h.is ∙ ap (λ j. version_path j db h.number) (its_kind k) in
-      (stays_gone m.location (record { log = k; db = db; number = h.number; is = is; has = has; spare = h.has.1; bounded = h.has.0.reached }), tt)
-  delete_gone k db m false has h = tt
+      version_stays m.location (record { log = k; db = db; number = h.number; is = is; has = has; spare = h.has.1; bounded = h.has.0.reached })
 
-  -- of a pass over a log
-  log_gone : (k : LogKind) (db : List ℕ) (pass : GcMessage) (phase : PassPhase) (s : Store) → HasDb w db → PassKnows (log_of k) db w.store (chains k db) phase → AllCollected v chains' (removed_by_call (pass_asks db pass phase) w.store s)
-  log_gone k db pass (passing.Listing heads versions) s has h = tt
-  log_gone k db pass (passing.Getting n listed found) s has h = tt
-  log_gone k db pass (passing.Bounding n listed candidates) s has h = tt
-  log_gone k db pass (passing.Advancing (advancing.Bounding n) left counts) s has h = tt
-  log_gone k db pass (passing.Advancing (advancing.Creating n) left counts) s has h = tt
-  log_gone k db pass (passing.Advancing (advancing.Replacing n tag) left counts) s has h = tt
-  log_gone k db pass (passing.Advancing advancing.Over left counts) s has h = tt
-  log_gone k db pass (passing.Deleting [] counts) s has h = tt
-  log_gone k db pass (passing.Deleting (m ∷ ms) counts) s has h = delete_gone k db m (took_away m.location w.store s) has h.0
-  log_gone k db pass _ s has h = absurd h
+  pass_gone : (db : List ℕ) (pass : GcMessage) (m : ObjectMetadata) (left : List ObjectMetadata) (counts : PassCounts) → HasDb w db → CollectKnows w.store chains db pass (passing.Deleting (m ∷ left) counts) → IsGone v chains' m.location
+  pass_gone db of.Manifest m left counts has h = inl (delete_gone logs.Manifest db m has h.0)
+  pass_gone db of.Compactions m left counts has h = inl (delete_gone logs.Compactions db m has h.0)
+  pass_gone db of.Compacted m left counts has h = inr h.0
+  pass_gone db of.Wal m left counts has h = inr h.0
+  pass_gone db of.WalFence m left counts has h = inr h.0
+  pass_gone db of.Detach m left counts has h = absurd h
 
-  collect_gone : (db : List ℕ) (pass : GcMessage) (phase : PassPhase) (s : Store) → HasDb w db → IsOfLog pass → CollectKnows w.store chains db pass phase → AllCollected v chains' (removed_by_call (pass_asks db pass phase) w.store s)
-  collect_gone db of.Manifest phase s has log h = log_gone logs.Manifest db of.Manifest phase s has h
-  collect_gone db of.Compactions phase s has log h = log_gone logs.Compactions db of.Compactions phase s has h
-  collect_gone db _ phase s has log h = absurd (cc (log))
-
-  fetch_gone : (db : List ℕ) (phase : ReferencedPhase) (s : Store) → AllCollected v chains' (removed_by_call (referenced_asks db phase) w.store s)
-  fetch_gone db (fetching.Getting [] found) s = tt
-  fetch_gone db (fetching.Getting (n ∷ left) found) s = tt
-  fetch_gone db fetching.Over s = tt
-
-  read_gone : {T : Type 0} (db : List ℕ) (k : LogKind) (phase : ReadPhase T) (s : Store) → AllCollected v chains' (removed_by_call (read_asks db k phase) w.store s)
-  read_gone db k reading.Listing s = tt
-  read_gone db k (reading.Getting n) s = tt
-  read_gone db k (reading.Bounding n m) s = tt
-  read_gone db k reading.Over s = tt
-
-  commit_gone : {T : Type 0} (db : List ℕ) (k : LogKind) (phase : CommitPhase T) (s : Store) → AllCollected v chains' (removed_by_call (commit_asks db k phase) w.store s)
-  commit_gone db k (committing.Putting n bytes m) s = tt
-  commit_gone db k (committing.Bounding n m) s = tt
-  commit_gone db k committing.Over s = tt
-
-  phrase_gone : (n : ℕ) (phrase : Phrase) (s : Store) → HasDb w (db_in phrase) → OfLog phrase → PhraseKnows w.store chains n phrase → AllCollected v chains' (removed_by_call (phrase_asks phrase) w.store s)
-  phrase_gone n (Reads k db phase) s has log h = read_gone db (log_of k).kind phase s
-  phrase_gone n (Commits k db puts now phase) s has log h = commit_gone db (log_of k).kind phase s
-  phrase_gone n (Uploads db table bytes) s has log h = tt
-  phrase_gone n (Fetches db m phase) s has log h = fetch_gone db phase s
-  phrase_gone n (Collects db pass phase) s has log h = collect_gone db pass phase s has log h
-
-  work_gone : (n : ℕ) (work : Work) (s : Store) → HasDb w (db_of work) → OfLog (phrase_of work) → PhraseKnows w.store chains n (phrase_of work) → AllCollected v chains' (removed_by_call (asks work) w.store s)
-  work_gone n work s has log h =
-      subst (λ (call : StoreCall). AllCollected v chains' (removed_by_call call w.store s)) (sym (work_asks work)) (phrase_gone n (phrase_of work) s (subst (λ d. HasDb w d) (sym (work_db work)) has) log h)
-
-  -- what a step removed
-  pub step_gone : (n : ℕ) (facts : Facts) (state : State) (moment : ℤ) (mark : Mark) → HasDb w facts.db → StateKnows w.store chains n facts state → AllCollected v chains' (removed_by (step_state w n facts state moment mark).entry w.store)
-  step_gone n facts Resting moment mark has k = tt
-  step_gone n facts Halted moment mark has k = tt
-  step_gone n facts (Busy task) moment mark has k =
-      let s = (effect mark (asks task.work) moment w.store).store in
-      work_gone n task.work s (subst (λ d. HasDb w d) (sym k.own) has) (work_of_log facts task.call task.work k.asked k.fits) k.knows
-
-  start_gone : (n : ℕ) (facts : Facts) (state : State) (call : Call) (u : World) → AllCollected v chains' (removed_by (start_state u n facts state call).entry w.store)
-  start_gone n facts Resting call u = tt
-  start_gone n facts (Busy task) call u = tt
-  start_gone n facts Halted call u = tt
-
-  stop_gone : (n : ℕ) (facts : Facts) (state : State) → AllCollected v chains' (removed_by (stop_state w n facts state).entry w.store)
-  stop_gone n facts Halted = tt
-  stop_gone n facts Resting = tt
-  stop_gone n facts (Busy task) = tt
-
-  pub event_gone : (e : Event) (d : Transition) → Inv w chains → happens w e ≡ Some d → AllCollected v chains' (removed_by d.entry w.store)
-  event_gone (Open n kind db) d i h = opened (party_of n w.parties) (tally_of db w.tallies) h
+  pub event_gone : (e : Event) (d : Transition) → Inv w chains → happens w e ≡ Some d → EachPath (IsGone v chains') (removed_by d.entry w.store)
+  event_gone e d i h = event_removes w (IsGone v chains') deleted e d h
     where
-      opened : (o : Option Party) (t : Option Tally) → open_at w n kind db o t ≡ Some d → AllCollected v chains' (removed_by d.entry w.store)
-      opened None (Some t) h = subst (λ (o : Option Transition). elim o as (λ _. Type 0) [ None ↦ Unit {0} | Some r ↦ AllCollected v chains' (removed_by r.entry w.store) ]) h tt
-      opened None None h = absurd cc
-      opened (Some p) t h = absurd cc
-  event_gone (Start n call) d i h = started (party_of n w.parties) h
-    where
-      test : (p : Party) (b : Bool) → (if b then Some (start_state (carrying n call w) n p.facts p.state call) else None) ≡ Some d → AllCollected v chains' (removed_by d.entry w.store)
-      test p true h = let same : start_state (carrying n call w) n p.facts p.state call ≡ d = cc in subst (λ (r : Transition). AllCollected v chains' (removed_by r.entry w.store)) same (start_gone n p.facts p.state call (carrying n call w))
-      test p false h = absurd cc
-
-      started : (o : Option Party) → start_at w n call o ≡ Some d → AllCollected v chains' (removed_by d.entry w.store)
-      started None h = absurd cc
-      started (Some p) h = test p (may_start w call p) h
-  event_gone (Step n moment mark) d i h = went (party_of n w.parties) refl h
-    where
-      went : (o : Option Party) → party_of n w.parties ≡ o → step_at w n moment mark o ≡ Some d → AllCollected v chains' (removed_by d.entry w.store)
-      went None at h = absurd cc
-      went (Some p) at h =
-          let same : step_state w n p.facts p.state moment mark ≡ d = cc in
-          let known = i.parties n p at in
-          subst (λ (r : Transition). AllCollected v chains' (removed_by r.entry w.store)) same (step_gone n p.facts p.state moment mark known.has known.knows)
-  event_gone (Stop n) d i h = went (party_of n w.parties) h
-    where
-      went : (o : Option Party) → stop_at w n o ≡ Some d → AllCollected v chains' (removed_by d.entry w.store)
-      went None h = absurd cc
-      went (Some p) h =
-          let same : stop_state w n p.facts p.state ≡ d = cc in
-          subst (λ (r : Transition). AllCollected v chains' (removed_by r.entry w.store)) same (stop_gone n p.facts p.state)
+      deleted : (n : ℕ) (facts : Facts) (task : Task) → party_of n w.parties ≡ Some (record { facts = facts; state = Busy task }) → (path : ObjectPath) → Deletes (phrase_of task.work) path → IsGone v chains' path
+      deleted n facts task at path del =
+          let known = i.parties n (record { facts = facts; state = Busy task }) at in
+          let knows = subst (λ (ph : Phrase). PhraseKnows w.store chains n ph) del.is known.knows.knows in
+          let own : facts.db ≡ del.db = sym known.knows.own ∙ (sym (work_db task.work) ∙ ap db_in del.is) in
+          subst (IsGone v chains') (sym del.same) (pass_gone del.db del.pass del.first del.left del.counts (subst (λ d. HasDb w d) own known.has) knows)
 
 -- ---- so it is safe
 
 module _ (w : World) (chains : Chains) (i : Inv w chains) where
-  unreachable_one : (path : ObjectPath) → IsCollected w chains path → Reachable w chains path → ⊥
-  unreachable_one path h r = by_reach r.reach
+  version_unreachable : (path : ObjectPath) → IsCollectedVersion w chains path → Reachable w chains path → ⊥
+  version_unreachable path h r = by_reach r.reach
     where
       by_reach : InReach chains r.db path → ⊥
       by_reach (OfVersion k n is needed) =
@@ -268,17 +305,29 @@ module _ (w : World) (chains : Chains) (i : Inv w chains) where
           let same_number : h.number ≡ n = cc (same) in
           let own : IsNeeded (log_of k) (chains k h.db) h.number = subst (λ j. IsNeeded (log_of k) (chains k h.db) j) (sym same_number) (subst (λ d. IsNeeded (log_of k) (chains k d) n) (sym same_db) needed) in
           not_needed (log_of h.log) (chains h.log h.db) h.number h.spare (subst (λ j. IsNeeded (log_of j) (chains j h.db) h.number) (sym same_log) own)
+      by_reach (OfTable id is needs) = cc (sym (version_owner h.log h.db h.number) ∙ ap owner_of (sym h.is ∙ is))
 
-  none_reachable : (paths : List ObjectPath) → AllCollected w chains paths → NoneReachable w chains paths
-  none_reachable [] h = tt
-  none_reachable (path ∷ paths) h = (unreachable_one path h.0, none_reachable paths h.1)
+  table_unreachable : (path : ObjectPath) → IsCollectedTable w chains path → Reachable w chains path → ⊥
+  table_unreachable path h r = by_reach r.reach
+    where
+      by_reach : InReach chains r.db path → ⊥
+      by_reach (OfVersion k n is needed) = cc (ap owner_of (sym h.is ∙ is) ∙ version_owner k r.db n)
+      by_reach (OfTable id is needs) =
+          let same : paths.Table h.db h.id ≡ paths.Table r.db id = sym h.is ∙ is in
+          let same_db : h.db ≡ r.db = cc (same) in
+          let same_id : h.id ≡ id = cc (same) in
+          h.spare.unneeded (subst (λ (d : List ℕ). NeedsTable (chains logs.Manifest d) h.id) (sym same_db) (subst (λ (t : ℕ × ℕ). NeedsTable (chains logs.Manifest r.db) t) (sym same_id) needs))
+
+  unreachable_one : (path : ObjectPath) → IsCollected w chains path → Reachable w chains path → ⊥
+  unreachable_one path (OfLog h) r = version_unreachable path h r
+  unreachable_one path (OfTables h) r = table_unreachable path h r
 
   stands_there : (k : LogKind) (db : List ℕ) (n : ℕ) → HasDb w db → IsNeeded (log_of k) (chains k db) n → IsPresent w chains k db n
   stands_there logs.Manifest db n has needed = let it = (i.logs logs.Manifest db (i.named db has)).needed n needed in record { link = it.link; committed = it.at; stands = it.stands }
   stands_there logs.Compactions db n has needed = let it = (i.logs logs.Compactions db (i.named db has)).needed n needed in record { link = it.link; committed = it.at; stands = it.stands }
 
   pub is_safe : (paths : List ObjectPath) → AllCollected w chains paths → IsSafe w chains paths
-  is_safe paths h = record { unreachable = none_reachable paths h; stands = stands_there; collected = h }
+  is_safe paths h = record { unreachable = each_path (IsCollected w chains) (λ path. Reachable w chains path → ⊥) unreachable_one paths h; stands = stands_there; collected = h }
 
 -- ---- along a run: the same databases, and no boundary falls
 

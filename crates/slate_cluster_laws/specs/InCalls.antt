@@ -23,7 +23,7 @@ use Rattle.slate_state_referenced.specs.declared.referenced_phase.ReferencedPhas
 use Rattle.slate_script_events.specs.declared.db_spec.DbSpec.{DbSpec}
 use Rattle.slate_script_events.specs.declared.event.Event.{Event}
 use Rattle.slate_cluster_protocol.specs.Chains.{bound_in}
-use Rattle.slate_cluster_protocol.specs.Holding.{IsIn, IsPutBy, IsVersion, IsMadeOf, Each, IsRefused, picks_in, due_in, IsVersionThat, pass_log}
+use Rattle.slate_cluster_protocol.specs.Holding.{IsIn, IsPutBy, IsVersion, IsMadeOf, Each, IsRefused, picks_in, due_in, IsOfLog, IsVersionThat, pass_log}
 use Rattle.slate_cluster_protocol.specs.Lawful.{chains_at_end, gone_after, world_at_end}
 use Rattle.slate_cluster_protocol.specs.Logs.{Held, Puts, log_of, phrase_of}
 use Rattle.slate_cluster_protocol.specs.Logs.Phrase.{Reads, Commits, Fetches, Collects}
@@ -81,16 +81,16 @@ ReadsAnswer specs events task =
     → read_goes k (log_of k).decoded phase (effect mark (read_asks db k phase) moment (world_at_end specs events).store).answer ≡ End to (Ok (Some (number, v)))
     → IsVersion (chains_at_end specs events k db) number v
 
--- what is picked, and what is left of it, are versions of the log of the pass, below the greatest committed one, which names none of them
+-- what a pass over a log picked, and what is left of it, are versions of that log, below the greatest committed one, which names none of them
 abbrev pub PicksSpare : List DbSpec → List Event → Task → Type 0
 PicksSpare specs events task =
-    (db : List ℕ) (pass : GcMessage) (phase : PassPhase) → phrase_of task.work ≡ Collects db pass phase
+    (db : List ℕ) (pass : GcMessage) (phase : PassPhase) → IsOfLog pass → phrase_of task.work ≡ Collects db pass phase
     → Each (IsVersionThat (pass_log pass) db (IsSpare (log_of (pass_log pass)) (chains_at_end specs events (pass_log pass) db))) (picks_in phase)
 
--- what is left of the picks is at or below the boundary of the log of the pass
+-- what is left of the picks of a pass over a log is at or below the boundary of that log
 abbrev pub DueBounded : List DbSpec → List Event → Task → Type 0
 DueBounded specs events task =
-    (db : List ℕ) (pass : GcMessage) (phase : PassPhase) (bound : ℕ) → phrase_of task.work ≡ Collects db pass phase
+    (db : List ℕ) (pass : GcMessage) (phase : PassPhase) (bound : ℕ) → IsOfLog pass → phrase_of task.work ≡ Collects db pass phase
     → bound_in (log_of (pass_log pass)) db (world_at_end specs events).store ≡ Some bound → Each (IsVersionThat (pass_log pass) db (λ number. number ≤ bound)) (due_in phase)
 
 -- what a pass has read of the versions that the checkpoints of a manifest name, while some are left to be got

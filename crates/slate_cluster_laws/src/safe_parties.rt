@@ -71,14 +71,14 @@ pub fn reads_answer()
         → IsAccepted specs → InCall specs events n p task (ReadsAnswer specs events task) }
 {}
 
-/// What a pass picked, and what is left of it, are versions of its log below the greatest committed one, and that version names none
+/// What a pass over a log picked, and what is left of it, are versions of this log below the greatest committed one, and that version names none
 /// of them.
 pub fn picks_spare()
     ensures { (specs : List DbSpec) (events : List Event) (n : ℕ) (p : Party) (task : Task)
         → IsAccepted specs → InCall specs events n p task (PicksSpare specs events task) }
 {}
 
-/// What is left of the picks of a pass is at or below the boundary of its log.
+/// What is left of the picks of a pass over a log is at or below the boundary of this log.
 pub fn due_bounded()
     ensures { (specs : List DbSpec) (events : List Event) (n : ℕ) (p : Party) (task : Task)
         → IsAccepted specs → InCall specs events n p task (DueBounded specs events task) }

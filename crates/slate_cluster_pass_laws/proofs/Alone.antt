@@ -76,7 +76,6 @@ use Rattle.slate_cluster_protocol.specs.Works.{pass_ways}
 use Rattle.slate_cluster_protocol.specs.declared.party.Facts.{Facts}
 use Rattle.slate_cluster_protocol.specs.declared.work.Work.TheVariants.{Pass}
 use Rattle.slate_cluster_pass_laws.proofs.Encodable.{HasBytes, removal_bytes}
-use Rattle.slate_cluster_pass_laws.proofs.LogPicks.{IsRemoval}
 use Rattle.slate_cluster_pass_laws.proofs.ManifestPicks.{of_candidates, bound_picks, bounded_picks, get_picks, decoded_picks, listed_picks, picks_same}
 use Rattle.slate_cluster_pass_laws.proofs.Left.{without_none, without_one, advance_listed, delete_listed}
 use Rattle.slate_cluster_laws.proofs.Ordered.{IsOrdered}
@@ -251,6 +250,13 @@ pub data RemovalEnds (k : LogKind) (db : List ℕ) (settings : PassSettings) (wo
   Lists : (found : List ObjectMetadata) (moment : ℤ) (later : List Answered) → answers ≡ (Found found, moment) ∷ later → EndsWith k db (listed_or_none (picks_read settings word answers)) found r s
       → RemovalEnds k db settings word answers r s
   Lacks : answers ≡ [] → r ≡ Refused (Exhausted last_number) → RemovalEnds k db settings word answers r s
+
+-- a pass over a log that still removes, or that is to list
+abbrev pub IsRemoval : GcPhase → Type 0
+IsRemoval (Removing (Reading phase)) = Unit {0}
+IsRemoval (Removing (Committing now phase)) = Unit {0}
+IsRemoval (Collecting None (passing.Listing heads versions)) = Unit {0}
+IsRemoval (Collecting _ _) = ⊥
 
 -- before its list a pass over a log knows nothing
 lists_first : (db : List ℕ) (s : Store) (pass : GcMessage) → IsOfLog pass → Knows (pass_log pass) db s (Collecting None (first_phase pass)) × IsRemoval (Collecting None (first_phase pass))

@@ -1,6 +1,6 @@
--- A pass over a log deletes what its rule picks of what it read: a front of it while it is under way, and all of it where it ended without a
--- refusal; and so at each entry of a trail.
-use Rattle.std.proofs.Common.{◌≡◌, ℕ, ◌-◌, Bool, List, [], ◌∷◌, ◌++◌, length, Option, Some, refl, ap, ◌∙◌}
+-- A pass of a collector of a cluster deletes what its rule picks of what it read: a front of it while it is under way, and all of it where it ended
+-- without a refusal; and so at each entry of a trail.
+use Rattle.std.proofs.Common.{◌≡◌, ℕ, ◌-◌, Bool, true, List, [], ◌∷◌, ◌++◌, length, Option, Some, refl, ap, ◌∙◌}
 use Rattle.slate_ids.specs.Limits.{next_count}
 use Rattle.slate_ids.specs.declared.gc_message.GcMessage.{GcMessage}
 use Rattle.slate_ids.specs.declared.gc_message.GcMessage.TheVariants as of
@@ -19,13 +19,12 @@ use Rattle.slate_gc_passes.specs.PassCounts.{counts_of}
 use Rattle.slate_gc_passes.specs.Rows.{log_of_pass, versions_in}
 use Rattle.slate_gc_passes.specs.declared.pass_counts.PassCounts.{PassCounts}
 use Rattle.slate_cluster_protocol.specs.ByRows.{Doing, Answers, Told, AllTold, entry_by, party_in, all_told_after, entry_store}
-use Rattle.slate_cluster_protocol.specs.Calls.{pass_settings}
-use Rattle.slate_cluster_protocol.specs.Holding.{IsOfLog}
-use Rattle.slate_cluster_protocol.specs.Passes.{deletes_made, deletes_of, with_deletes, picked, picked_so_far, reply_of, IsExactByRule, ExactDoing, ExactEntry, ExactPasses}
+use Rattle.slate_cluster_protocol.specs.Calls.{collector_has, pass_settings}
+use Rattle.slate_cluster_protocol.specs.Passes.{deletes_made, deletes_of, with_deletes, picked_so_far, reply_of, IsExactByRule, ExactDoing, ExactEntry, ExactPasses}
 use Rattle.slate_cluster_protocol.specs.Rows.{Answered}
 use Rattle.slate_cluster_protocol.specs.declared.party.Facts.{Facts}
 use Rattle.slate_cluster_pass_laws.proofs.Exact.{exact_pass}
-use Rattle.slate_cluster_pass_laws.proofs.LogPicks.{picks_are}
+use Rattle.slate_cluster_pass_laws.proofs.RulePicks.{picks_are}
 
 -- ---- a reply doesn't tell how many versions are left
 
@@ -45,14 +44,14 @@ same_reply (m ∷ ms) p d f v w = by_answer m.answer (same_reply ms p d (next_co
 -- ---- by its rule
 
 -- along any answers, also of kinds that no store gives
-pub exact_by_rule : (facts : Facts) (pass : GcMessage) → IsOfLog pass → (min_age : ℕ) (dry_run : Bool) (word : FilterWord) (answers : List Answered)
-    → IsExactByRule facts (calls.Pass pass min_age dry_run word) (pass_settings pass min_age dry_run) word answers
-exact_by_rule facts pass log min_age dry_run word answers =
+pub exact_by_rule : (facts : Facts) (pass : GcMessage) (min_age : ℕ) (dry_run : Bool) (word : FilterWord) (answers : List Answered)
+    → collector_has (calls.Pass pass min_age dry_run word) ≡ true → IsExactByRule facts (calls.Pass pass min_age dry_run word) (pass_settings pass min_age dry_run) word answers
+exact_by_rule facts pass min_age dry_run word answers has =
     let call = calls.Pass pass min_age dry_run word in
     let settings = pass_settings pass min_age dry_run in
     let e = exact_pass facts pass min_age dry_run word answers in
     let so_far = picked_so_far settings word answers in
-    let same = picks_are facts pass log min_age dry_run word answers in
+    let same = picks_are facts pass min_age dry_run word has answers in
     let made = deletes_made facts call answers in
     record {
       left = e.left;
@@ -68,8 +67,9 @@ exact_by_rule facts pass log min_age dry_run word answers =
 -- ---- in a trail
 
 exact_doing : (facts : Facts) (doing : Doing) (a : Answered) → ExactDoing facts doing a
-exact_doing facts (Answers (calls.Pass of.Manifest min_age dry_run filter) answers) a = exact_by_rule facts of.Manifest refl min_age dry_run filter (answers ++ a ∷ [])
-exact_doing facts (Answers (calls.Pass of.Compactions min_age dry_run filter) answers) a = exact_by_rule facts of.Compactions refl min_age dry_run filter (answers ++ a ∷ [])
+exact_doing facts (Answers (calls.Pass of.Manifest min_age dry_run filter) answers) a = exact_by_rule facts of.Manifest min_age dry_run filter (answers ++ a ∷ []) refl
+exact_doing facts (Answers (calls.Pass of.Compactions min_age dry_run filter) answers) a = exact_by_rule facts of.Compactions min_age dry_run filter (answers ++ a ∷ []) refl
+exact_doing facts (Answers (calls.Pass of.Compacted min_age dry_run filter) answers) a = exact_by_rule facts of.Compacted min_age dry_run filter (answers ++ a ∷ []) refl
 exact_doing facts (Answers (calls.Pass pass min_age dry_run filter) answers) a = exact_pass facts pass min_age dry_run filter (answers ++ a ∷ [])
 exact_doing facts _ a = tt
 

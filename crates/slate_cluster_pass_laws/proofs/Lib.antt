@@ -1,6 +1,8 @@
 mod Exact
 mod ManifestPicks
-mod LogPicks
+mod LatestReads
+mod TablePicks
+mod RulePicks
 pub mod ExactByRule
 mod Left
 mod DryRuns

@@ -4,8 +4,7 @@ ghost use Rattle.slate_ids.specs.declared.gc_message.GcMessage.{GcMessage};
 ghost use Rattle.slate_ids.specs.declared.gc_message.GcMessage.TheVariants as of;
 ghost use Rattle.slate_script_events.specs.declared.call.Call.TheVariants.{Pass};
 ghost use Rattle.slate_script_events.specs.declared.filter_word.FilterWord.{FilterWord};
-ghost use Rattle.slate_cluster_protocol.specs.Calls.{pass_settings};
-ghost use Rattle.slate_cluster_protocol.specs.Holding.{IsOfLog};
+ghost use Rattle.slate_cluster_protocol.specs.Calls.{collector_has, pass_settings};
 ghost use Rattle.slate_cluster_protocol.specs.Passes.{IsExact, IsExactByRule, deletes_made};
 ghost use Rattle.slate_cluster_protocol.specs.Rows.{Answered};
 ghost use Rattle.slate_cluster_protocol.specs.declared.party.Facts.{Facts};
@@ -20,11 +19,11 @@ pub fn exact_pass()
         → IsExact facts (Pass pass min_age dry_run filter) (pass_settings pass min_age dry_run) filter answers }
 {}
 
-/// Along any answers, a pass over a log deletes what its rule picks of what it read: a front of it while it is under way or where it was
-/// refused, and all of it where it ended without a refusal. Its reply then counts these picks.
+/// Along any answers, a pass that a collector of a cluster has deletes what its rule picks of what it read: a front of it while it is under way
+/// or where it was refused, and all of it where it ended without a refusal. Its reply then counts these picks.
 pub fn exact_by_rule()
     ensures { (facts : Facts) (pass : GcMessage) (min_age : ℕ) (dry_run : Bool) (filter : FilterWord) (answers : List Answered)
-        → IsOfLog pass
+        → collector_has (Pass pass min_age dry_run filter) ≡ true
         → IsExactByRule facts (Pass pass min_age dry_run filter) (pass_settings pass min_age dry_run) filter answers }
 {}
 
@@ -39,6 +38,13 @@ pub fn manifest_picks()
 pub fn record_picks()
     ensures { (facts : Facts) (min_age : ℕ) (dry_run : Bool) (filter : FilterWord) (answers : List Answered)
         → PicksAsRead facts of.Compactions min_age dry_run filter answers }
+{}
+
+/// What a pass over tables picks is what its answers to the read of the record, to the read of the manifest, to the gets of the versions that this
+/// manifest's checkpoints name and to the list give, where the pass has the moment of its first answer.
+pub fn table_picks()
+    ensures { (facts : Facts) (min_age : ℕ) (dry_run : Bool) (filter : FilterWord) (answers : List Answered)
+        → PicksAsRead facts of.Compacted min_age dry_run filter answers }
 {}
 
 /// Along any answers, a dry run deletes nothing.

@@ -1,4 +1,4 @@
-//! What holds of passes over a log, along any answers and where nobody disturbs them: laws of the definitions of
+//! What holds of passes, along any answers, and of those over a log where nobody disturbs them: laws of the definitions of
 //! `slate_cluster_protocol`, with no code of the product. Each law is what a function without work ensures, so that a function that
 //! calls it has the law.
 #![tactic(auto)]
@@ -6,5 +6,7 @@
 mod exact_passes;
 mod passes_alone;
 
-pub use exact_passes::{dry_run, exact_by_rule, exact_pass, manifest_picks, record_picks};
+pub use exact_passes::{
+    dry_run, exact_by_rule, exact_pass, manifest_picks, record_picks, table_picks,
+};
 pub use passes_alone::undisturbed_pass;

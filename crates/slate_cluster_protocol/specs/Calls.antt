@@ -87,10 +87,11 @@ holder_has (RefreshCheckpoint id lifetime) = is_some lifetime
 holder_has (DeleteCheckpoint id) = true
 holder_has _ = false
 
--- the calls of a collector: so far, the passes over the two logs
+-- the calls of a collector: so far, the passes over the two logs and over tables
 abbrev pub collector_has : Call → Bool
 collector_has (Pass of.Manifest min_age dry_run filter) = true
 collector_has (Pass of.Compactions min_age dry_run filter) = true
+collector_has (Pass of.Compacted min_age dry_run filter) = true
 collector_has _ = false
 
 -- whether a kind of party has a call

@@ -70,7 +70,7 @@ pub record LawfulAt (specs : List DbSpec) (events : List Event) : Type 0 where
   pub rows : (course_after specs events).trail ≡ trail_by events nobody (opening_world specs).store
   -- what is known of each party is what its events and their entries tell
   pub known : (n : ℕ) → IsAsTold n events (course_after specs events).trail (party_of n (course_after specs events).world.parties)
-  -- each pass over a log has deleted a front of what its rule picks of what it read, and all of it where it ended without a refusal
+  -- each pass, over a log or over tables, has deleted a front of what its rule picks of what it read, and all of it where it ended without a refusal
   pub passes : ExactPasses events nobody (opening_world specs).store
   -- the store is what the calls of the trail left
   pub store : (course_after specs events).world.store ≡ store_of (course_after specs events).trail (opening_world specs).store

@@ -14,9 +14,11 @@ pub mod Logs
 pub mod ByRows
 pub mod Known
 pub mod Trails
+pub mod TablePasses
 pub mod Passes
 pub mod Alone
 pub mod Reach
+pub mod Spares
 pub mod Safe
 pub mod Holding
 pub mod Referenced

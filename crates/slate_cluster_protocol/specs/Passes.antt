@@ -35,6 +35,7 @@ use Rattle.slate_gc_picks.specs.VersionPicks.{unneeded}
 use Rattle.slate_cluster_protocol.specs.ByRows.{Doing, Answers, Told, AllTold, entry_by, party_in, all_told_after, entry_store}
 use Rattle.slate_cluster_protocol.specs.Calls.{pass_settings, Next, Go, Finish}
 use Rattle.slate_cluster_protocol.specs.Rows.{Answered, Standing, answered, begin, stands_after}
+use Rattle.slate_cluster_protocol.specs.TablePasses.{tables_read}
 use Rattle.slate_cluster_protocol.specs.Works.{asks, pass_ways}
 use Rattle.slate_cluster_protocol.specs.Specs.{listed_or_none}
 use Rattle.slate_cluster_protocol.specs.declared.party.Facts.{Facts}
@@ -83,9 +84,10 @@ records_read settings filter _ = None
 abbrev pub read_by : GcMessage → PassSettings → FilterWord → List Answered → Option (List ObjectMetadata)
 read_by of.Manifest settings filter answers = manifests_read settings filter answers
 read_by of.Compactions settings filter answers = records_read settings filter answers
+read_by of.Compacted settings filter answers = tables_read settings filter answers
 read_by _ settings filter answers = None
 
--- of the answers of a pass over a log from its list on
+-- of the answers of a pass from its first read on
 abbrev pub picks_read : PassSettings → FilterWord → List Answered → Option (List ObjectMetadata)
 picks_read settings filter answers = read_by settings.pass settings filter answers
 
@@ -99,7 +101,7 @@ abbrev pub pass_answers : Call → Standing → List Answered → List Answered
 pass_answers call standing [] = []
 pass_answers call standing (a ∷ answers) = if is_collecting standing.next then a ∷ answers else pass_answers call (answered call standing.facts standing.next a) answers
 
--- what a pass over a log picks, by its answers so far
+-- what a pass picks by its rule, by its answers so far
 abbrev pub picked : Facts → Call → PassSettings → FilterWord → List Answered → List ObjectMetadata
 picked facts call settings filter answers = listed_or_none (picks_read settings filter (pass_answers call (begin facts call) answers))
 
@@ -152,8 +154,8 @@ pub record IsExact (facts : Facts) (call : Call) (settings : PassSettings) (filt
   pub whole : (counts : PassCounts) → (stands_after facts call answers).next ≡ Finish (reply_of counts)
       → (left ≡ []) × (reply_of counts ≡ reply_of (with_deletes (counts_before settings (picked_so_far settings filter answers)) (deletes_made facts call answers)))
 
--- the same of a pass over a log, by its rule: it has deleted a front of what the rule picks of what the pass read; where it ended without a
--- refusal, all of it, deletes that faulted included, and its reply has the counts of these picks and of its deletes
+-- the same by its rule, of a pass that a collector of a cluster has: it has deleted a front of what the rule picks of what the pass read; where it
+-- ended without a refusal, all of it, deletes that faulted included, and its reply has the counts of these picks and of its deletes
 pub record IsExactByRule (facts : Facts) (call : Call) (settings : PassSettings) (filter : FilterWord) (answers : List Answered) : Type 0 where
   pub left : List ObjectMetadata
   pub front : calls_of (deletes_made facts call answers) ++ deletes_of left ≡ deletes_of (picked facts call settings filter answers)
@@ -162,12 +164,14 @@ pub record IsExactByRule (facts : Facts) (call : Call) (settings : PassSettings)
 
 -- ---- in a trail
 
--- of a party that is in a pass with these answers: over a log, as each that a collector of a cluster has, by its rule
+-- of a party that is in a pass with these answers: of each that a collector of a cluster has, by its rule
 abbrev pub ExactDoing : Facts → Doing → Answered → Type 0
 ExactDoing facts (Answers (Pass of.Manifest min_age dry_run filter) answers) a =
     IsExactByRule facts (Pass of.Manifest min_age dry_run filter) (pass_settings of.Manifest min_age dry_run) filter (answers ++ a ∷ [])
 ExactDoing facts (Answers (Pass of.Compactions min_age dry_run filter) answers) a =
     IsExactByRule facts (Pass of.Compactions min_age dry_run filter) (pass_settings of.Compactions min_age dry_run) filter (answers ++ a ∷ [])
+ExactDoing facts (Answers (Pass of.Compacted min_age dry_run filter) answers) a =
+    IsExactByRule facts (Pass of.Compacted min_age dry_run filter) (pass_settings of.Compacted min_age dry_run) filter (answers ++ a ∷ [])
 ExactDoing facts (Answers (Pass pass min_age dry_run filter) answers) a = IsExact facts (Pass pass min_age dry_run filter) (pass_settings pass min_age dry_run) filter (answers ++ a ∷ [])
 ExactDoing facts _ a = Unit {0}
 

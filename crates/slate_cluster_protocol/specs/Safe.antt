@@ -1,6 +1,7 @@
 -- The safe trail: what a delete removed is not reachable from then on, and what is reachable stands.
 use Rattle.std.specs.Prelude.{◌≡◌, ℕ, ◌≤◌, Bool, true, false, not, ◌&&◌, List, [], ◌∷◌, ◌++◌, Some}
 use Rattle.slate_ids.specs.declared.object_path.ObjectPath.{ObjectPath}
+use Rattle.slate_ids.specs.declared.object_path.ObjectPath.TheVariants.{Table}
 use Rattle.slate_store.specs.Store.{Store, object_at, stands_at, effect}
 use Rattle.slate_store.specs.declared.store_call.StoreCall.{StoreCall}
 use Rattle.slate_store.specs.declared.store_call.StoreCall.TheVariants.{Delete}
@@ -12,6 +13,7 @@ use Rattle.slate_cluster_protocol.specs.ByRows.{entry_store}
 use Rattle.slate_cluster_protocol.specs.Chains.{Link, link_at, bytes_of, bound_in}
 use Rattle.slate_cluster_protocol.specs.Logs.{Author, Chains, Held, log_of}
 use Rattle.slate_cluster_protocol.specs.Reach.{IsNeeded, IsSpare, Reachable}
+use Rattle.slate_cluster_protocol.specs.Spares.{IsSpareTable}
 use Rattle.slate_cluster_protocol.specs.World.{World, HasDb}
 
 -- ---- what was removed
@@ -42,13 +44,17 @@ gone (x ∷ xs) s = removed_by x s ++ gone xs (entry_store x s)
 
 -- ---- safe
 
+-- each of these paths has it
+abbrev pub EachPath : (ObjectPath → Type 0) → List ObjectPath → Type 0
+EachPath P [] = Unit {0}
+EachPath P (path ∷ paths) = P path × EachPath P paths
+
 -- none of these paths is reachable
 abbrev pub NoneReachable : World → Chains → List ObjectPath → Type 0
-NoneReachable w chains [] = Unit {0}
-NoneReachable w chains (path ∷ paths) = (Reachable w chains path → ⊥) × NoneReachable w chains paths
+NoneReachable w chains paths = EachPath (λ path. Reachable w chains path → ⊥) paths
 
--- a removed path is the version of a log at a number that is spare, and at or below the boundary of its log
-pub record IsCollected (w : World) (chains : Chains) (path : ObjectPath) : Type 0 where
+-- a path is the version of a log at a number that is spare, and at or below the boundary of its log
+pub record IsCollectedVersion (w : World) (chains : Chains) (path : ObjectPath) : Type 0 where
   pub log : LogKind
   pub db : List ℕ
   pub number : ℕ
@@ -57,10 +63,22 @@ pub record IsCollected (w : World) (chains : Chains) (path : ObjectPath) : Type 
   pub spare : IsSpare (log_of log) (chains log db) number
   pub bounded : (bound : ℕ) → bound_in (log_of log) db w.store ≡ Some bound → number ≤ bound
 
+-- a path is that of a spare table
+pub record IsCollectedTable (w : World) (chains : Chains) (path : ObjectPath) : Type 0 where
+  pub db : List ℕ
+  pub id : ℕ × ℕ
+  pub is : path ≡ Table db id
+  pub has : HasDb w db
+  pub spare : IsSpareTable chains db id
+
+-- what a pass may have removed: a version of a log, or a table
+pub data IsCollected (w : World) (chains : Chains) (path : ObjectPath) : Type 0 where
+  OfLog : IsCollectedVersion w chains path → IsCollected w chains path
+  OfTables : IsCollectedTable w chains path → IsCollected w chains path
+
 -- each of these paths
 abbrev pub AllCollected : World → Chains → List ObjectPath → Type 0
-AllCollected w chains [] = Unit {0}
-AllCollected w chains (path ∷ paths) = IsCollected w chains path × AllCollected w chains paths
+AllCollected w chains paths = EachPath (IsCollected w chains) paths
 
 -- a version that is needed was committed, and is there with the bytes that were committed
 pub record IsPresent (w : World) (chains : Chains) (k : LogKind) (db : List ℕ) (n : ℕ) : Type 0 where
@@ -74,5 +92,5 @@ pub record IsSafe (w : World) (chains : Chains) (removed : List ObjectPath) : Ty
   pub unreachable : NoneReachable w chains removed
   -- each version that is reachable stands with its committed bytes
   pub stands : (k : LogKind) (db : List ℕ) (n : ℕ) → HasDb w db → IsNeeded (log_of k) (chains k db) n → IsPresent w chains k db n
-  -- each collected number is spare, and at or below the boundary of its log
+  -- each version that was removed is spare, and at or below the boundary of its log; each table that was is spare
   pub collected : AllCollected w chains removed

@@ -34,7 +34,7 @@ the paths of the objects left, and then ok or the first bad event.
              \"initialized\", \"writer_epoch\", \"compactor_epoch\",
              \"floor\", \"replay_after\", \"next_wal\", \"extractor\",
              the arrays \"l0\", \"runs\", \"markers\", \"checkpoints\"
-             and the object \"record\" of compactions
+             and \"strays\", and the object \"record\" of compactions
   open       {\"open\":1,\"kind\":\"writer\",\"db\":\"db\"}, or of a kind below
   step       {\"step\":1,\"at\":1000}, and where wanted \"times\":1000 for
              up to 1000 of them, and \"mark\":\"fail\" for a store call
@@ -69,9 +69,10 @@ A start is one of these, by the kind of its party:
              \"lifetime\":60000}
              {\"start\":1,\"call\":\"delete_checkpoint\",\"id\":7}
   collector  {\"start\":1,\"call\":\"pass\",\"pass\":\"manifest\"}, of which the
-             pass is \"manifest\" or \"compactions\", and where wanted
-             \"min_age\":300000, \"dry_run\":false, \"filter\":\"all\"; a filter
-             is \"all\", \"none\" or an array of paths
+             pass is \"manifest\", \"compactions\" or \"compacted\", and
+             where wanted \"min_age\":300000, \"dry_run\":false,
+             \"filter\":\"all\"; a filter is \"all\", \"none\" or an array of
+             paths
 
 An id of a table, a view or a compaction is a text \"ms:tail\" of two
 numbers below 2^48 and 2^80, one of a checkpoint a number below 2^64;

@@ -13,12 +13,13 @@ use Rattle.slate_txn_log.specs.declared.right.Right.{Right}
 use Rattle.slate_cluster_protocol.specs.Chains.{Changed, IsChain, Link, link_at}
 use Rattle.slate_cluster_protocol.specs.Chains.Changed.{Stays, Gets}
 use Rattle.slate_cluster_protocol.specs.Logs.{Author, Chain, Chains, change_by, manifests, records}
+use Rattle.slate_cluster_protocol.specs.Reach.{HasOwn}
 use Rattle.slate_cluster_chain_laws.proofs.Links.{at_most, link_here, link_there, same_or_not}
 use Rattle.slate_cluster_chain_laws.proofs.TableSteps.{comes_from, none_attaches}
-use Rattle.slate_cluster_chain_laws.specs.TableSteps.{ComesFrom, HasOwn}
+use Rattle.slate_cluster_chain_laws.specs.TableSteps.{ComesFrom}
 use Rattle.slate_cluster_chain_laws.specs.TableSteps.ComesFrom.{Stays as Own, Flushed, Made}
 use Rattle.slate_cluster_laws.proofs.Stores.{same_name}
-use Rattle.slate_cluster_spare_laws.specs.Spares.{floor_top, least_top}
+use Rattle.slate_cluster_protocol.specs.Spares.{floor_top, least_top}
 use Rattle.slate_cluster_spare_laws.proofs.Made.{Leaves}
 use Rattle.slate_cluster_spare_laws.proofs.Stays.{least_stays}
 

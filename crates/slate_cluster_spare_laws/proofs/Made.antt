@@ -26,7 +26,7 @@ use Rattle.slate_cluster_laws.proofs.Along.{Moment, StepBrings, in_call, moment_
 use Rattle.slate_cluster_laws.proofs.Runs.{Inv}
 use Rattle.slate_cluster_laws.proofs.Steps.{author_in}
 use Rattle.slate_cluster_compactor_laws.specs.Pending.{HoldsPending, IsTopEpoch, OfTop}
-use Rattle.slate_cluster_spare_laws.specs.Spares.{least_top}
+use Rattle.slate_cluster_protocol.specs.Spares.{least_top}
 use Rattle.slate_cluster_table_laws.proofs.Merging.{may_bring}
 use Rattle.slate_cluster_table_laws.proofs.Moments.{away}
 use Rattle.slate_cluster_spare_laws.proofs.Pending.{pending_late}

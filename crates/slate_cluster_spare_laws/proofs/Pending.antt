@@ -22,7 +22,7 @@ use Rattle.slate_cluster_chain_laws.specs.Locals.{IsHeldIn, ObeyOutputs}
 
 -- ---- the least of a record
 
-least_first : (ms : ℕ) (entries : List Compaction) → least_with ms entries ≤ ms
+pub least_first : (ms : ℕ) (entries : List Compaction) → least_with ms entries ≤ ms
 least_first ms [] = omega arith
 least_first ms (c ∷ entries) = let rest = least_first ms entries in omega (arith, rest)
 
@@ -48,11 +48,11 @@ least_below id (c ∷ entries) h = by (same_id c.id id) refl h
 
 -- ---- outputs
 
-neither : (a b : Option SlateDBError) → option_or a b ≡ None → (a ≡ None) × (b ≡ None)
+pub neither : (a b : Option SlateDBError) → option_or a b ≡ None → (a ≡ None) × (b ≡ None)
 neither None b h = (refl, h)
 neither (Some e) b h = absurd (cc h)
 
-at_or_above : (last next : ℕ) → clock_refusal last next ≡ None → last ≤ next
+pub at_or_above : (last next : ℕ) → clock_refusal last next ≡ None → last ≤ next
 at_or_above last next h = by (nat_lt next last) refl h
   where
     by : (b : Bool) → nat_lt next last ≡ b → (let o : Option SlateDBError = if b then Some (InvalidClockTick (pos last) (pos next)) else None in o) ≡ None → last ≤ next

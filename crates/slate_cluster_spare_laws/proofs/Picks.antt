@@ -20,14 +20,13 @@ use Rattle.slate_txn_log.specs.declared.log_kind.LogKind.TheVariants as logs
 use Rattle.slate_cluster_protocol.specs.Chains.{IsChain, Link, link_at, top}
 use Rattle.slate_cluster_protocol.specs.Lawful.{AreGood, IsAccepted, chains_at_end, world_at_end}
 use Rattle.slate_cluster_protocol.specs.Logs.{Author, Chain, Chains, manifests, records}
-use Rattle.slate_cluster_protocol.specs.Reach.{IsNeeded, names_top}
+use Rattle.slate_cluster_protocol.specs.Reach.{IsNeeded, names_top, HasOwn, NeedsTable}
 use Rattle.slate_cluster_protocol.specs.Reach.IsNeeded.{Greatest, Named}
 use Rattle.slate_cluster_protocol.specs.Referenced.{IsReferenced, version_at}
 use Rattle.slate_cluster_protocol.specs.World.{HasDb}
 use Rattle.slate_cluster_chain_laws.proofs.Links.{at_most, le_or_lt, link_here, link_there, same_or_not}
 use Rattle.slate_cluster_chain_laws.proofs.Rising.{name_known}
 use Rattle.slate_cluster_chain_laws.proofs.TableSteps.{among_back, among_front, both_of, kept_of}
-use Rattle.slate_cluster_chain_laws.specs.TableSteps.{HasOwn}
 use Rattle.slate_cluster_protocol.specs.Rising.{NameKnown}
 use Rattle.slate_ids.specs.Ids.{is_db_path}
 use Rattle.slate_cluster_protocol.specs.Lawful.{course_after}
@@ -39,7 +38,7 @@ use Rattle.slate_cluster_compactor_laws.proofs.Growing.{records_of_chain}
 use Rattle.slate_cluster_table_laws.proofs.EachLink.{each_at}
 use Rattle.slate_cluster_table_laws.proofs.Marks.{IsMarked}
 use Rattle.slate_cluster_table_laws.proofs.Moments.{marked_of_run}
-use Rattle.slate_cluster_spare_laws.specs.Spares.{IsSpareTable, NeedsTable, floor_top, least_top}
+use Rattle.slate_cluster_protocol.specs.Spares.{IsSpareTable, floor_top, least_top}
 use Rattle.slate_cluster_spare_laws.specs.TableReads.{HasRead, IsLeastRead}
 use Rattle.slate_cluster_spare_laws.specs.TableReads.IsLeastRead.{OfNone, OfRecord}
 use Rattle.slate_cluster_spare_laws.proofs.Later.{IsFrom, IsLater, step_later, step_least}
@@ -168,7 +167,7 @@ module _ (c : Chain logs.Manifest) (r : Chain logs.Compactions) (chain : IsChain
 -- ---- along a run
 
 -- the least that was read is at most that of the greatest record
-read_most : (c : Chain logs.Compactions) → IsChain records c → (least : ℕ) → IsLeastRead c least → least ≤ least_top c
+pub read_most : (c : Chain logs.Compactions) → IsChain records c → (least : ℕ) → IsLeastRead c least → least ≤ least_top c
 read_most c chain least (OfNone is) = omega (arith, is)
 read_most [] chain least (OfRecord n l at is) = absurd (cc at)
 read_most (x ∷ c) chain least (OfRecord n l at is) = by l.value.entries refl
@@ -182,7 +181,7 @@ read_most (x ∷ c) chain least (OfRecord n l at is) = by l.value.entries refl
         omega (arith, is, up)
 
 -- as the manifests were listed no later one was there
-begins : (c : Chain logs.Manifest) (r : Chain logs.Compactions) (least : ℕ) → IsChain manifests c → 0 < top c → least ≤ least_top r → (l : Link Manifest Author) × ((l.number ≡ top c) × IsLater l least c r)
+pub begins : (c : Chain logs.Manifest) (r : Chain logs.Compactions) (least : ℕ) → IsChain manifests c → 0 < top c → least ≤ least_top r → (l : Link Manifest Author) × ((l.number ≡ top c) × IsLater l least c r)
 begins [] r least chain some low = absurd (omega (arith, some))
 begins (x ∷ c) r least chain some low = (
   x,
@@ -201,7 +200,7 @@ begins (x ∷ c) r least chain some low = (
   ),
 )
 
-front_good : (specs : List DbSpec) (xs ys : List Event) → AreGood specs (xs ++ ys) → AreGood specs xs
+pub front_good : (specs : List DbSpec) (xs ys : List Event) → AreGood specs (xs ++ ys) → AreGood specs xs
 front_good specs xs ys good = ap (λ (r : Ran). r.bad) (run_split xs ys 0 (opening specs) (course_after specs (xs ++ ys)) (good_run specs (xs ++ ys) good)).first
 
 module _ (specs : List DbSpec) (accepted : IsAccepted specs) (front middle back : List Event) (good : AreGood specs ((front ++ middle) ++ back)) (db : List ℕ) (has : HasDb (world_at_end specs ((front ++ middle) ++ back)) db) where

@@ -9,11 +9,10 @@ use Rattle.slate_state_updates.specs.TableSets.{is_among}
 use Rattle.slate_txn_log.specs.declared.log_kind.LogKind.TheVariants as logs
 use Rattle.slate_cluster_protocol.specs.Chains.{Link, IsChain}
 use Rattle.slate_cluster_protocol.specs.Logs.{Author, Chain, manifests}
-use Rattle.slate_cluster_protocol.specs.Reach.{IsNeeded}
+use Rattle.slate_cluster_protocol.specs.Reach.{IsNeeded, HasOwn, NeedsTable}
 use Rattle.slate_cluster_protocol.specs.Reach.IsNeeded.{Greatest, Named}
 use Rattle.slate_cluster_chain_laws.proofs.Links.{link_here, link_there, same_or_not}
-use Rattle.slate_cluster_chain_laws.specs.TableSteps.{ComesFrom, HasOwn, OwnTablesCome}
-use Rattle.slate_cluster_spare_laws.specs.Spares.{NeedsTable}
+use Rattle.slate_cluster_chain_laws.specs.TableSteps.{ComesFrom, OwnTablesCome}
 use Rattle.slate_cluster_chain_laws.specs.TableSteps.ComesFrom.{Stays, Flushed, Made}
 
 module _ (new old : Link Manifest Author) (c : Chain logs.Manifest) (h : IsChain manifests (new ∷ old ∷ c)) (some : 0 < old.number)

@@ -14,11 +14,12 @@ use Rattle.slate_txn_log.specs.declared.log_kind.LogKind.TheVariants as logs
 use Rattle.slate_cluster_protocol.specs.Chains.{Changed, IsChain, Link}
 use Rattle.slate_cluster_protocol.specs.Chains.Changed.{Stays, Gets}
 use Rattle.slate_cluster_protocol.specs.Logs.{Author, Chain, Chains, change_by, manifests, records}
+use Rattle.slate_cluster_protocol.specs.Reach.{NeedsTable}
 use Rattle.slate_cluster_chain_laws.proofs.Links.{link_here}
 use Rattle.slate_cluster_chain_laws.proofs.Names.{some_number}
 use Rattle.slate_cluster_chain_laws.proofs.TableSteps.{comes_from, none_attaches}
 use Rattle.slate_cluster_laws.proofs.Stores.{same_name}
-use Rattle.slate_cluster_spare_laws.specs.Spares.{IsSpareTable, NeedsTable, floor_top, least_top}
+use Rattle.slate_cluster_protocol.specs.Spares.{IsSpareTable, floor_top, least_top}
 use Rattle.slate_cluster_spare_laws.proofs.SpareTables.{stays_unneeded}
 use Rattle.slate_cluster_spare_laws.proofs.Made.{Leaves}
 

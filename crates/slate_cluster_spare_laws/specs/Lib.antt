@@ -1,2 +1,2 @@
-pub mod Spares
 pub mod TableReads
+pub mod SpareObjects

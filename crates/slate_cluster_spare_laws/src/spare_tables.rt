@@ -9,7 +9,7 @@ ghost use Rattle.slate_script_events.specs.declared.event.Event.{Event};
 ghost use Rattle.slate_cluster_protocol.specs.Lawful.{AreGood, IsAccepted, chains_at_end, world_at_end};
 ghost use Rattle.slate_cluster_protocol.specs.Logs.{chains_after};
 ghost use Rattle.slate_cluster_protocol.specs.World.{HasDb};
-ghost use Rattle.slate_cluster_spare_laws.specs.Spares.{IsSpareTable};
+ghost use Rattle.slate_cluster_protocol.specs.Spares.{IsSpareTable};
 ghost use Rattle.slate_cluster_spare_laws.specs.TableReads.{HasRead};
 
 /// A table from before the floor of its database's greatest manifest and from before the compactions of its greatest record, which no needed version

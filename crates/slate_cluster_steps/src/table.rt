@@ -90,7 +90,7 @@ fn holder_has(call: &Call) -> bool
     }
 }
 
-// Whether a call is a collector's: so far, a pass over manifests or over records.
+// Whether a call is a collector's: so far, a pass over manifests, over records or over tables.
 fn collector_has(call: &Call) -> bool
     ensures { result ≡ calls.collector_has call.now }
 {
@@ -101,6 +101,10 @@ fn collector_has(call: &Call) -> bool
         } => true,
         Call::Pass {
             pass: GcMessage::Compactions,
+            ..
+        } => true,
+        Call::Pass {
+            pass: GcMessage::Compacted,
             ..
         } => true,
         _ => false,

@@ -248,12 +248,12 @@ others_kept m e q m' (Carries n call r at may) t h whole k ne p is own = record 
 others_kept m e q m' (Stops n r at) t h whole k ne p is own = record { uploads = own.uploads; held = own.held; named = own.named }
 others_kept m e q m' (Idles _ r at) t h whole k ne p is own = own
 
-each_kept : Kept WholeAt PartyAt
+pub each_kept : Kept WholeAt PartyAt
 each_kept = record { whole = whole_kept; own = own_kept; others = others_kept }
 
 -- ---- at the end of a run
 
-opening_whole : (specs : List DbSpec) → IsAccepted specs → WholeAt (opening_moment specs)
+pub opening_whole : (specs : List DbSpec) → IsAccepted specs → WholeAt (opening_moment specs)
 opening_whole specs accepted = record {
   marks = λ db has. opening_marked specs accepted db;
   outputs = λ db has. opening_there specs accepted db;

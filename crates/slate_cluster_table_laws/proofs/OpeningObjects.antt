@@ -11,7 +11,6 @@ use Rattle.slate_model.specs.Watermark.{watermark}
 use Rattle.slate_model.specs.declared.external_db.ExternalDb.{ExternalDb}
 use Rattle.slate_model.specs.declared.manifest.Manifest.{Manifest}
 use Rattle.slate_state_updates.specs.TableSets.{is_among}
-use Rattle.slate_cluster_chain_laws.specs.TableSteps.{HasOwn}
 use Rattle.slate_cluster_chain_laws.proofs.TableSteps.{either, kept_of, same_tables}
 use Rattle.slate_model_records.specs.Records.{Record}
 use Rattle.slate_model_records.specs.declared.compaction.Compaction.{Compaction}
@@ -25,6 +24,7 @@ use Rattle.slate_state_record_updates.specs.RecordRules.{table_refusal}
 use Rattle.slate_cluster_protocol.specs.Lawful.{IsAccepted}
 use Rattle.slate_cluster_protocol.specs.Logs.{opening_link, opening_manifests, opening_records, record_chain}
 use Rattle.slate_cluster_protocol.specs.Specs.{First, home_of, is_absent, are_ids_fine, are_outputs_wrong, cause_beside, compactions_in, has_wrong_output, is_epoch_high, is_floor_low, is_output_absent, is_output_wrong, is_there, lacks_table, listed_or_none, names_other, no_objects, objects_of, opening_world, overlaps, store_from, tallies_from}
+use Rattle.slate_cluster_protocol.specs.Reach.{HasOwn}
 use Rattle.slate_cluster_laws.proofs.Stores.{decides}
 use Rattle.slate_cluster_table_laws.specs.Links.{EachValue}
 use Rattle.slate_cluster_table_laws.specs.Presence.{EachOutput, EachTable, IfTable, WasPut}

@@ -17,7 +17,7 @@ use Rattle.slate_state_updates.specs.Rules.{manifest_refusal}
 use Rattle.slate_state_updates.specs.RunTables.{attaches, outputs_of, run_tables}
 use Rattle.slate_state_updates.specs.TableSets.{is_among}
 use Rattle.slate_txn_log.specs.declared.right.Right.{Right}
-use Rattle.slate_cluster_chain_laws.specs.TableSteps.{HasOwn}
+use Rattle.slate_cluster_protocol.specs.Reach.{HasOwn}
 use Rattle.slate_cluster_chain_laws.proofs.TableSteps.{all_of, among_back, among_either, among_front, either, either_way, first_of, flushed_there, kept_of, same_tables, second_of, was_own}
 use Rattle.slate_cluster_table_laws.specs.Presence.{IfTable}
 use Rattle.slate_cluster_table_laws.proofs.NewViews.{EachNew, EachSegment, EachView}

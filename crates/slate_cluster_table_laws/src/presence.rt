@@ -6,8 +6,8 @@ ghost use Rattle.slate_script_events.specs.declared.db_spec.DbSpec.{DbSpec};
 ghost use Rattle.slate_script_events.specs.declared.event.Event.{Event};
 ghost use Rattle.slate_cluster_protocol.specs.Lawful.{IsAccepted, AreGood, chains_at_end, gone_after, world_at_end};
 ghost use Rattle.slate_cluster_protocol.specs.World.{HasDb, party_of};
+ghost use Rattle.slate_cluster_protocol.specs.Reach.{HasOwn};
 ghost use Rattle.slate_cluster_protocol.specs.declared.party.Party.{Party};
-ghost use Rattle.slate_cluster_chain_laws.specs.TableSteps.{HasOwn};
 ghost use Rattle.slate_cluster_table_laws.specs.Links.{EachValue};
 ghost use Rattle.slate_cluster_table_laws.specs.Presence.{EachOutput, UploadsPut, WasPut};
 

@@ -68,7 +68,7 @@ static WHOLE: [Field; 2] = [
     Field(Name::Events, Needed, One(Plain::List)),
 ];
 
-static DATABASE: [Field; 14] = [
+static DATABASE: [Field; 15] = [
     Field(Name::Path, Needed, One(Plain::Path)),
     Field(Name::Modified, Optional, One(Plain::Moment)),
     Field(Name::Initialized, Optional, One(Plain::Flag)),
@@ -83,6 +83,7 @@ static DATABASE: [Field; 14] = [
     Field(Name::Markers, Optional, Objects(Object::Marker)),
     Field(Name::Checkpoints, Optional, Objects(Object::Checkpoint)),
     Field(Name::Record, Optional, Nested(Object::Record)),
+    Field(Name::Strays, Optional, Each(Plain::Id)),
 ];
 
 static L0: [Field; 3] = [

@@ -98,7 +98,7 @@ impl Plain {
                 "\"submitted\", \"scheduled\", \"running\", \"compacted\", \"completed\" or \"failed\"",
             Plain::Drain => "true",
             Plain::Mark => "\"fail\" or \"lost\"",
-            Plain::Pass => "\"manifest\" or \"compactions\"",
+            Plain::Pass => "\"manifest\", \"compactions\" or \"compacted\"",
             Plain::Filter => "\"all\", \"none\" or an array of texts",
             Plain::CallName => "the name of a call, which slate run --help lists",
         }

@@ -153,6 +153,22 @@ fn note_runs(
     Ok(None)
 }
 
+// Notes the strays of a database.
+fn note_strays(
+    alloc: Global,
+    named: &mut Named,
+    database: usize,
+    value: &Value,
+) -> Result<Option<Hint>, OutOfMemory> {
+    for (i, table) in items_of(value, Name::Strays).iter().enumerate() {
+        let here = database_spot(database).item(Name::Strays, i);
+        if let Some(hint) = note_table(alloc, named, database, here, table)? {
+            return Ok(Some(hint));
+        }
+    }
+    Ok(None)
+}
+
 // Notes the outputs of a compaction.
 fn note_outputs(
     alloc: Global,
@@ -199,6 +215,9 @@ pub(crate) fn table_fault(alloc: Global, databases: &[Value]) -> Result<Option<H
             return Ok(Some(hint));
         }
         if let Some(hint) = note_runs(alloc, &mut named, i, database)? {
+            return Ok(Some(hint));
+        }
+        if let Some(hint) = note_strays(alloc, &mut named, i, database)? {
             return Ok(Some(hint));
         }
         if let Some(hint) = note_record(alloc, &mut named, i, database)? {

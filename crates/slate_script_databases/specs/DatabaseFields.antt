@@ -80,18 +80,18 @@ opening_fields_in d = do
 abbrev pub database_fields : List (List ℕ)
 database_fields = codes "path" ∷ codes "modified" ∷ codes "initialized" ∷ codes "writer_epoch" ∷ codes "compactor_epoch" ∷ codes "floor"
     ∷ codes "replay_after" ∷ codes "next_wal" ∷ codes "extractor" ∷ codes "l0" ∷ codes "runs" ∷ codes "markers" ∷ codes "checkpoints"
-    ∷ codes "record" ∷ []
+    ∷ codes "record" ∷ codes "strays" ∷ []
 
 -- its first record, where it has one, and its tables
-unfoldable pub objects_of : TreeItems → Option RecordItem → Option (Option Record × List ((ℕ × ℕ) × SsTableInfo))
-objects_of items item = do
+unfoldable pub objects_of : TreeItems → Option RecordItem → List (ℕ × ℕ) → Option (Option Record × List ((ℕ × ℕ) × SsTableInfo))
+objects_of items item strays = do
   compactions ← first_record item
-  Some (compactions, tables_of items (named_outputs item))
+  Some (compactions, tables_of items strays (named_outputs item))
 
 -- the database that these say
-unfoldable pub spec_of : List ℕ → ℤ → OpeningFields → TreeItems → List Checkpoint → Option RecordItem → Option DbSpec
-spec_of path modified fields items checkpoints item = do
-  objects ← objects_of items item
+unfoldable pub spec_of : List ℕ → ℤ → OpeningFields → TreeItems → List Checkpoint → Option RecordItem → List (ℕ × ℕ) → Option DbSpec
+spec_of path modified fields items checkpoints item strays = do
+  objects ← objects_of items item strays
   Some (record { path = path; manifest = manifest_of fields items checkpoints; compactions = objects.0; tables = objects.1; modified = modified })
 
 -- a database with exactly such fields
@@ -104,4 +104,5 @@ database_in d = do
   items ← tree_items_in d
   checkpoints ← defaulted [] (list_in checkpoint_in) (codes "checkpoints") d
   item ← optional record_item_in (codes "record") d
-  spec_of path modified fields items checkpoints item
+  strays ← defaulted [] (list_in id_in) (codes "strays") d
+  spec_of path modified fields items checkpoints item strays

@@ -106,9 +106,9 @@ named_tables items = map (λ (i : L0Item). i.table_id) items.l0 ++ flat_map (λ 
 abbrev pub with_info : ℕ × ℕ → (ℕ × ℕ) × SsTableInfo
 with_info id = (id, opening_info)
 
--- the tables that trees name, and these outputs, each once, with what is known of them
-abbrev pub tables_of : TreeItems → List (ℕ × ℕ) → List ((ℕ × ℕ) × SsTableInfo)
-tables_of items outputs = map with_info (once (named_tables items ++ outputs))
+-- the tables that trees name, these strays, and these outputs, each once, with what is known of them
+abbrev pub tables_of : TreeItems → List (ℕ × ℕ) → List (ℕ × ℕ) → List ((ℕ × ℕ) × SsTableInfo)
+tables_of items strays outputs = map with_info (once (named_tables items ++ strays ++ outputs))
 
 -- ---- the manifest
 

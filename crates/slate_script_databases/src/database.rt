@@ -152,11 +152,12 @@ fn objects_of(
     alloc: Global,
     items: &TreeItems,
     item: &Option<RecordItem>,
+    strays: &[Ulid],
 ) -> Result<(Option<Compactions>, Listed<(Ulid, SsTableInfo)>), JsonError>
-    ensures { Gives result (objects_of items.now item.now) }
+    ensures { Gives result (objects_of items.now item.now strays.now) }
 {
     let compactions = first_record(alloc, item)?;
-    match tables_of(alloc, items, item) {
+    match tables_of(alloc, items, item, strays) {
         Ok(tables) => Ok((compactions, tables)),
         Err(_) => {
             drop(compactions);
@@ -175,11 +176,13 @@ fn spec_of(
     items: TreeItems,
     checkpoints: Listed<Checkpoint>,
     item: Option<RecordItem>,
+    strays: Listed<Ulid>,
 ) -> Result<DbSpec, JsonError>
-    ensures { Gives result (spec_of path modified fields items checkpoints item) }
+    ensures { Gives result (spec_of path modified fields items checkpoints item strays) }
 {
-    let objects = objects_of(alloc, &items, &item);
+    let objects = objects_of(alloc, &items, &item, strays.as_slice());
     drop(item);
+    drop(strays);
     match objects {
         Ok((compactions, tables)) => {
             let manifest = manifest_of(alloc, fields, &items, checkpoints);
@@ -230,6 +233,7 @@ pub fn read_database(alloc: Global, d: &Value) -> Result<DbSpec, JsonError>
             "markers",
             "checkpoints",
             "record",
+            "strays",
         ],
     )?;
     let path = required(alloc, d, "path")?;
@@ -238,5 +242,15 @@ pub fn read_database(alloc: Global, d: &Value) -> Result<DbSpec, JsonError>
     let items = read_tree_items(alloc, d)?;
     let checkpoints = defaulted(alloc, d, "checkpoints", Listed::new(alloc))?;
     let item = optional(alloc, d, "record")?;
-    spec_of(alloc, path, modified, fields, items, checkpoints, item)
+    let strays = defaulted(alloc, d, "strays", Listed::new(alloc))?;
+    spec_of(
+        alloc,
+        path,
+        modified,
+        fields,
+        items,
+        checkpoints,
+        item,
+        strays,
+    )
 }

@@ -130,15 +130,17 @@ fn push_named_outputs(ids: &mut Listed<Ulid>, item: &Option<RecordItem>) -> Resu
     }
 }
 
-/// The tables that trees and the record name, each once, with what is known of them.
+/// The tables that trees name, these strays, and the tables that the record names, each once, with what is known of them.
 pub(crate) fn tables_of(
     alloc: Global,
     items: &TreeItems,
     item: &Option<RecordItem>,
+    strays: &[Ulid],
 ) -> Result<Listed<(Ulid, SsTableInfo)>, OutOfMemory>
-    ensures { IfOk result (λ tables. tables ≡ databases.tables_of items.now (named_outputs item.now)) }
+    ensures { IfOk result (λ tables. tables ≡ databases.tables_of items.now strays.now (named_outputs item.now)) }
 {
     let mut named = named_tables(alloc, items)?;
+    push_ids(&mut named, strays)?;
     push_named_outputs(&mut named, item)?;
     let ids = once(alloc, named.as_slice())?;
     with_infos(alloc, ids.as_slice())

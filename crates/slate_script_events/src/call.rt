@@ -118,15 +118,20 @@ pub enum Call {
     DeleteCheckpoint {
         id: CheckpointId,
     },
-    /// Reads the latest manifest and, where it has expired checkpoints, commits it without them. Then lists the versions of
-    /// its log, manifests or records; of manifests it gets the greatest and the boundary. It moves the boundary of that log to
-    /// the greatest candidate, and deletes one by one what is picked: the candidates that the filter allows, in the order of
-    /// the list. A filter allows all of them, none, or those that lie at one of its paths, which are compared as texts: one at
-    /// which no candidate lies allows nothing. Candidates are the listed numbers below the greatest whose age at the moment of
-    /// the list is strictly above `min_age`, in milliseconds; a manifest that a checkpoint of the greatest names is none. A dry
-    /// run picks nothing, but moves the boundary. A fault of a delete is counted, and the pass goes on; any other fault ends
-    /// it. Refused with `LatestTransactionalObjectVersionMissing` where a list of manifests is empty, and with
-    /// `ManifestMissing` where the greatest manifest listed is gone, or at or below the boundary. The reply is the three counts.
+    /// Reads the latest manifest and, where it has expired checkpoints, commits it without them. Over a log it then lists the
+    /// versions of that, manifests or records; of manifests it gets the greatest and the boundary. It moves the boundary of
+    /// that log to the greatest candidate, and deletes one by one what is picked: the candidates that the filter allows, in the
+    /// order of the list. A filter allows all of them, none, or those that lie at one of its paths, which are compared as
+    /// texts: one at which no candidate lies allows nothing. Candidates are the listed numbers below the greatest whose age at
+    /// the moment of the list is strictly above `min_age`, in milliseconds; a manifest that a checkpoint of the greatest names
+    /// is none. Over tables it reads the latest record, the latest manifest and the versions that its checkpoints name, lists
+    /// the tables, and moves no boundary. Candidates are the listed tables that no version read has in a tree, and whose
+    /// milliseconds are below the watermark of that manifest, below the least compaction of that record, where it has one, and
+    /// below the moment at which its read began less `min_age`; without a compaction there is none. A dry run picks nothing,
+    /// but moves the boundary. A fault of a delete is counted, and the pass goes on; any other fault ends it. Refused with
+    /// `LatestTransactionalObjectVersionMissing` where a list of manifests is empty, and with `ManifestMissing` where the
+    /// greatest manifest listed is gone, or at or below the boundary, or a version that a checkpoint names is gone. The reply
+    /// is the three counts.
     Pass {
         pass: GcMessage,
         min_age: u64,

@@ -37,7 +37,7 @@ mark_in d = as_str d >>= mark_word
 
 -- the passes of a collector
 unfoldable pub pass_word : List ℕ → Option GcMessage
-pass_word s = word_in ((codes "manifest", pass.Manifest) ∷ (codes "compactions", pass.Compactions) ∷ []) s
+pass_word s = word_in ((codes "manifest", pass.Manifest) ∷ (codes "compactions", pass.Compactions) ∷ (codes "compacted", pass.Compacted) ∷ []) s
 
 -- a text that is the word of a pass
 abbrev pub pass_in : Data → Option GcMessage

@@ -69,6 +69,7 @@ fn pass_of(text: &str) -> Option<GcMessage>
     match text {
         "manifest" => Some(GcMessage::Manifest),
         "compactions" => Some(GcMessage::Compactions),
+        "compacted" => Some(GcMessage::Compacted),
         _ => None,
     }
 }

@@ -29,7 +29,8 @@ const WHOLE: &str =
 {"prefix":"ab","id":4294967295,"tables":[]},
 {"id":3,"tables":["4:2"]}],
 "markers":[{"view":"1:1"},{"prefix":"c","view":"1:2"}],
-"checkpoints":[{"id":5}]}"#;
+"checkpoints":[{"id":5}],
+"strays":["9:9","04:2","7:7","9:9"]}"#;
 
 /// A database with segments that begin with one another.
 const SEGMENTS: &str = r#"{"path":"d",
@@ -47,8 +48,8 @@ type Read = (
 );
 
 /// Databases, with what they are. Without optional fields a database is as a new one; each prefix but "" has one segment, and they ascend
-/// by bytes.
-const DATABASES: [(&str, Read); 5] = [
+/// by bytes. A stray stands after the tables of the trees, once, and not again where a tree names it.
+const DATABASES: [(&str, Read); 6] = [
     (
         WHOLE,
         (
@@ -56,7 +57,7 @@ const DATABASES: [(&str, Read); 5] = [
             "5 1 None 0 None; ",
             "1:1 l0 9:1>8:1 5:2>4:2 3:3>8:1 run 7 2:1>2:1 2:2>2:2 run 3 4:2>4:2",
             "b\"ab\"  l0 run 4294967295; b\"b\"  l0 7:0>6:0; b\"c\" 1:2 l0; ",
-            " 8:1 6:0 4:2 2:1 2:2",
+            " 8:1 6:0 4:2 2:1 2:2 9:9 7:7",
         ),
     ),
     (
@@ -86,6 +87,10 @@ const DATABASES: [(&str, Read); 5] = [
     (
         r#"{"path":"b-1","checkpoints":[]}"#,
         ("b-1 0 true 0 0 0 0 1 None", "", " l0", "", ""),
+    ),
+    (
+        r#"{"path":"s","strays":["3:0","1:0","2:0"]}"#,
+        ("s 0 true 0 0 0 0 1 None", "", " l0", "", " 3:0 1:0 2:0"),
     ),
 ];
 
@@ -372,6 +377,10 @@ const AROUND_IDS: &[(&str, &str)] = &[
         r#"}]}],"events":[]}"#,
     ),
     (
+        r#"{"databases":[{"path":"a","strays":["1:1","#,
+        r#"]}],"events":[]}"#,
+    ),
+    (
         r#"{"databases":[{"path":"a","record":{"epoch":0,"compactions":[{"status":"failed","views":[],"runs":[],"drain":true,"outputs":[],"id":"#,
         r#"}]}}],"events":[]}"#,
     ),
@@ -441,7 +450,6 @@ fn databases_that_are_none(rt: HostRuntime) {
 /// Fields with which a database is none.
 const BAD_FIELDS: &[&str] = &[
     r#""entries":[]"#,
-    r#""strays":[]"#,
     r#""wals":[]"#,
     r#""record":{}"#,
     r#""record":[]"#,
@@ -518,6 +526,13 @@ const BAD_FIELDS: &[&str] = &[
     r#""markers":[{"view":"1:1"},{"view":"1:1"}]"#,
     r#""markers":[{"prefix":"","view":"1:1"},{"prefix":"b","view":"1:1"},{"view":"2:1"}]"#,
     r#""markers":[{"prefix":"a","view":"1:1"},{"view":"2:1"},{"prefix":"a","view":"3:1"}]"#,
+    r#""strays":{}"#,
+    r#""strays":null"#,
+    r#""strays":"1:1""#,
+    r#""strays":[["1:1"]]"#,
+    r#""strays":[{"table":"1:1"}]"#,
+    r#""strays":[1]"#,
+    r#""stray":[]"#,
 ];
 
 // The table as a slice: a function that names a table has all of it written out.
@@ -543,7 +558,7 @@ fn fields_that_are_none(rt: HostRuntime) {
     }
 }
 
-/// What is no matter of reading: ids that come twice, prefixes that begin with others, a floor that is too low.
+/// What is no matter of reading: ids that come twice, prefixes that begin with others, a floor that is too low; and strays, also none.
 const READ_FIELDS: &[&str] = &[
     r#""l0":[{"view":"1:1","table":"1:1"},{"view":"1:1","table":"1:1"}]"#,
     r#""runs":[{"id":1,"tables":["1:1","1:1"]},{"id":1,"tables":["1:1"]}]"#,
@@ -553,6 +568,8 @@ const READ_FIELDS: &[&str] = &[
     r#""record":{"epoch":9,"compactions":[{"id":"9:1","status":"running","views":[],"runs":[],"drain":true,"outputs":["1:1"]}]}"#,
     r#""next_wal":0"#,
     r#""extractor":"""#,
+    r#""strays":[]"#,
+    r#""l0":[{"view":"1:1","table":"1:1"}],"strays":["1:1","2:1","1:1"]"#,
 ];
 
 // The table as a slice: a function that names a table has all of it written out.

@@ -45,13 +45,14 @@ const WHOLE: &str = r#"{"databases":[],
 {"start":5,"call":"pass","pass":"manifest","filter":[]},
 {"start":5,"filter":["a/manifest/00000000000000000001.manifest","","all","a\/b","all"],"call":"pass","pass":"manifest"},
 {"start":5,"call":"pass","pass":"compactions"},
+{"start":5,"call":"pass","pass":"compacted","min_age":1},
 {"step":1,"at":-9223372036854775808},
 {"step":2,"at":6,"mark":"fail","times":2},
 {"step":3,"at":9223372036854775807,"mark":"lost","times":1},
 {"stop":2}]}"#;
 
 /// What its events are.
-const EVENTS: [&str; 39] = [
+const EVENTS: [&str; 40] = [
     "open 1 Writer a",
     "open 4294967295 Holder none",
     "start 1 open writer",
@@ -86,6 +87,7 @@ const EVENTS: [&str; 39] = [
     "start 5 pass Manifest 300000 false paths",
     "start 5 pass Manifest 300000 false paths \"a/manifest/00000000000000000001.manifest\" \"\" \"all\" \"a/b\" \"all\"",
     "start 5 pass Compactions 300000 false all",
+    "start 5 pass Compacted 1 false all",
     "step 1 -9223372036854775808 Good",
     "step 2 6 Fail",
     "step 2 6 Fail",
@@ -444,6 +446,10 @@ const BEFORE_PASS: &str = r#"{"databases":[],"events":[{"stop":1},{"start":1,"ca
 const BAD_PASSES: &[&str] = &[
     r#""min_age":0"#,
     r#""pass":"detach""#,
+    r#""pass":"wal""#,
+    r#""pass":"wal_fence""#,
+    r#""pass":"tables""#,
+    r#""pass":"Compacted""#,
     r#""pass":"Manifest""#,
     r#""pass":"records""#,
     r#""pass":["manifest"]"#,

@@ -10,10 +10,10 @@ use std::process::Abort;
 const BEFORE: &str =
     r#"{"databases":[{"path":"db","runs":[{"id":1,"tables":["7:7","9:2"]}],"record":"#;
 
-const AFTER: &str = r#"}],"events":[]}"#;
+const AFTER: &str = r#","strays":["8:8","10:1"]}],"events":[]}"#;
 
-/// Records, with what they are, and with the tables that stand beside those of the run, each once. Compactions ascend by id; views come
-/// before runs.
+/// Records, with what they are, and with the tables that stand beside those of the run and the strays, each once. Compactions ascend by id;
+/// views come before runs.
 const RECORDS: [(&str, &str, &str); 3] = [
     (
         r#"{"epoch":18446744073709551615,"compactions":[]}"#,
@@ -26,7 +26,7 @@ const RECORDS: [(&str, &str, &str); 3] = [
 {"id":"08:0","status":"running","views":[],"runs":[],"drain":true,"outputs":[]},
 {"id":"9:0","status":"compacted","views":["1:1"],"runs":[7],"destination":0,"outputs":["10:1"]}]}"#,
         "3; 8:0 Running b\"\" drains from to; 9:0 Compacted b\"\" run 0 from 1:1 #7 to 10:1; 9:1 Completed b\"ab\" run 4294967295 from 5:1 3:1 #4 #2 to 9:2 9:3 9:2",
-        " 9:3 10:1",
+        " 9:3",
     ),
     (
         r#"{"epoch":0,"compactions":[
@@ -96,13 +96,13 @@ fn has_record(rt: &impl Abort, alloc: Global, spec: &DbSpec, text: &str) -> bool
     is_text(out, text)
 }
 
-// Whether these tables stand in the store, after those of the run.
+// Whether these tables stand in the store, after those of the run and the strays.
 fn has_outputs(rt: &impl Abort, alloc: Global, spec: &DbSpec, text: &str) -> bool {
     let mut out = String::new(alloc);
     for table in spec.tables.as_slice() {
         push_ulid(&mut out, " ", table.0).expect(rt, "memory");
     }
-    let wanted = text_of(rt, alloc, " 7:7 9:2", text, "");
+    let wanted = text_of(rt, alloc, " 7:7 9:2 8:8 10:1", text, "");
     let same = is_text(out, wanted.as_str());
     drop(wanted);
     same

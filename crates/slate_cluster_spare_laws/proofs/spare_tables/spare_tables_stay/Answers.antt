@@ -1,4 +1,4 @@
-use Rattle.slate_cluster_spare_laws.specs.Spares.{IsSpareTable}
+use Rattle.slate_cluster_protocol.specs.Spares.{IsSpareTable}
 use Rattle.slate_cluster_spare_laws.proofs.Onward.{event_keeps, run_keeps}
 use Rattle.slate_cluster_spare_laws.proofs.Stays.{step_stays}
 use Rattle.slate_cluster_spare_laws.proofs.spare_tables.spare_tables_stay.Goals as goal

@@ -1,20 +1,9 @@
 -- Tables that nobody needs, nor will.
-use Rattle.std.specs.Prelude.{◌≡◌, ℕ, ◌<◌, List, [], ◌∷◌, Some}
-use Rattle.slate_model.specs.declared.manifest.Manifest.{Manifest}
+use Rattle.std.specs.Prelude.{ℕ, ◌<◌, List, [], ◌∷◌}
 use Rattle.slate_state_record_updates.specs.RecordRules.{least_ms}
 use Rattle.slate_txn_log.specs.declared.log_kind.LogKind.TheVariants as logs
-use Rattle.slate_cluster_protocol.specs.Chains.{Link, link_at}
-use Rattle.slate_cluster_protocol.specs.Logs.{Author, Chain, Chains, manifests}
-use Rattle.slate_cluster_protocol.specs.Reach.{IsNeeded}
-use Rattle.slate_cluster_chain_laws.specs.TableSteps.{HasOwn}
-
--- a needed version of a chain of manifests has a table of its own
-pub record NeedsTable (c : Chain logs.Manifest) (id : ℕ × ℕ) : Type 0 where
-  pub number : ℕ
-  pub link : Link Manifest Author
-  pub needed : IsNeeded manifests c number
-  pub at : link_at number c ≡ Some link
-  pub own : HasOwn link.value id
+use Rattle.slate_cluster_protocol.specs.Logs.{Chain, Chains}
+use Rattle.slate_cluster_protocol.specs.Reach.{NeedsTable}
 
 -- the floor of the greatest manifest, 0 where there is none
 abbrev pub floor_top : Chain logs.Manifest → ℕ
